@@ -1,0 +1,87 @@
+//! Names of players.
+
+ghost use Rattle.std.specs.Prelude.{◌≡◌, ◌↔◌, IsTrue, IsSome, IfSome};
+ghost use Rattle.std.specs.Str.{bytes_eq};
+ghost use Rattle.floor_text.specs.Names.{is_name, is_name_byte};
+
+use std::marker::Model;
+
+/// The longest name, in characters.
+const LONGEST: usize = 16;
+
+/// A player's name: a letter, then letters, digits or `_`, 1 to 16 characters, and not `floor`.
+/// Case counts. Contracts see it as its bytes.
+#[derive(Clone, Copy, Debug)]
+pub struct Name {
+    bytes: [u8; 16],
+    len: usize,
+}
+
+impl Model for Name {
+    ghost use Rattle.std.specs.Prelude.{◌-◌, ◌++◌, ℕ, List, length, take, replicate};
+    ghost use Rattle.floor_text.specs.Names.{IsKept, length_kept, padded_again};
+
+    ghost Value = { List ℕ };
+
+    ghost view = { λ n. take n.len n.bytes };
+
+    ghost invariant = { λ n. IsKept n.bytes n.len };
+
+    ghost inverse = { λ name. record { bytes = name ++ replicate (16 - length name) 0; len = length name } };
+
+    ghost inverse_ok = { λ n kept i. record { bytes = padded_again kept i; len = length_kept kept i } };
+}
+
+fn is_name_byte(byte: u8) -> bool
+    ensures { result ≡ is_name_byte byte }
+{
+    byte.is_ascii_alphanumeric() || byte == b'_'
+}
+
+fn is_name(bytes: &[u8]) -> bool
+    ensures { result ≡ is_name bytes.now }
+{
+    bytes.first().is_some_and(|byte| byte.is_ascii_alphabetic())
+        && bytes.iter().all(|byte| is_name_byte(*byte))
+        && bytes.len() <= LONGEST
+        && bytes != b"floor".as_slice()
+}
+
+impl Name {
+    /// Reads a name. `None` exactly where the bytes are no name.
+    pub fn read(bytes: &[u8]) -> Option<Name>
+        ensures some { IsSome result ↔ IsTrue (is_name bytes.now) }
+        ensures same { IfSome result (λ name. name ≡ bytes.now) }
+    {
+        if !is_name(bytes) {
+            return None;
+        }
+        let mut padded = [0; LONGEST];
+        padded[..bytes.len()].copy_from_slice(bytes);
+        Some(Name {
+            bytes: padded,
+            len: bytes.len(),
+        })
+    }
+
+    /// The name's bytes.
+    pub fn bytes(&self) -> &[u8]
+        ensures same { result.now ≡ self.now }
+        ensures name { IsTrue (is_name self.now) }
+    {
+        &self.bytes[..self.len]
+    }
+}
+
+impl PartialEq for Name {
+    ghost use Rattle.std.proofs.Common.{rules};
+    ghost use Rattle.std.specs.Cmp.Rules.{comparing};
+
+    ghost eq = { bytes_eq };
+
+    ghost laws = { Prim.search (comparing, rules) };
+
+    fn eq(&self, other: &Name) -> bool {
+        self.bytes() == other.bytes()
+    }
+}

@@ -1,0 +1,38 @@
+//! Numbers of a line.
+
+ghost use Rattle.std.specs.Prelude.{◌≡◌, ℕ, Some, IfSome};
+ghost use Rattle.std.specs.Fmt.{decimal};
+ghost use Rattle.floor_text.specs.Numbers.{IsLineNumber, is_spelled};
+
+/// The greatest number that a line may hold.
+const GREATEST: u64 = 9_007_199_254_740_991;
+
+/// Whether the bytes are digits with no zero in front, or the one digit `0`.
+fn is_spelled(bytes: &[u8]) -> bool
+    ensures { result ≡ is_spelled bytes.now }
+{
+    match bytes {
+        [] => false,
+        [b'0'] => true,
+        [first, ..] => *first != b'0' && bytes.iter().all(|byte| byte.is_ascii_digit()),
+    }
+}
+
+/// Reads a number: `0`, or a digit 1 to 9 and further digits, at most 9007199254740991.
+/// `None` exactly where the bytes are no such number. Each number has one spelling.
+pub fn read_number(bytes: &[u8]) -> Option<u64>
+    ensures found { IfSome result (λ n. IsLineNumber n × (bytes.now ≡ decimal n)) }
+    ensures only { (n : ℕ) → IsLineNumber n → bytes.now ≡ decimal n → result ≡ Some n }
+{
+    if !is_spelled(bytes) {
+        return None;
+    }
+    let mut number = 0u64;
+    for digit in bytes {
+        number = 10 * number + u64::from(digit - b'0');
+        if number > GREATEST {
+            return None;
+        }
+    }
+    Some(number)
+}

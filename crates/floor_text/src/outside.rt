@@ -1,0 +1,39 @@
+//! Where bytes come from and where they go.
+
+ghost use Rattle.std.specs.Prelude.{◌≡◌, ◌≤◌, ℕ, List, length, Option, IfSome, IfOk, OnErr};
+ghost use Rattle.floor_text.specs.Outside.{HasCause, Takes, Puts};
+
+/// The outside failed. Its count of faults says so too.
+#[derive(Clone, Copy, Debug, PartialEq, Eq)]
+pub struct Failed;
+
+/// Where bytes come from.
+pub trait Source {
+    /// The bytes that it has not given yet, where it tells them.
+    ghost left: { Self → Option (List ℕ) };
+
+    /// How often it failed. The count never falls, and stands still at its type's end.
+    ghost faults: { Self → ℕ };
+
+    /// Puts the next bytes into the buffer's first places and answers how many, at most as many as the
+    /// buffer is long. For a buffer with room it gives 0 bytes only at the end.
+    fn take(&mut self, buffer: &mut [u8]) -> Result<usize, Failed>
+        ensures count { IfOk result (λ n. n ≤ length buffer.new) }
+        ensures bytes { IfOk result (λ n. IfSome (left self.old) (λ bytes. Takes bytes (left self.new) buffer.new n)) }
+        ensures kept { OnErr result (left self.new ≡ left self.old) }
+        ensures cause { HasCause (faults self.old) (faults self.new) result };
+}
+
+/// Where bytes go.
+pub trait Sink {
+    /// The bytes that were put, where it tells them.
+    ghost written: { Self → Option (List ℕ) };
+
+    /// How often it failed. The count never falls, and stands still at its type's end.
+    ghost faults: { Self → ℕ };
+
+    /// Puts all the bytes, or where it fails a front of them.
+    fn put(&mut self, bytes: &[u8]) -> Result<(), Failed>
+        ensures bytes { IfSome (written self.old) (λ before. Puts before bytes.now (written self.new) result) }
+        ensures cause { HasCause (faults self.old) (faults self.new) result };
+}
