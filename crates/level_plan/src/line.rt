@@ -1,0 +1,98 @@
+//! The lines of a plan and its items.
+
+ghost use Rattle.std.specs.Prelude.{◌≡◌};
+ghost use Rattle.level_plan.specs.declared.line.PlanFault.TheVariants.{NoMemory};
+
+use floor_text::List;
+use std::alloc::{AllocError, AllocFailed};
+
+/// Which game is played.
+#[derive(Clone, Copy, Debug, PartialEq, Eq)]
+pub enum Game {
+    /// No-limit hold'em.
+    Holdem,
+    /// Pot-limit Omaha.
+    Omaha,
+    /// Pot-limit Omaha, high and low with eight or better.
+    Hilo,
+}
+
+/// What a plan consists of, as a wrong plan names it.
+#[derive(Clone, Copy, Debug, PartialEq, Eq)]
+pub enum PlanItem {
+    /// The text of a plan file.
+    Toml,
+    /// The game.
+    Game,
+    /// The number of tables.
+    Tables,
+    /// The number of seats of a table.
+    Seats,
+    /// The stack that a player starts with, in chips.
+    Stack,
+    /// The buy-in.
+    Buyin,
+    /// The last level at which a player may enter.
+    Late,
+    /// The levels' blinds.
+    Blinds,
+    /// The shares of the prizes, in thousandths.
+    Shares,
+    /// The floor's word.
+    FloorWord,
+    /// The players' words.
+    Words,
+}
+
+/// A line of a plan. Its numbers may be any: what is lawful is for the draft to say.
+#[derive(Debug, Drop)]
+pub enum PlanLine {
+    /// The game.
+    Game(Game),
+    /// The number of tables.
+    Tables(u64),
+    /// The number of seats of a table.
+    Seats(u64),
+    /// The stack that a player starts with, in chips.
+    Stack(u64),
+    /// The buy-in.
+    Buyin(u64),
+    /// The last level at which a player may enter, from 1.
+    Late(u64),
+    /// The next level: its small and its big blind, and the unit of its chips.
+    Blinds {
+        /// The small blind, in chips.
+        small: u64,
+        /// The big blind, in chips.
+        big: u64,
+        /// The smallest denomination in play.
+        unit: u64,
+    },
+    /// The shares of the prizes from the first place on, in thousandths of the pool.
+    Shares(List<u64>),
+}
+
+/// Why a plan line or a whole plan was not taken.
+#[derive(Clone, Copy, Debug, PartialEq, Eq)]
+pub enum PlanFault {
+    /// This item is wrong or missing.
+    Wrong(PlanItem),
+    /// Memory ran out.
+    NoMemory,
+}
+
+impl From<AllocError> for PlanFault {
+    ghost from_gives = { λ _ fault. fault ≡ NoMemory };
+
+    fn from(_: AllocError) -> PlanFault {
+        PlanFault::NoMemory
+    }
+}
+
+impl<T: Drop> From<AllocFailed<T>> for PlanFault {
+    ghost from_gives = { λ _ fault. fault ≡ NoMemory };
+
+    fn from(_: AllocFailed<T>) -> PlanFault {
+        PlanFault::NoMemory
+    }
+}

@@ -1,0 +1,48 @@
+//! A right plan.
+
+use crate::line::Game;
+use floor_text::List;
+use std::marker::Model;
+
+/// The blinds of a level and the unit of its chips.
+#[derive(Clone, Copy, Debug, PartialEq, Eq)]
+pub struct Blind {
+    /// The small blind, in chips.
+    pub small: u64,
+    /// The big blind, in chips.
+    pub big: u64,
+    /// The smallest denomination in play.
+    pub unit: u64,
+}
+
+/// A plan with all its items, each lawful alone and with the others.
+#[derive(Debug, Drop)]
+pub struct Plan {
+    /// Which game is played.
+    pub game: Game,
+    /// The number of tables, 1 to 64.
+    pub tables: u64,
+    /// The number of seats of a table, 2 to 10.
+    pub seats: u64,
+    /// The stack that a player starts with, in chips: a multiple of the unit of level `late`.
+    pub stack: u64,
+    /// The buy-in.
+    pub buyin: u64,
+    /// The last level at which a player may enter, from 1.
+    pub late: u64,
+    /// The levels, from level 1 on, 1 to 40 of them.
+    pub blinds: List<Blind>,
+    /// The shares of the prizes from the first place on, in thousandths of the pool.
+    pub shares: List<u64>,
+}
+
+impl Model for Plan {
+    ghost use Rattle.std.specs.Prelude.{IsTrue};
+    ghost use Rattle.level_plan.specs.Plans.{PlanTerms, is_right};
+
+    ghost Value = { PlanTerms };
+
+    ghost view = { λ plan. record { game = plan.game; tables = plan.tables; seats = plan.seats; stack = plan.stack; buyin = plan.buyin; late = plan.late; blinds = plan.blinds; shares = plan.shares } };
+
+    ghost invariant = { λ plan. IsTrue (is_right (record { game = plan.game; tables = plan.tables; seats = plan.seats; stack = plan.stack; buyin = plan.buyin; late = plan.late; blinds = plan.blinds; shares = plan.shares })) };
+}
