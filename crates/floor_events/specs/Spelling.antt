@@ -1,0 +1,131 @@
+-- The one spelling of each event, answer and report. This project's own.
+use Rattle.std.specs.Prelude.{◌≡◌, ℕ, ◌≤◌, IsTrue, List, [], ◌∷◌, ◌++◌, length, map, codes, Option, Some, None}
+use Rattle.std.specs.List.{flat_map, join_with_byte, AllByRecursion}
+use Rattle.std.specs.Fmt.{decimal}
+use Rattle.floor_text.specs.Names.{is_name}
+use Rattle.floor_text.specs.Numbers.{IsLineNumber}
+use Rattle.floor_text.specs.Refusals.{refusal_number, refusal_name}
+use Rattle.level_plan.specs.declared.line.Game.{Game}
+use Rattle.level_plan.specs.declared.line.Game.TheVariants.{Holdem, Omaha, Hilo}
+use Rattle.level_plan.specs.declared.line.PlanItem.{PlanItem}
+use Rattle.level_plan.specs.declared.line.PlanItem.TheVariants as items
+use Rattle.level_plan.specs.declared.line.PlanLine.{PlanLine}
+use Rattle.level_plan.specs.declared.line.PlanLine.TheVariants as lines
+use Rattle.floor_events.specs.declared.event.Event.{Event}
+use Rattle.floor_events.specs.declared.event.Event.TheVariants as events
+use Rattle.floor_events.specs.declared.event.Item.{Item}
+use Rattle.floor_events.specs.declared.event.Item.TheVariants as found
+use Rattle.floor_events.specs.declared.answer.Answer.{Answer}
+use Rattle.floor_events.specs.declared.answer.Answer.TheVariants as answers
+use Rattle.floor_events.specs.declared.report.Report.{Report}
+use Rattle.floor_events.specs.declared.report.ReportSeat.{ReportSeat}
+use Rattle.floor_events.specs.declared.report.ReportOut.{ReportOut}
+use Rattle.floor_events.specs.Words.{line_of_words}
+
+-- the word of a game
+abbrev pub game_word : Game → List ℕ
+game_word Holdem = codes "holdem"
+game_word Omaha = codes "omaha"
+game_word Hilo = codes "hilo"
+
+-- the word of an item, as an answer names it
+abbrev pub item_word : PlanItem → List ℕ
+item_word items.Toml = codes "toml"
+item_word items.Game = codes "game"
+item_word items.Tables = codes "tables"
+item_word items.Seats = codes "seats"
+item_word items.Stack = codes "stack"
+item_word items.Buyin = codes "buyin"
+item_word items.Late = codes "late"
+item_word items.Blinds = codes "blinds"
+item_word items.Shares = codes "shares"
+item_word items.FloorWord = codes "floor_word"
+item_word items.Words = codes "words"
+
+-- the words of a plan line
+abbrev pub plan_words : PlanLine → List (List ℕ)
+plan_words (lines.Game game) = codes "game" ∷ game_word game ∷ []
+plan_words (lines.Tables n) = codes "tables" ∷ decimal n ∷ []
+plan_words (lines.Seats n) = codes "seats" ∷ decimal n ∷ []
+plan_words (lines.Stack n) = codes "stack" ∷ decimal n ∷ []
+plan_words (lines.Buyin n) = codes "buyin" ∷ decimal n ∷ []
+plan_words (lines.Late n) = codes "late" ∷ decimal n ∷ []
+plan_words (lines.Blinds small big unit) = codes "blinds" ∷ decimal small ∷ decimal big ∷ decimal unit ∷ []
+plan_words (lines.Shares shares) = codes "shares" ∷ map decimal shares
+
+-- the words of an event
+abbrev pub event_words : Event → List (List ℕ)
+event_words (events.Plan line) = plan_words line
+event_words events.Go = codes "go" ∷ []
+event_words (events.Enter name table seat) = codes "enter" ∷ name ∷ decimal table ∷ decimal seat ∷ []
+event_words events.Stop = codes "stop" ∷ []
+
+-- an event's text: its words with one space between each two
+abbrev pub event_text : Event → List ℕ
+event_text event = join_with_byte 32 (event_words event)
+
+-- an item's text, without a line feed
+abbrev pub item_text : Item → List ℕ
+item_text (found.Event event) = event_text event
+
+-- the numbers of a plan line are those of a line, and 1 to 64 shares stand in one
+abbrev pub HasLineNumbers : PlanLine → Type 0
+HasLineNumbers (lines.Game game) = Unit {0}
+HasLineNumbers (lines.Tables n) = IsLineNumber n
+HasLineNumbers (lines.Seats n) = IsLineNumber n
+HasLineNumbers (lines.Stack n) = IsLineNumber n
+HasLineNumbers (lines.Buyin n) = IsLineNumber n
+HasLineNumbers (lines.Late n) = IsLineNumber n
+HasLineNumbers (lines.Blinds small big unit) = IsLineNumber small × IsLineNumber big × IsLineNumber unit
+HasLineNumbers (lines.Shares shares) = (1 ≤ length shares) × (length shares ≤ 64) × AllByRecursion IsLineNumber shares
+
+-- the parts of an event are such as a line may hold
+abbrev pub HasLineParts : Event → Type 0
+HasLineParts (events.Plan line) = HasLineNumbers line
+HasLineParts events.Go = Unit {0}
+HasLineParts (events.Enter name table seat) = IsTrue (is_name name) × IsLineNumber table × IsLineNumber seat
+HasLineParts events.Stop = Unit {0}
+
+-- An event is writable where its parts are such as a line may hold and its text has at most 400 bytes.
+abbrev pub IsWritableEvent : Event → Type 0
+IsWritableEvent event = HasLineParts event × (length (event_text event) ≤ 400)
+
+abbrev pub IsWritable : Item → Type 0
+IsWritable (found.Event event) = IsWritableEvent event
+
+-- an answer's text, with its line feed
+abbrev pub answer_text : Answer → List ℕ
+answer_text answers.Ok = line_of_words (codes "ok" ∷ [])
+answer_text (answers.No refusal) = line_of_words (codes "no" ∷ decimal (refusal_number refusal) ∷ refusal_name refusal ∷ [])
+answer_text (answers.PlanWrong item) = line_of_words (codes "no" ∷ codes "4" ∷ codes "PlanWrong" ∷ item_word item ∷ [])
+
+-- a stack at rest, or the word `play` for a player who is in a started hand
+abbrev pub stack_word : Option ℕ → List ℕ
+stack_word None = codes "play"
+stack_word (Some stack) = decimal stack
+
+-- the line of a player who is in
+abbrev pub seat_line : ReportSeat → List ℕ
+seat_line seat = line_of_words (codes "*" ∷ codes "seat" ∷ decimal seat.place.table ∷ decimal seat.place.seat ∷ seat.name ∷ stack_word seat.stack ∷ [])
+
+-- the line of a player who is out, or of the winner
+abbrev pub out_line : ReportOut → List ℕ
+out_line out = line_of_words (codes "*" ∷ codes "out" ∷ decimal out.place ∷ out.name ∷ decimal out.prize ∷ [])
+
+-- a line of one amount
+abbrev pub amount_line : List ℕ → ℕ → List ℕ
+amount_line word amount = line_of_words (codes "*" ∷ word ∷ decimal amount ∷ [])
+
+-- a report's text: the amounts, the players who are in, those who are out, and the end
+abbrev pub report_text : Report → List ℕ
+report_text report =
+    line_of_words (codes "*" ∷ codes "report" ∷ []) ++
+    (amount_line (codes "level") report.level ++
+    (amount_line (codes "sold") report.sold ++
+    (amount_line (codes "removed") report.removed ++
+    (amount_line (codes "added") report.added ++
+    (amount_line (codes "rest") report.rest ++
+    (amount_line (codes "play") report.play ++
+    (flat_map seat_line report.seats ++
+    (flat_map out_line report.outs ++
+    line_of_words (codes "*" ∷ codes "end" ∷ [])))))))))
