@@ -1,3 +1,4 @@
+pub mod CutLines
 pub mod KeptNames
 pub mod RefusalNumbers
 pub mod SpelledNumbers

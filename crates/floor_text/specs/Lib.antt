@@ -1,3 +1,6 @@
+pub mod Cutting
+pub mod LineCutter
+pub mod Lines
 pub mod Names
 pub mod Numbers
 pub mod Outside

@@ -5,12 +5,14 @@
 //! tells of its bytes and that a failure has its cause there.
 #![tactic(auto)]
 
+mod line_cutter;
 mod list;
 mod name;
 mod number;
 mod outside;
 mod refusal;
 
+pub use line_cutter::{Cut, LineCutter};
 pub use list::List;
 pub use name::Name;
 pub use number::read_number;
