@@ -1,3 +1,5 @@
+pub mod CutLines
+pub mod HeldLists
 pub mod KeptNames
 pub mod RefusalNumbers
 pub mod SpelledNumbers

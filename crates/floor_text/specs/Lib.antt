@@ -1,4 +1,10 @@
+pub mod Cutting
+pub mod HeldBytes
+pub mod LineCutter
+pub mod LineReader
+pub mod Lines
 pub mod Names
 pub mod Numbers
 pub mod Outside
+pub mod Reading
 pub mod Refusals
