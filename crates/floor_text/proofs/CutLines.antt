@@ -16,10 +16,10 @@ HasNoFeed-append xs ys h k =
 pub HasNoFeed-cons : (b : ℕ) (bs : List ℕ) → b ≢ 10 → HasNoFeed bs → HasNoFeed (b ∷ bs)
 HasNoFeed-cons b bs other none = grind (arith, nat_tests)
 
-first_other : (b : ℕ) (bs : List ℕ) → HasNoFeed (b ∷ bs) → b ≡ 10 → ⊥
+pub first_other : (b : ℕ) (bs : List ℕ) → HasNoFeed (b ∷ bs) → b ≡ 10 → ⊥
 first_other b bs none feed = grind (arith, nat_tests)
 
-rest_other : (b : ℕ) (bs : List ℕ) → HasNoFeed (b ∷ bs) → HasNoFeed bs
+pub rest_other : (b : ℕ) (bs : List ℕ) → HasNoFeed (b ∷ bs) → HasNoFeed bs
 rest_other b bs none = grind (arith, nat_tests)
 
 is_feed : (b : ℕ) → b ≡ 10 → is_line_feed b ≡ true
