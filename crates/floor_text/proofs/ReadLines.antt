@@ -11,7 +11,7 @@ use Rattle.std.proofs.lemmas.Option.{MatchOption-at_some, same_Some}
 use Rattle.floor_text.specs.HeldBytes.{IsFirstFeed, Fills}
 use Rattle.floor_text.specs.LineReader.{Reads}
 use Rattle.floor_text.specs.Lines.{is_line_feed, HasNoFeed, cut_line, lines_of_bytes}
-use Rattle.floor_text.specs.Reading.{Reading, held_within}
+use Rattle.floor_text.specs.Reading.{Reading, bytes_ahead, held_within}
 use Rattle.floor_text.proofs.CutLines.{HasNoFeed-append, HasNoFeed-cons, first_other, rest_other, lines_of_bytes-line, lines_of_bytes-nil, lines_of_long}
 
 pub HasNoFeed-take : (n : ℕ) (xs : List ℕ) → HasNoFeed xs → HasNoFeed (take n xs)
@@ -196,3 +196,13 @@ pub searched_none : (kept held : List ℕ) (n : ℕ) → HasNoFeed kept → take
 searched_none kept held n none front count =
     let before : length held - n ≡ length kept = omega arith in
     ap (λ (m : ℕ). list_any is_line_feed (take m held)) before ∙ ap (list_any is_line_feed) front ∙ none
+
+-- what a search for the next line keeps true: it handed out nothing yet, and no line feed is where it searched
+pub record IsSearching (a b : Reading) (o0 o1 : Option (List ℕ)) (f0 f1 searched : ℕ) : Type 0 where
+  pub reads : IfSome o0 (λ bytes. Reads a b bytes o1 [])
+  pub later : a.taken ≤ b.taken
+  pub limit : b.limit ≡ a.limit
+  pub ahead : bytes_ahead b ≤ bytes_ahead a
+  pub faults : f0 ≤ f1
+  pub none : HasNoFeed (take searched b.held)
+  pub within : searched ≤ held_within b

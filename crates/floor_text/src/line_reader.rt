@@ -94,7 +94,7 @@ impl LineReader {
         ensures read_fault { result ≡ Err ReadEnd.ReadFault → Rose (S.faults source.old) (S.faults source.new) }
     {
         let mut searched = 0;
-        loop {
+        'search: loop {
             if let Some(at) = self.feed_from(searched) {
                 return Ok(self.hand_out(at, 1));
             }
@@ -123,7 +123,8 @@ impl LineReader {
     fn feed_from(&self, searched: usize) -> Option<usize>
         requires within { searched ≤ held_within self.now }
         requires before { HasNoFeed (take searched self.now.held) }
-        ensures { MatchOption result (HasNoFeed (take (held_within self.now) self.now.held)) (λ at. (at < held_within self.now) × IsFirstFeed self.now.held at) }
+        ensures found { MatchOption result (HasNoFeed (take (held_within self.now) self.now.held)) (λ at. (at < held_within self.now) × IsFirstFeed self.now.held at) }
+        ensures most { self.now.taken ≤ self.now.limit + 1 }
     {
         let mut to = self.bytes.len();
         if self.over {

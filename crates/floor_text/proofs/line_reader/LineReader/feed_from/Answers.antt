@@ -8,8 +8,8 @@ use Rattle.floor_text.proofs.ReadLines.{feed_from_found}
 use Rattle.floor_text.proofs.line_reader.LineReader.feed_from.Goals as goal
 use Rattle.floor_text.proofs.line_reader.LineReader.feed_from.Goals.{then-self, else-self}
 
-pub returns : goal.returns
-returns c =
+pub returns-clause-found : goal.returns-clause-found
+returns-clause-found c =
     let to : c.if-self.to ≡ held_within c.args.self.now =
         elim c.if-self.branch [ then-self w ↦ grind (arith, nat_tests) | else-self w ↦ grind (arith, nat_tests) ] in
     let held = ap (λ (r : Reading). r.held) c.self.view_is in
