@@ -1,11 +1,11 @@
 -- A reader takes bytes and hands lines out: what its states have to do with each other.
-use Rattle.std.proofs.Common.{◌≡◌, ◌≢◌, ◌⊎◌, ℕ, zero, suc, ◌+◌, ◌-◌, ◌<◌, ◌≤◌, Bool, true, false, cond, List, [], ◌∷◌, ◌++◌, length, get_or, take, drop, Option, Some, None, MatchOption, IfSome, refl, sym, ap, ◌∙◌, subst, inl, inr, arith, rules, append_assoc, length-append, length-take, length-drop}
-use Rattle.std.specs.Prelude.{slice_range, nat_lt}
+use Rattle.std.proofs.Common.{◌≡◌, ℕ, zero, suc, ◌+◌, ◌-◌, ◌<◌, ◌≤◌, List, [], ◌∷◌, ◌++◌, length, get_or, take, drop, Option, Some, None, MatchOption, IfSome, refl, sym, ap, ◌∙◌, subst, inl, inr, arith, append_assoc, length-drop}
+use Rattle.std.specs.Prelude.{slice_range}
 use Rattle.std.specs.List.{list_any}
 use Rattle.std.proofs.Math.Seq.{take-add}
 use Rattle.std.proofs.lemmas.Bool.{cases_lt}
 use Rattle.std.proofs.lemmas.Bool.Decides.{nat_tests}
-use Rattle.std.proofs.lemmas.List.{append-nil, drop-drop, drop_more, drop_all, get_or-drop, get_or-take, nil_from_length, take-append-drop, take-take, take_all, length-take-le}
+use Rattle.std.proofs.lemmas.List.{append-nil, drop-drop, drop_more, drop_all, nil_from_length, take-append-drop, take-take, take_all, length-take-le}
 use Rattle.std.proofs.lemmas.List.Edits.{length-between, get_or-between}
 use Rattle.std.proofs.lemmas.Option.{MatchOption-at_some, same_Some}
 use Rattle.floor_text.specs.HeldBytes.{IsFirstFeed, Fills}
@@ -38,12 +38,14 @@ first_from held from to at order inside before is low =
     let within : at - from < length (slice_range held from to) = is.within in
     let below : at < to = omega (arith, length-between held from to inside) in
     let none : HasNoFeed (slice_range held from at) = ap (list_any is_line_feed) (sym (front_of_range held from at to low (omega arith))) ∙ is.before in
-    let place : from + (at - from) ≡ at = omega arith in
-    (below, record {
-      within = omega arith;
-      before = none_up_to held from at low before none;
-      feed = ap (λ (k : ℕ). get_or held k 0) (sym place) ∙ sym (get_or-between held from to (at - from) 0 (omega arith)) ∙ is.feed;
-    })
+    let place : from + (at - from) ≡ at = omega arith in (
+      below,
+      record {
+        within = omega arith;
+        before = none_up_to held from at low before none;
+        feed = ap (λ (k : ℕ). get_or held k 0) (sym place) ∙ sym (get_or-between held from to (at - from) 0 (omega arith)) ∙ is.feed;
+      },
+    )
 
 -- the search goes on where an earlier one ended
 pub feed_from_found : (held : List ℕ) (from to : ℕ) (r : Option ℕ) → from ≤ to → to ≤ length held → HasNoFeed (take from held) → MatchOption r (HasNoFeed (slice_range held from to)) (λ at. IsFirstFeed (slice_range held from to) (at - from) × (from ≤ at)) → MatchOption r (HasNoFeed (take to held)) (λ at. (at < to) × IsFirstFeed held at)
@@ -62,8 +64,8 @@ whole_no_feed r within none =
 pub lines_of_kept : (held rest : List ℕ) → HasNoFeed held → lines_of_bytes (held ++ rest) ≡ lines_of_bytes (take 401 held ++ rest)
 lines_of_kept held rest none =
     elim (cases_lt (length held) 401) [
-      inl short ↦ ap (λ (xs : List ℕ). lines_of_bytes (xs ++ rest)) (sym (take_all 401 held (omega arith)))
-    | inr long ↦ lines_of_long held (take 401 held) rest none (HasNoFeed-take 401 held none) (omega arith) (omega (arith, length-take-le 401 held long))
+      | inl short ↦ ap (λ (xs : List ℕ). lines_of_bytes (xs ++ rest)) (sym (take_all 401 held (omega arith)))
+      | inr long ↦ lines_of_long held (take 401 held) rest none (HasNoFeed-take 401 held none) (omega arith) (omega (arith, length-take-le 401 held long))
     ]
 
 -- a call that took nothing, of a source that has left what it had

@@ -1,5 +1,5 @@
 -- A source and a sink in memory. This project's own.
-use Rattle.std.specs.Prelude.{◌≡◌, ℕ, ◌+◌, ◌≤◌, Bool, ◌==◌, List, length, min}
+use Rattle.std.specs.Prelude.{ℕ, ◌+◌, ◌≤◌, Bool, ◌==◌, List, min}
 use Rattle.std.specs.List.{list_any}
 
 -- one more, unless the count stands at the end of its type
