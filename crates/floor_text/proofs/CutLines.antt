@@ -1,5 +1,5 @@
 -- Where the lines of a stream are cut.
-use Rattle.std.proofs.Common.{◌≡◌, ◌≢◌, ◌⊎◌, ℕ, ◌+◌, ◌<◌, ◌≤◌, Bool, true, false, cond, List, [], ◌∷◌, ◌++◌, length, take, map, Option, Some, None, refl, sym, ap, ◌∙◌, inl, inr, arith, rules, append_assoc, length-append}
+use Rattle.std.proofs.Common.{◌≡◌, ◌≢◌, ◌⊎◌, ℕ, ◌+◌, ◌<◌, ◌≤◌, Bool, true, false, List, [], ◌∷◌, ◌++◌, length, map, Option, Some, None, refl, sym, ap, ◌∙◌, inl, inr, arith, append_assoc, length-append}
 use Rattle.std.specs.Prelude.{◌||◌}
 use Rattle.std.specs.List.{list_any, slice_split, onto_first}
 use Rattle.std.proofs.lemmas.Bool.{cases_eq}
@@ -16,10 +16,10 @@ HasNoFeed-append xs ys h k =
 pub HasNoFeed-cons : (b : ℕ) (bs : List ℕ) → b ≢ 10 → HasNoFeed bs → HasNoFeed (b ∷ bs)
 HasNoFeed-cons b bs other none = grind (arith, nat_tests)
 
-first_other : (b : ℕ) (bs : List ℕ) → HasNoFeed (b ∷ bs) → b ≡ 10 → ⊥
+pub first_other : (b : ℕ) (bs : List ℕ) → HasNoFeed (b ∷ bs) → b ≡ 10 → ⊥
 first_other b bs none feed = grind (arith, nat_tests)
 
-rest_other : (b : ℕ) (bs : List ℕ) → HasNoFeed (b ∷ bs) → HasNoFeed bs
+pub rest_other : (b : ℕ) (bs : List ℕ) → HasNoFeed (b ∷ bs) → HasNoFeed bs
 rest_other b bs none = grind (arith, nat_tests)
 
 is_feed : (b : ℕ) → b ≡ 10 → is_line_feed b ≡ true
@@ -36,10 +36,10 @@ pub first_feed : (bytes : List ℕ) → HasNoFeed bytes ⊎ IsCut bytes
 first_feed [] = inl refl
 first_feed (b ∷ bs) =
     elim (cases_eq b 10) [
-      inl feed ↦ inr ([], bs, ap (λ (x : ℕ). x ∷ bs) feed, refl)
-    | inr other ↦ elim (first_feed bs) [
-        inl none ↦ inl (HasNoFeed-cons b bs other none)
-      | inr cut ↦ inr (b ∷ cut.0, cut.1, ap (λ (xs : List ℕ). b ∷ xs) cut.2, HasNoFeed-cons b cut.0 other cut.3)
+      | inl feed ↦ inr ([], bs, ap (λ (x : ℕ). x ∷ bs) feed, refl)
+      | inr other ↦ elim (first_feed bs) [
+        | inl none ↦ inl (HasNoFeed-cons b bs other none)
+        | inr cut ↦ inr (b ∷ cut.0, cut.1, ap (λ (xs : List ℕ). b ∷ xs) cut.2, HasNoFeed-cons b cut.0 other cut.3)
       ]
     ]
 
@@ -57,10 +57,10 @@ slice_split-some : (xs : List ℕ) → (part : List ℕ) × (parts : List (List 
 slice_split-some [] = ([], [], refl)
 slice_split-some (x ∷ xs) =
     elim (cases_eq x 10) [
-      inl feed ↦ ([], slice_split is_line_feed xs, slice_split-cons_yes is_line_feed x xs (is_feed x feed))
-    | inr other ↦
-        let more = slice_split-some xs in
-        (x ∷ more.0, more.1, slice_split-cons_no is_line_feed x xs (is_other x other) ∙ ap (onto_first x) more.2)
+      | inl feed ↦ ([], slice_split is_line_feed xs, slice_split-cons_yes is_line_feed x xs (is_feed x feed))
+      | inr other ↦
+          let more = slice_split-some xs in
+          (x ∷ more.0, more.1, slice_split-cons_no is_line_feed x xs (is_other x other) ∙ ap (onto_first x) more.2)
     ]
 
 without_empty_last-more : (part next : List ℕ) (parts : List (List ℕ)) → without_empty_last (part ∷ next ∷ parts) ≡ part ∷ without_empty_last (next ∷ parts)
@@ -106,8 +106,8 @@ long_line xs rest front behind none long is none_before =
 pub lines_of_long : (xs ys rest : List ℕ) → HasNoFeed xs → HasNoFeed ys → 400 < length xs → 400 < length ys → lines_of_bytes (xs ++ rest) ≡ lines_of_bytes (ys ++ rest)
 lines_of_long xs ys rest no_x no_y long_x long_y =
     elim (first_feed rest) [
-      inl none ↦ long_last xs rest no_x long_x none ∙ sym (long_last ys rest no_y long_y none)
-    | inr cut ↦ long_line xs rest cut.0 cut.1 no_x long_x cut.2 cut.3 ∙ sym (long_line ys rest cut.0 cut.1 no_y long_y cut.2 cut.3)
+      | inl none ↦ long_last xs rest no_x long_x none ∙ sym (long_last ys rest no_y long_y none)
+      | inr cut ↦ long_line xs rest cut.0 cut.1 no_x long_x cut.2 cut.3 ∙ sym (long_line ys rest cut.0 cut.1 no_y long_y cut.2 cut.3)
     ]
 
 -- a byte that is no line feed is kept while there is room for it

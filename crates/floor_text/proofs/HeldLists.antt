@@ -1,7 +1,7 @@
 -- Parts of the buffer in which bytes wait.
-use Rattle.std.proofs.Common.{◌≡◌, ◌≢◌, ◌⊎◌, ℕ, zero, suc, ◌+◌, ◌-◌, ◌<◌, ◌≤◌, Bool, true, false, cond, List, [], ◌∷◌, ◌++◌, length, get_or, take, drop, Option, Some, None, MatchOption, refl, sym, ap, ◌∙◌, subst, inl, inr, arith, rules, length-take, length-drop}
+use Rattle.std.proofs.Common.{◌≡◌, ℕ, zero, suc, ◌+◌, ◌-◌, ◌<◌, ◌≤◌, false, cond, List, [], ◌∷◌, ◌++◌, length, get_or, take, drop, Option, Some, None, MatchOption, refl, sym, ap, ◌∙◌, subst, inl, inr, arith, length-take, length-drop}
 use Rattle.std.specs.Prelude.{not, slice_range, position, min, nat_lt}
-use Rattle.std.specs.List.{list_any, position_or_len, prefix_len, copy_within}
+use Rattle.std.specs.List.{list_any, position_or_len, copy_within}
 use Rattle.std.proofs.Math.Seq.{take-add}
 use Rattle.std.proofs.lemmas.Bool.{cases_lt, cases_eq}
 use Rattle.std.proofs.lemmas.Bool.Decides.{nat_tests}
@@ -9,7 +9,7 @@ use Rattle.std.proofs.lemmas.List.{drop-drop, drop-take, take-take, take_all, le
 use Rattle.std.proofs.lemmas.List.Edits.{take-paste, length-between}
 use Rattle.std.proofs.lemmas.Slice.{between_from_start}
 use lib.Seq.{paste}
-use Rattle.std.proofs.lemmas.List.Sums.{prefix_len-le-length, prefix_len_stops}
+use Rattle.std.proofs.lemmas.List.Sums.{prefix_len_stops}
 use Rattle.floor_text.specs.HeldBytes.{IsFirstFeed}
 use Rattle.floor_text.specs.Lines.{is_line_feed, HasNoFeed}
 use Rattle.floor_text.proofs.CutLines.{HasNoFeed-cons}
@@ -25,8 +25,8 @@ no_feed_before bytes zero within = refl
 no_feed_before [] (suc n) within = refl
 no_feed_before (b ∷ bs) (suc n) within =
     elim (cases_eq b 10) [
-      inl feed ↦ absurd (not_at_feed b n (position_or_len is_line_feed bs) feed within)
-    | inr other ↦ HasNoFeed-cons b (take n bs) other (no_feed_before bs n (past_other b n (position_or_len is_line_feed bs) within))
+      | inl feed ↦ absurd (not_at_feed b n (position_or_len is_line_feed bs) feed within)
+      | inr other ↦ HasNoFeed-cons b (take n bs) other (no_feed_before bs n (past_other b n (position_or_len is_line_feed bs) within))
     ]
 
 is_at_feed : (b : ℕ) → not (is_line_feed b) ≡ false → b ≡ 10
@@ -47,14 +47,14 @@ first_feed_found bytes r is =
     let at = position_or_len is_line_feed bytes in
     let P : Option ℕ → Type 0 = λ o. MatchOption o (HasNoFeed bytes) (λ k. IsFirstFeed bytes k) in
     elim (cases_lt at (length bytes)) [
-      inl within ↦ subst P (sym (is ∙ position_within at (length bytes) within)) (record {
+      | inl within ↦ subst P (sym (is ∙ position_within at (length bytes) within)) (record {
         within = within;
         before = no_feed_before bytes at (omega arith);
         feed = feed_at_position bytes within;
       })
-    | inr past ↦
-        let none : HasNoFeed (take at bytes) = no_feed_before bytes at (omega arith) in
-        subst P (sym (is ∙ position_past at (length bytes) past)) (ap (list_any is_line_feed) (sym (take_all at bytes past)) ∙ none)
+      | inr past ↦
+          let none : HasNoFeed (take at bytes) = no_feed_before bytes at (omega arith) in
+          subst P (sym (is ∙ position_past at (length bytes) past)) (ap (list_any is_line_feed) (sym (take_all at bytes past)) ∙ none)
     ]
 
 -- a part of a part
@@ -83,12 +83,12 @@ moved_to_front xs start kept within =
 kept_of_held : (xs : List ℕ) (start end kept : ℕ) → kept ≡ min (end - start) 401 → take kept (drop start xs) ≡ take 401 (slice_range xs start end)
 kept_of_held xs start end kept is =
     elim (cases_lt 401 (end - start)) [
-      inl long ↦
-        let count : kept ≡ 401 = omega arith in
-        ap (λ (n : ℕ). take n (drop start xs)) count ∙ sym (take-take 401 (end - start) (drop start xs) (omega arith))
-    | inr short ↦
-        let count : kept ≡ end - start = omega arith in
-        ap (λ (n : ℕ). take n (drop start xs)) count ∙ sym (take_all 401 (take (end - start) (drop start xs)) (omega (arith, length-take (end - start) (drop start xs))))
+      | inl long ↦
+          let count : kept ≡ 401 = omega arith in
+          ap (λ (n : ℕ). take n (drop start xs)) count ∙ sym (take-take 401 (end - start) (drop start xs) (omega arith))
+      | inr short ↦
+          let count : kept ≡ end - start = omega arith in
+          ap (λ (n : ℕ). take n (drop start xs)) count ∙ sym (take_all 401 (take (end - start) (drop start xs)) (omega (arith, length-take (end - start) (drop start xs))))
     ]
 
 -- what is kept of the bytes that waited stands in the front of the buffer

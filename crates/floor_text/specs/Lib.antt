@@ -3,6 +3,7 @@ pub mod HeldBytes
 pub mod LineCutter
 pub mod LineReader
 pub mod Lines
+pub mod Memory
 pub mod Names
 pub mod Numbers
 pub mod Outside

@@ -1,5 +1,5 @@
 -- A cutter of lines, byte by byte. This project's own.
-use Rattle.std.specs.Prelude.{ℕ, ◌+◌, ◌≤◌, nat_lt, List, [], ◌∷◌, ◌++◌, length, Option, Some, None, if◌then◌else◌}
+use Rattle.std.specs.Prelude.{ℕ, nat_lt, List, [], ◌∷◌, ◌++◌, length, Option, Some, None, if◌then◌else◌}
 use Rattle.floor_text.specs.Lines.{is_line_feed}
 use Rattle.floor_text.specs.declared.line_cutter.Cut.{Cut}
 use Rattle.floor_text.specs.declared.line_cutter.Cut.TheVariants.{Line, TooLong}

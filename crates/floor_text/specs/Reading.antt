@@ -1,5 +1,5 @@
 -- What a reader of lines holds. This project's own.
-use Rattle.std.specs.Prelude.{◌≡◌, ℕ, ◌+◌, ◌-◌, ◌<◌, ◌≤◌, Bool, true, List, length, take, nat_lt, if◌then◌else◌}
+use Rattle.std.specs.Prelude.{◌≡◌, ℕ, ◌+◌, ◌-◌, ◌<◌, ◌≤◌, Bool, true, List, length, nat_lt, if◌then◌else◌}
 
 -- the bytes taken and not handed out, the line handed out last, how many bytes were taken, and the limit
 pub record Reading : Type 0 where

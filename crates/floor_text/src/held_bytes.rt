@@ -42,7 +42,12 @@ fn first_feed(bytes: &[u8]) -> Option<usize>
     bytes.iter().position(|byte| *byte == b'\n')
 }
 
-fn take_at<S: Source>(source: &mut S, buffer: &mut [u8], at: usize, ask: usize) -> Result<usize, Failed>
+fn take_at<S: Source>(
+    source: &mut S,
+    buffer: &mut [u8],
+    at: usize,
+    ask: usize,
+) -> Result<usize, Failed>
     requires { at + ask ≤ length buffer.old }
     ensures count { IfOk result (λ n. n ≤ ask) }
     ensures front { take at buffer.new ≡ take at buffer.old }

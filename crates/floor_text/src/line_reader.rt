@@ -1,7 +1,8 @@
 //! Lines read from a source, block by block.
 
-ghost use Rattle.std.specs.Prelude.{◌≡◌, ◌≤◌, ◌<◌, ◌-◌, ◌+◌, ◌↔◌, ℕ, List, [], ◌∷◌, ◌++◌, length, take, drop, Ok, Err, IsErr, IfOk, IfErr, IfSome, OnOk, OnErr};
-ghost use Rattle.floor_text.specs.Lines.{HasNoFeed};
+ghost use Rattle.std.specs.Prelude.{◌≡◌, ◌≢◌, ◌≤◌, ◌<◌, ◌-◌, ◌+◌, ◌↔◌, ℕ, List, [], ◌∷◌, ◌++◌, length, take, drop, Some, Ok, Err, MatchOption, IfOk, IfErr, IfSome, OnErr};
+ghost use Rattle.floor_text.specs.HeldBytes.{IsFirstFeed};
+ghost use Rattle.floor_text.specs.Lines.{HasNoFeed, cut_line, lines_of_bytes};
 ghost use Rattle.floor_text.specs.Outside.{Rose};
 ghost use Rattle.floor_text.specs.Reading.{bytes_ahead, held_within};
 
@@ -73,10 +74,27 @@ impl LineReader {
 
     /// Hands out the next line. It takes from the source, in blocks of 65536 bytes, as far as it needs to.
     /// `InputTooLong` comes where more bytes were taken than the limit allows and each line whose line
-    /// feed is within the limit was handed out.
-    pub fn next_line<S: Source>(&mut self, source: &mut S) -> Result<Next, ReadEnd> {
+    /// feed is within the limit was handed out; then nothing more is taken.
+    pub fn next_line<S: Source>(&mut self, source: &mut S) -> Result<Next, ReadEnd>
+        ensures reads { IfSome (S.left source.old) (λ bytes. Reads self.old self.new bytes (S.left source.new) (lines_of_next result self.new.line)) }
+        ensures taken { (self.old.taken ≤ self.new.taken) × (self.new.taken ≤ self.new.limit + 1) }
+        ensures limit { self.new.limit ≡ self.old.limit }
+        ensures shorter { IfOk result (λ next. next ≢ Next.End → bytes_ahead self.new < bytes_ahead self.old) }
+
+        // At the end nothing is left, here and in a source that tells.
+        ensures end { result ≡ Ok Next.End → self.new.held ≡ [] }
+        ensures source_end { result ≡ Ok Next.End → IfSome (S.left source.old) (λ _. S.left source.new ≡ Some []) }
+
+        // The byte past the limit is never handed out, and it is the cause of `InputTooLong`.
+        ensures within_limit { IfOk result (λ _. self.new.limit < self.new.taken → 0 < length self.new.held) }
+        ensures input_too_long { IfErr result (λ end. (end ≡ ReadEnd.InputTooLong) ↔ (self.new.limit < self.new.taken)) }
+        ensures none_left { result ≡ Err ReadEnd.InputTooLong → HasNoFeed (take (length self.new.held - 1) self.new.held) }
+
+        ensures faults { S.faults source.old ≤ S.faults source.new }
+        ensures read_fault { result ≡ Err ReadEnd.ReadFault → Rose (S.faults source.old) (S.faults source.new) }
+    {
         let mut searched = 0;
-        loop {
+        'search: loop {
             if let Some(at) = self.feed_from(searched) {
                 return Ok(self.hand_out(at, 1));
             }
@@ -84,7 +102,7 @@ impl LineReader {
             if taken == 0 {
                 return Ok(self.last_line());
             }
-            searched = self.bytes.len() - taken;
+            searched = self.len() - taken;
         }
     }
 
@@ -95,8 +113,19 @@ impl LineReader {
         self.bytes.line()
     }
 
+    fn len(&self) -> usize
+        ensures { result ≡ length self.now.held }
+    {
+        self.bytes.len()
+    }
+
     /// The place of the first line feed within the limit, where there is none before the place given.
-    fn feed_from(&self, searched: usize) -> Option<usize> {
+    fn feed_from(&self, searched: usize) -> Option<usize>
+        requires within { searched ≤ held_within self.now }
+        requires before { HasNoFeed (take searched self.now.held) }
+        ensures found { MatchOption result (HasNoFeed (take (held_within self.now) self.now.held)) (λ at. (at < held_within self.now) × IsFirstFeed self.now.held at) }
+        ensures most { self.now.taken ≤ self.now.limit + 1 }
+    {
         let mut to = self.bytes.len();
         if self.over {
             to -= 1;
@@ -105,7 +134,15 @@ impl LineReader {
     }
 
     /// Hands out a line, and lets the bytes that end it go.
-    fn hand_out(&mut self, line: usize, ending: usize) -> Next {
+    fn hand_out(&mut self, line: usize, ending: usize) -> Next
+        requires within { line + ending ≤ length self.old.held }
+        requires within_limit { self.old.limit < self.old.taken → line + ending < length self.old.held }
+        ensures line { lines_of_next (Ok result) self.new.line ≡ cut_line (take line self.old.held) ∷ [] }
+        ensures held { self.new.held ≡ drop (line + ending) self.old.held }
+        ensures taken { self.new.taken ≡ self.old.taken }
+        ensures limit { self.new.limit ≡ self.old.limit }
+        ensures line_or_long { result ≢ Next.End }
+    {
         self.bytes.hand_out(line, ending);
         if line > LONGEST {
             return Next::TooLong;
@@ -114,7 +151,15 @@ impl LineReader {
     }
 
     /// Hands out what is held, at the end of the source.
-    fn last_line(&mut self) -> Next {
+    fn last_line(&mut self) -> Next
+        requires within_limit { self.old.taken ≤ self.old.limit }
+        requires no_feed { HasNoFeed self.old.held }
+        ensures line { lines_of_next (Ok result) self.new.line ≡ lines_of_bytes self.old.held }
+        ensures held { self.new.held ≡ [] }
+        ensures taken { self.new.taken ≡ self.old.taken }
+        ensures limit { self.new.limit ≡ self.old.limit }
+        ensures some { result ≢ Next.End → 0 < length self.old.held }
+    {
         let line = self.bytes.len();
         if line == 0 {
             return Next::End;
@@ -123,7 +168,22 @@ impl LineReader {
     }
 
     /// Takes the next block, and answers how many bytes came.
-    fn take_more<S: Source>(&mut self, source: &mut S) -> Result<usize, ReadEnd> {
+    fn take_more<S: Source>(&mut self, source: &mut S) -> Result<usize, ReadEnd>
+        requires { HasNoFeed (take (held_within self.old) self.old.held) }
+        ensures reads { IfSome (S.left source.old) (λ bytes. Reads self.old self.new bytes (S.left source.new) []) }
+        ensures limit { self.new.limit ≡ self.old.limit }
+        ensures ahead { bytes_ahead self.new ≤ bytes_ahead self.old }
+        ensures count { IfOk result (λ n. (self.new.taken ≡ self.old.taken + n) × (n ≤ length self.new.held)) }
+        ensures taken { self.new.taken ≤ self.new.limit + 1 }
+        ensures searched { IfOk result (λ n. HasNoFeed (take (length self.new.held - n) self.new.held)) }
+        ensures within { IfOk result (λ n. self.old.taken ≤ self.old.limit) }
+        ensures source_end { result ≡ Ok 0 → IfSome (S.left source.old) (λ _. S.left source.new ≡ Some []) }
+        ensures same { OnErr result (self.new.taken ≡ self.old.taken) }
+        ensures input_too_long { IfErr result (λ end. (end ≡ ReadEnd.InputTooLong) ↔ (self.new.limit < self.new.taken)) }
+        ensures none_left { result ≡ Err ReadEnd.InputTooLong → self.new.held ≡ self.old.held }
+        ensures faults { S.faults source.old ≤ S.faults source.new }
+        ensures read_fault { result ≡ Err ReadEnd.ReadFault → Rose (S.faults source.old) (S.faults source.new) }
+    {
         if self.over {
             return Err(ReadEnd::InputTooLong);
         }

@@ -1,7 +1,7 @@
-use Rattle.std.proofs.Common.{◌≡◌, ◌≤◌, ◌+◌, ℕ, List, length, drop, take, Result, Ok, Err, OnErr, ap, ◌∙◌, arith}
+use Rattle.std.proofs.Common.{◌≤◌, ℕ, List, length, drop, take, Result, Ok, Err, OnErr, ap, ◌∙◌, arith}
 use Rattle.std.proofs.lemmas.Option.{IfSome_then}
 use Rattle.std.proofs.Math.Seq.{take-length}
-use Rattle.floor_text.specs.HeldBytes.{Holding, Fills}
+use Rattle.floor_text.specs.HeldBytes.{Holding}
 use Rattle.floor_text.proofs.HeldLists.{moved_by_call, moved_kept, moved_front, moved_count, moved_behind, written_back}
 use Rattle.floor_text.proofs.held_bytes.HeldBytes.fill.Goals as goal
 
