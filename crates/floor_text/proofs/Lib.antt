@@ -1,1 +1,6 @@
+pub mod CutLines
+pub mod HeldLists
+pub mod KeptNames
+pub mod ReadLines
 pub mod RefusalNumbers
+pub mod SpelledNumbers

@@ -1,4 +1,11 @@
+pub mod Cutting
+pub mod HeldBytes
+pub mod LineCutter
+pub mod LineReader
+pub mod Lines
+pub mod Memory
 pub mod Names
 pub mod Numbers
 pub mod Outside
+pub mod Reading
 pub mod Refusals

@@ -1,17 +1,30 @@
 //! The words of the floor's lines, and the outside that lines come from and go to.
 //!
 //! It stands on no other crate. `Refusal` numbers and names each reason for which a line is refused;
-//! `Name` and `read_number` read exactly what the grammar has; `Source` and `Sink` say what the outside
-//! tells of its bytes and that a failure has its cause there.
+//! `Name` and `read_number` read exactly what the grammar has; `LineCutter` and `LineReader` cut a stream
+//! into the same lines; `Source` and `Sink` say what the outside tells of its bytes and that a failure has
+//! its cause there. `MemSource` and `MemSink` are the outside in memory, `ReaderSource` and `WriterSink`
+//! the standard library's readers and writers.
 #![tactic(auto)]
 
+mod adapters;
+mod held_bytes;
+mod line_cutter;
+mod line_reader;
 mod list;
+mod memory;
 mod name;
 mod number;
 mod outside;
 mod refusal;
+#[cfg(test)]
+mod tests;
 
+pub use adapters::{ReaderSource, WriterSink};
+pub use line_cutter::{Cut, LineCutter};
+pub use line_reader::{LineReader, Next, ReadEnd};
 pub use list::List;
+pub use memory::{MemSink, MemSource};
 pub use name::Name;
 pub use number::read_number;
 pub use outside::{Failed, Sink, Source};
