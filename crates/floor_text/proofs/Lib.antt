@@ -4,3 +4,4 @@ pub mod KeptNames
 pub mod ReadLines
 pub mod RefusalNumbers
 pub mod SpelledNumbers
+pub mod WrittenFronts

@@ -110,26 +110,27 @@ filled_none kept held (Some bytes) left ask n fills asked none =
     let empty : bytes ≡ [] = nil_from_length bytes (fills.at_end asked none) in
     fills.rest ∙ ap (λ (k : ℕ). Some (drop k bytes)) none ∙ ap Some empty
 
--- one call after another, of which the first hands out nothing
-reads_then : (a b c : Reading) (bytes : List ℕ) (o1 o2 : Option (List ℕ)) (handed : List (Option (List ℕ))) → Reads a b bytes o1 [] → Reads b c (drop (b.taken - a.taken) bytes) o2 handed → Reads a c bytes o2 handed
-reads_then a b c bytes o1 o2 handed first second =
-    let p : a.taken ≤ b.taken = first.later in
-    let q : b.taken ≤ c.taken = second.later in
-    let within : b.taken ≤ a.taken + length bytes = first.within in
-    let inner : c.taken ≤ b.taken + length (drop (b.taken - a.taken) bytes) = second.within in
+-- one call after another: the lines that both handed out, in their order
+pub reads_then : (a b c : Reading) (bytes : List ℕ) (o1 o2 : Option (List ℕ)) (first second : List (Option (List ℕ))) → Reads a b bytes o1 first → Reads b c (drop (b.taken - a.taken) bytes) o2 second → Reads a c bytes o2 (first ++ second)
+reads_then a b c bytes o1 o2 first second one two =
+    let p : a.taken ≤ b.taken = one.later in
+    let q : b.taken ≤ c.taken = two.later in
+    let within : b.taken ≤ a.taken + length bytes = one.within in
+    let inner : c.taken ≤ b.taken + length (drop (b.taken - a.taken) bytes) = two.within in
     let count : b.taken - a.taken + (c.taken - b.taken) ≡ c.taken - a.taken = omega arith in
     let rest : drop (c.taken - b.taken) (drop (b.taken - a.taken) bytes) ≡ drop (c.taken - a.taken) bytes = drop-drop (c.taken - b.taken) (b.taken - a.taken) bytes ∙ ap (λ (n : ℕ). drop n bytes) count in
     record {
       later = omega arith;
       within = omega (arith, length-drop (b.taken - a.taken) bytes);
-      rest = second.rest ∙ ap Some rest;
-      lines = first.lines ∙ second.lines ∙ ap (λ (xs : List ℕ). handed ++ lines_of_bytes (c.held ++ xs)) rest;
+      rest = two.rest ∙ ap Some rest;
+      lines = one.lines ∙ ap (λ (ls : List (Option (List ℕ))). first ++ ls) (two.lines ∙ ap (λ (xs : List ℕ). second ++ lines_of_bytes (c.held ++ xs)) rest) ∙ sym (append_assoc first second (lines_of_bytes (c.held ++ drop (c.taken - a.taken) bytes)));
     }
 
-pub goes_on : (a b c : Reading) (o0 o1 o2 : Option (List ℕ)) (handed : List (Option (List ℕ))) → IfSome o0 (λ bytes. Reads a b bytes o1 []) → IfSome o1 (λ bytes. Reads b c bytes o2 handed) → IfSome o0 (λ bytes. Reads a c bytes o2 handed)
-goes_on a b c None o1 o2 handed first second = tt
-goes_on a b c (Some bytes) o1 o2 handed first second =
-    reads_then a b c bytes o1 o2 handed first (MatchOption-at_some (Unit {0}) (λ (bs : List ℕ). Reads b c bs o2 handed) (drop (b.taken - a.taken) bytes) first.rest second)
+-- the same of a source that may tell
+pub goes_on : (a b c : Reading) (o0 o1 o2 : Option (List ℕ)) (first second : List (Option (List ℕ))) → IfSome o0 (λ bytes. Reads a b bytes o1 first) → IfSome o1 (λ bytes. Reads b c bytes o2 second) → IfSome o0 (λ bytes. Reads a c bytes o2 (first ++ second))
+goes_on a b c None o1 o2 first second one two = tt
+goes_on a b c (Some bytes) o1 o2 first second one two =
+    reads_then a b c bytes o1 o2 first second one (MatchOption-at_some (Unit {0}) (λ (bs : List ℕ). Reads b c bs o2 second) (drop (b.taken - a.taken) bytes) one.rest two)
 
 -- the first call of none
 pub begins : (a : Reading) (o : Option (List ℕ)) → IfSome o (λ bytes. Reads a a bytes o [])
@@ -185,7 +186,7 @@ last_reads a b c (Some bytes) o2 handed reads end line held taken =
     let last : Reads b c [] o2 handed = subst P (sym end) (last_at b c handed line held taken) in
     let none : [] ≡ drop (b.taken - a.taken) bytes = same_Some [] (drop (b.taken - a.taken) bytes) (sym end ∙ reads.rest) in
     let Q : List ℕ → Type 0 = λ bs. Reads b c bs o2 handed in
-    reads_then a b c bytes o2 o2 handed reads (subst Q none last)
+    reads_then a b c bytes o2 o2 [] handed reads (subst Q none last)
 
 -- where the source ended in a call that goes on from an earlier one
 pub ends_then : (a b : Reading) (o0 o1 o2 : Option (List ℕ)) → IfSome o0 (λ bytes. Reads a b bytes o1 []) → IfSome o1 (λ _. o2 ≡ Some []) → IfSome o0 (λ _. o2 ≡ Some [])

@@ -1,50 +1,36 @@
-//! A source over a reader and a sink over a writer of the standard library. They tell no bytes.
+//! A source over a reader and a sink over a writer of the standard library. A source tells no bytes; a
+//! sink tells what its writer tells, which is none for a terminal, a file or a socket.
 
-ghost use Rattle.std.specs.Prelude.{◌≡◌, ◌≤◌, length, IfOk, IfSome, OnErr, is_err, if◌then◌else◌};
-ghost use Rattle.floor_text.specs.Memory.{count_up};
-ghost use Rattle.floor_text.specs.Outside.{HasCause};
+ghost use Rattle.std.specs.Prelude.{◌≡◌, ◌≤◌, ◌<◌, ◌++◌, Some, None, length, take, IfOk, IfSome, IsNone, is_err, if◌then◌else◌};
+ghost use Rattle.std.specs.Io.KnownBytes.{Keeps};
+ghost use Rattle.floor_text.specs.Outside.{Takes, Puts};
 
 use crate::outside::{Failed, Sink, Source};
 use std::io::{ErrorKind, Read, Write};
-use std::marker::Model;
 
-/// A source over a reader. Contracts see it as its count of faults.
+/// A source over a reader.
 #[derive(Drop)]
 pub struct ReaderSource<R> {
     reader: R,
     faults: u64,
 }
 
-impl<R> Model for ReaderSource<R> {
-    ghost use Rattle.std.specs.Prelude.{ℕ};
-
-    ghost Value = { ℕ };
-
-    ghost view = { λ s. s.faults };
-}
-
-impl<R> ReaderSource<R> {
+impl<R: Read> ReaderSource<R> {
     /// A source over this reader, which has not failed yet.
     pub fn new(reader: R) -> ReaderSource<R>
-        ensures { result ≡ 0 }
+        ensures { ⟦<ReaderSource<R> as Source>⟧.faults result ≡ 0 }
     {
         ReaderSource { reader, faults: 0 }
     }
 }
 
 impl<R: Read> Source for ReaderSource<R> {
-    ghost use Rattle.std.specs.Prelude.{None};
-
     ghost left = { λ _. None };
 
-    ghost faults = { λ s. s };
+    ghost faults = { λ s. s.faults };
 
     /// Reads once, or again where the read was interrupted. Any other error is a fault, and is counted.
-    fn take(&mut self, buffer: &mut [u8]) -> Result<usize, Failed>
-        ensures count { IfOk result (λ n. n ≤ length buffer.new) }
-        ensures cause { HasCause self.old self.new result }
-        ensures faults { self.new ≡ (if is_err result then count_up self.old else self.old) }
-    {
+    fn take(&mut self, buffer: &mut [u8]) -> Result<usize, Failed> {
         let Some(n) = read_once(&mut self.reader, buffer) else {
             self.faults = self.faults.saturating_add(1);
             return Err(Failed);
@@ -53,10 +39,13 @@ impl<R: Read> Source for ReaderSource<R> {
     }
 }
 
+/// Reads what the reader has, into the first places of the buffer. `None` where it failed.
 fn read_once<R: Read>(reader: &mut R, buffer: &mut [u8]) -> Option<usize>
-    ensures { IfSome result (λ n. n ≤ length buffer.new) }
+    ensures count { IfSome result (λ n. n ≤ length buffer.new) }
+    ensures bytes { IfSome result (λ n. IfSome (R.remaining reader.old) (λ bytes. Takes bytes (R.remaining reader.new) buffer.new n)) }
+    ensures kept { IsNone result → Keeps (R.remaining reader.old) (R.remaining reader.new) }
 {
-    for _ in 0..u64::MAX {
+    for _turn in 0..u64::MAX {
         match reader.read(buffer) {
             Ok(n) => return Some(n),
             Err(error) if error.kind() == ErrorKind::Interrupted => {}
@@ -66,47 +55,68 @@ fn read_once<R: Read>(reader: &mut R, buffer: &mut [u8]) -> Option<usize>
     None
 }
 
-/// A sink over a writer. Contracts see it as its count of faults.
+/// A sink over a writer.
 #[derive(Drop)]
 pub struct WriterSink<W> {
     writer: W,
     faults: u64,
 }
 
-impl<W> Model for WriterSink<W> {
-    ghost use Rattle.std.specs.Prelude.{ℕ};
-
-    ghost Value = { ℕ };
-
-    ghost view = { λ s. s.faults };
-}
-
-impl<W> WriterSink<W> {
+impl<W: Write> WriterSink<W> {
     /// A sink over this writer, which has not failed yet.
     pub fn new(writer: W) -> WriterSink<W>
-        ensures { result ≡ 0 }
+        ensures written { ⟦<WriterSink<W> as Sink>⟧.written result ≡ W.contents writer }
+        ensures faults { ⟦<WriterSink<W> as Sink>⟧.faults result ≡ 0 }
     {
         WriterSink { writer, faults: 0 }
     }
 }
 
 impl<W: Write> Sink for WriterSink<W> {
-    ghost use Rattle.std.specs.Prelude.{None};
+    ghost written = { λ s. W.contents s.writer };
 
-    ghost written = { λ _. None };
+    ghost faults = { λ s. s.faults };
 
-    ghost faults = { λ s. s };
-
-    /// Writes all the bytes and flushes the writer. A write that takes none of them is a fault, as any
-    /// error is but an interruption, and is counted.
-    fn put(&mut self, bytes: &[u8]) -> Result<(), Failed>
-        ensures cause { HasCause self.old self.new result }
-        ensures faults { self.new ≡ (if is_err result then count_up self.old else self.old) }
-    {
-        if self.writer.write_all(bytes).is_ok() && self.writer.flush().is_ok() {
-            return Ok(());
+    /// Writes all the bytes and flushes the writer. A write is made again where it was interrupted; one
+    /// that takes none of the bytes is a fault, as any other error is, and is counted.
+    fn put(&mut self, bytes: &[u8]) -> Result<(), Failed> {
+        let result = write_whole(&mut self.writer, bytes);
+        if result.is_err() {
+            self.faults = self.faults.saturating_add(1);
         }
-        self.faults = self.faults.saturating_add(1);
-        Err(Failed)
+        result
     }
+}
+
+fn write_whole<W: Write>(writer: &mut W, bytes: &[u8]) -> Result<(), Failed>
+    ensures { IfSome (W.contents writer.old) (λ before. Puts before bytes.now (W.contents writer.new) result) }
+{
+    let mut rest = bytes;
+    'write: while !rest.is_empty() {
+        let Some(n) = write_once(writer, rest) else {
+            return Err(Failed);
+        };
+        rest = &rest[n..];
+    }
+    if writer.flush().is_err() {
+        return Err(Failed);
+    }
+    Ok(())
+}
+
+/// Writes some of the bytes. `None` where the writer failed or took none of them.
+fn write_once<W: Write>(writer: &mut W, bytes: &[u8]) -> Option<usize>
+    ensures count { IfSome result (λ n. (0 < n) × (n ≤ length bytes.now)) }
+    ensures some { IfSome result (λ n. IfSome (W.contents writer.old) (λ before. W.contents writer.new ≡ Some (before ++ take n bytes.now))) }
+    ensures none { IsNone result → IfSome (W.contents writer.old) (λ before. W.contents writer.new ≡ Some before) }
+{
+    for _turn in 0..u64::MAX {
+        match writer.write(bytes) {
+            Ok(0) => return None,
+            Ok(n) => return Some(n),
+            Err(error) if error.kind() == ErrorKind::Interrupted => {}
+            Err(_) => return None,
+        }
+    }
+    None
 }
