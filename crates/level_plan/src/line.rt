@@ -55,7 +55,7 @@ pub enum PlanLine {
     Seats(u64),
     /// The stack that a player starts with, in chips.
     Stack(u64),
-    /// The buy-in.
+    /// The buy-in: what an entry pays into the prizes' pool, in chips of money.
     Buyin(u64),
     /// The last level at which a player may enter, from 1.
     Late(u64),

@@ -24,15 +24,15 @@ pub struct Plan {
     pub tables: u64,
     /// The number of seats of a table, 2 to 10.
     pub seats: u64,
-    /// The stack that a player starts with, in chips: a multiple of the unit of level `late`.
+    /// The stack that a player starts with, in chips, 1 to 1,000,000,000: a multiple of the unit of level `late`.
     pub stack: u64,
-    /// The buy-in.
+    /// The buy-in: what an entry pays into the prizes' pool, in chips of money, at most 1,000,000,000.
     pub buyin: u64,
-    /// The last level at which a player may enter, from 1.
+    /// The last level at which a player may enter, from 1 to the number of levels.
     pub late: u64,
     /// The levels, from level 1 on, 1 to 40 of them.
     pub blinds: List<Blind>,
-    /// The shares of the prizes from the first place on, in thousandths of the pool.
+    /// The shares of the prizes from the first place on, in thousandths of the pool, 1 to 64 of them.
     pub shares: List<u64>,
 }
 

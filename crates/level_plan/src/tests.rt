@@ -161,8 +161,7 @@ fn shares_fall_and_stay_within_the_pool(rt: HostRuntime) -> Result<(), Fail> {
 #[test]
 fn an_item_is_given_once(rt: HostRuntime) -> Result<(), Fail> {
     let alloc = rt.alloc();
-    let mut draft = draft_but(alloc, None, 10_000, 2)?;
-    for (again, item) in [
+    let lines = [
         (PlanLine::Game(Game::Hilo), PlanItem::Game),
         (PlanLine::Tables(4), PlanItem::Tables),
         (PlanLine::Seats(8), PlanItem::Seats),
@@ -170,14 +169,21 @@ fn an_item_is_given_once(rt: HostRuntime) -> Result<(), Fail> {
         (PlanLine::Buyin(300), PlanItem::Buyin),
         (PlanLine::Late(1), PlanItem::Late),
         (shares(alloc, &[1000])?, PlanItem::Shares),
-    ] {
-        assert_eq!(rt; draft.line(&again), wanted(item, false));
+    ];
+    let mut draft = PlanDraft::new(alloc);
+    for (line, item) in &lines {
+        assert_eq!(rt; draft.line(line), Ok(()));
+        assert_eq!(rt; draft.line(line), wanted(*item, false));
     }
+    Ok(())
+}
 
-    let plan = draft.go()?;
+#[test]
+fn a_right_plan_is_given_back(rt: HostRuntime) -> Result<(), Fail> {
+    let plan = draft_but(rt.alloc(), None, 10_000, 2)?.go()?;
     assert_eq!(rt; plan.game, Game::Omaha);
-    assert_eq!(rt; (plan.tables, plan.seats, plan.stack), (3, 9, 10_000));
-    assert_eq!(rt; (plan.buyin, plan.late), (200, 2));
+    let numbers = [plan.tables, plan.seats, plan.stack, plan.buyin, plan.late];
+    assert_eq!(rt; numbers, [3, 9, 10_000, 200, 2]);
     let first = Blind {
         small: 25,
         big: 50,
