@@ -1,1 +1,3 @@
+pub mod KeptNames
 pub mod RefusalNumbers
+pub mod SpelledNumbers

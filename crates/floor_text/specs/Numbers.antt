@@ -1,6 +1,7 @@
 -- Numbers of a line. This project's own.
-use Rattle.std.specs.Prelude.{ℕ, ◌≤◌, Bool, true, false, ◌==◌, ◌&&◌, ◌||◌, not, List, [], ◌∷◌}
-use Rattle.std.specs.Str.{all_ascii_digits}
+use Rattle.std.specs.Prelude.{ℕ, ◌≤◌, Bool, false, ◌==◌, ◌&&◌, not, List, [], ◌∷◌}
+use Rattle.std.specs.Char.{is_ascii_digit}
+use Rattle.std.specs.List.{list_all}
 
 -- a number in a line is at most 2 ^ 53 - 1
 abbrev pub IsLineNumber : ℕ → Type 0
@@ -9,5 +10,5 @@ IsLineNumber n = n ≤ 9007199254740991
 -- digits with no zero in front, or the one digit 0
 abbrev pub is_spelled : List ℕ → Bool
 is_spelled [] = false
-is_spelled (first ∷ []) = all_ascii_digits (first ∷ [])
-is_spelled (first ∷ second ∷ rest) = not (first == 48) && all_ascii_digits (first ∷ second ∷ rest)
+is_spelled (only ∷ []) = is_ascii_digit only
+is_spelled (first ∷ second ∷ rest) = not (first == 48) && list_all is_ascii_digit (first ∷ second ∷ rest)

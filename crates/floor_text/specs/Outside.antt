@@ -1,5 +1,5 @@
 -- The outside: where bytes come from and go to, and how often it failed. This project's own.
-use Rattle.std.specs.Prelude.{◌≡◌, ℕ, ◌<◌, ◌≤◌, ◌⊎◌, ◌++◌, List, length, take, drop, Option, Some, Result, IsErr, IfSome, MatchResult}
+use Rattle.std.specs.Prelude.{◌≡◌, ℕ, ◌<◌, ◌≤◌, ◌⊎◌, ◌++◌, List, length, take, drop, Option, Some, Result, IsErr, MatchResult}
 
 -- A count of faults rose: it is greater than before, or it stands at its last value, where it can rise no more.
 abbrev pub Rose : ℕ → ℕ → Type 0

@@ -1,6 +1,7 @@
 //! Names of players.
 
 ghost use Rattle.std.specs.Prelude.{◌≡◌, ◌↔◌, IsTrue, IsSome, IfSome};
+ghost use Rattle.std.specs.List.{list_all};
 ghost use Rattle.std.specs.Str.{bytes_eq};
 ghost use Rattle.floor_text.specs.Names.{is_name, is_name_byte};
 
@@ -38,11 +39,20 @@ fn is_name_byte(byte: u8) -> bool
     byte.is_ascii_alphanumeric() || byte == b'_'
 }
 
+fn are_name_bytes(bytes: &[u8]) -> bool
+    ensures { result ≡ list_all is_name_byte bytes.now }
+{
+    bytes.iter().all(|byte| is_name_byte(*byte))
+}
+
 fn is_name(bytes: &[u8]) -> bool
     ensures { result ≡ is_name bytes.now }
 {
-    bytes.first().is_some_and(|byte| byte.is_ascii_alphabetic())
-        && bytes.iter().all(|byte| is_name_byte(*byte))
+    let [first, ..] = bytes else {
+        return false;
+    };
+    first.is_ascii_alphabetic()
+        && are_name_bytes(bytes)
         && bytes.len() <= LONGEST
         && bytes != b"floor".as_slice()
 }

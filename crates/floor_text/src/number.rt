@@ -1,11 +1,19 @@
 //! Numbers of a line.
 
 ghost use Rattle.std.specs.Prelude.{◌≡◌, ℕ, Some, IfSome};
+ghost use Rattle.std.specs.Char.{is_ascii_digit};
 ghost use Rattle.std.specs.Fmt.{decimal};
+ghost use Rattle.std.specs.List.{list_all};
 ghost use Rattle.floor_text.specs.Numbers.{IsLineNumber, is_spelled};
 
 /// The greatest number that a line may hold.
 const GREATEST: u64 = 9_007_199_254_740_991;
+
+fn are_digits(bytes: &[u8]) -> bool
+    ensures { result ≡ list_all is_ascii_digit bytes.now }
+{
+    bytes.iter().all(|byte| byte.is_ascii_digit())
+}
 
 /// Whether the bytes are digits with no zero in front, or the one digit `0`.
 fn is_spelled(bytes: &[u8]) -> bool
@@ -13,8 +21,8 @@ fn is_spelled(bytes: &[u8]) -> bool
 {
     match bytes {
         [] => false,
-        [b'0'] => true,
-        [first, ..] => *first != b'0' && bytes.iter().all(|byte| byte.is_ascii_digit()),
+        [only] => only.is_ascii_digit(),
+        [first, ..] => *first != b'0' && are_digits(bytes),
     }
 }
 

@@ -211,5 +211,4 @@ impl Refusal {
 pub fn refusals_are_told_apart()
     ensures numbers { (r s : Refusal) → refusal_number r ≡ refusal_number s → r ≡ s }
     ensures names { (r s : Refusal) → refusal_name r ≡ refusal_name s → r ≡ s }
-{
-}
+{}
