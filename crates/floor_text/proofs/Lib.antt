@@ -1,3 +1,4 @@
 pub mod KeptNames
+pub mod NumberLaws
 pub mod RefusalNumbers
 pub mod SpelledNumbers
