@@ -1,5 +1,6 @@
 -- What has been given of a plan, and what is wrong with a line or with the whole. This project's own.
-use Rattle.std.specs.Prelude.{◌≡◌, ◌≤◌, ℕ, ◌%◌, Bool, true, ◌==◌, ◌&&◌, ◌||◌, not, nat_le, nat_lt, List, [], ◌∷◌, ◌++◌, length, Option, None, Some, is_some, is_none, unwrap_or, if◌then◌else◌}
+use Rattle.std.specs.Prelude.{◌≡◌, ℕ, ◌%◌, Bool, true, ◌==◌, ◌&&◌, ◌||◌, not, nat_le, nat_lt, List, [], ◌∷◌, ◌++◌, length, Option, None, Some, is_some, is_none, unwrap_or, if◌then◌else◌}
+use Rattle.std.specs.Option.{option_map_or}
 use Rattle.level_plan.specs.declared.line.Game.{Game}
 use Rattle.level_plan.specs.declared.line.Game.TheVariants.{Holdem}
 use Rattle.level_plan.specs.declared.line.PlanItem.{PlanItem}
@@ -12,7 +13,7 @@ use Rattle.level_plan.specs.declared.plan.Blind.{Blind}
 use Rattle.level_plan.specs.Items.{is_between, greatest_amount, is_blind, may_follow, are_levels, are_shares}
 use Rattle.level_plan.specs.Plans.{PlanTerms, unit_of_level}
 
--- what the accepted lines have given so far
+-- What the accepted lines have given so far.
 pub record Draft : Type 0 where
   pub game : Option Game
   pub tables : Option ℕ
@@ -23,11 +24,11 @@ pub record Draft : Type 0 where
   pub blinds : List Blind
   pub shares : Option (List ℕ)
 
--- before any line
+-- Before any line nothing is given.
 abbrev pub empty_draft : Draft
 empty_draft = record { game = None; tables = None; seats = None; stack = None; buyin = None; late = None; blinds = []; shares = None }
 
--- the item that a line gives
+-- The item that a line gives.
 abbrev pub item_of_line : PlanLine → PlanItem
 item_of_line (lines.Game game) = items.Game
 item_of_line (lines.Tables n) = items.Tables
@@ -38,7 +39,7 @@ item_of_line (lines.Late n) = items.Late
 item_of_line (lines.Blinds small big unit) = items.Blinds
 item_of_line (lines.Shares shares) = items.Shares
 
--- A line is wrong where its item was given before (blinds: 40 times), or what it gives is not lawful.
+-- A line is wrong where its item was given before (blinds: 40 times), or where what it gives is not lawful.
 abbrev pub is_wrong_line : Draft → PlanLine → Bool
 is_wrong_line draft (lines.Game game) = is_some draft.game
 is_wrong_line draft (lines.Tables n) = is_some draft.tables || not (is_between 1 64 n)
@@ -51,11 +52,11 @@ is_wrong_line draft (lines.Blinds small big unit) =
     nat_le 40 (length draft.blinds) || not (is_blind blind && may_follow draft.blinds blind)
 is_wrong_line draft (lines.Shares shares) = is_some draft.shares || not (are_shares shares)
 
--- the wrong item of a line, where it is wrong
+-- The wrong item of a line, where the line is wrong.
 abbrev pub line_fault : Draft → PlanLine → Option PlanItem
 line_fault draft line = if is_wrong_line draft line then Some (item_of_line line) else None
 
--- what a line that is not wrong makes of the draft
+-- What a line that is not wrong makes of the draft.
 abbrev pub draft_after : Draft → PlanLine → Draft
 draft_after draft (lines.Game game) = record draft { game = Some game }
 draft_after draft (lines.Tables n) = record draft { tables = Some n }
@@ -66,44 +67,51 @@ draft_after draft (lines.Late n) = record draft { late = Some n }
 draft_after draft (lines.Blinds small big unit) = record draft { blinds = draft.blinds ++ record { small = small; big = big; unit = unit } ∷ [] }
 draft_after draft (lines.Shares shares) = record draft { shares = Some shares }
 
--- the plan that the draft's items make, once none is missing
+-- The plan that the draft's items make, once none is missing.
 abbrev pub plan_of : Draft → PlanTerms
 plan_of draft = record { game = unwrap_or draft.game Holdem; tables = unwrap_or draft.tables 0; seats = unwrap_or draft.seats 0; stack = unwrap_or draft.stack 0; buyin = unwrap_or draft.buyin 0; late = unwrap_or draft.late 0; blinds = draft.blinds; shares = unwrap_or draft.shares [] }
 
--- the first item whose test holds
+-- The first item whose test holds.
 abbrev pub first_item : List (PlanItem × Bool) → Option PlanItem
 first_item [] = None
 first_item (row ∷ rows) = if row.1 then Some row.0 else first_item rows
 
--- At `go` the first missing item is wrong; else `late`, where there is no such level; else `stack`, where it is
--- no multiple of that level's unit.
-abbrev pub go_fault : Draft → Option PlanItem
-go_fault draft =
+-- What is wrong at the end of a plan, in order: each item where it is missing; then `late`, where there is no such
+-- level; then `stack`, where it is no multiple of that level's unit.
+abbrev pub go_checks : Draft → List (PlanItem × Bool)
+go_checks draft =
     let plan : PlanTerms = plan_of draft in
-    first_item (
-        (items.Game, is_none draft.game) ∷
-        (items.Tables, is_none draft.tables) ∷
-        (items.Seats, is_none draft.seats) ∷
-        (items.Stack, is_none draft.stack) ∷
-        (items.Buyin, is_none draft.buyin) ∷
-        (items.Late, is_none draft.late) ∷
-        (items.Blinds, length draft.blinds == 0) ∷
-        (items.Shares, is_none draft.shares) ∷
-        (items.Late, nat_lt (length plan.blinds) plan.late) ∷
-        (items.Stack, not (plan.stack % unit_of_level plan.blinds plan.late == 0)) ∷ [])
+    (items.Game, is_none draft.game) ∷
+    (items.Tables, is_none draft.tables) ∷
+    (items.Seats, is_none draft.seats) ∷
+    (items.Stack, is_none draft.stack) ∷
+    (items.Buyin, is_none draft.buyin) ∷
+    (items.Late, is_none draft.late) ∷
+    (items.Blinds, length draft.blinds == 0) ∷
+    (items.Shares, is_none draft.shares) ∷
+    (items.Late, nat_lt (length plan.blinds) plan.late) ∷
+    (items.Stack, not (plan.stack % unit_of_level plan.blinds plan.late == 0)) ∷ []
 
--- a fault is the item that was found wrong; memory runs out only where none was
+-- The wrong item at the end of a plan is the first that is.
+abbrev pub go_fault : Draft → Option PlanItem
+go_fault draft = first_item (go_checks draft)
+
+-- A fault is the item that was found wrong; memory runs out only where none was.
 abbrev pub IsFault : Option PlanItem → PlanFault → Type 0
 IsFault found (faults.Wrong item) = found ≡ Some item
 IsFault found faults.NoMemory = found ≡ None
 
--- what was given is lawful, item by item
+-- What was given, if it was, passes the test.
+abbrev pub is_lawful_if_given : {A : Type 0} → (A → Bool) → Option A → Bool
+is_lawful_if_given test given = option_map_or test given true
+
+-- Each item of a draft is lawful where it was given.
 pub record IsLawful (draft : Draft) : Type 0 where
-  pub tables : (n : ℕ) → draft.tables ≡ Some n → is_between 1 64 n ≡ true
-  pub seats : (n : ℕ) → draft.seats ≡ Some n → is_between 2 10 n ≡ true
-  pub stack : (n : ℕ) → draft.stack ≡ Some n → is_between 1 greatest_amount n ≡ true
-  pub buyin : (n : ℕ) → draft.buyin ≡ Some n → nat_le n greatest_amount ≡ true
-  pub late : (n : ℕ) → draft.late ≡ Some n → is_between 1 40 n ≡ true
+  pub tables : is_lawful_if_given (is_between 1 64) draft.tables ≡ true
+  pub seats : is_lawful_if_given (is_between 2 10) draft.seats ≡ true
+  pub stack : is_lawful_if_given (is_between 1 greatest_amount) draft.stack ≡ true
+  pub buyin : is_lawful_if_given (λ n. nat_le n greatest_amount) draft.buyin ≡ true
+  pub late : is_lawful_if_given (is_between 1 40) draft.late ≡ true
   pub levels : are_levels draft.blinds ≡ true
-  pub level_count : length draft.blinds ≤ 40
-  pub shares : (ns : List ℕ) → draft.shares ≡ Some ns → are_shares ns ≡ true
+  pub level_count : nat_le (length draft.blinds) 40 ≡ true
+  pub shares : is_lawful_if_given are_shares draft.shares ≡ true

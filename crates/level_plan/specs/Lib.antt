@@ -1,3 +1,4 @@
 pub mod Drafts
+pub mod Fields
 pub mod Items
 pub mod Plans

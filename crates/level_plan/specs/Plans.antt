@@ -5,7 +5,7 @@ use Rattle.level_plan.specs.declared.line.Game.{Game}
 use Rattle.level_plan.specs.declared.plan.Blind.{Blind}
 use Rattle.level_plan.specs.Items.{is_between, greatest_amount, are_levels, are_shares}
 
--- what a plan says
+-- What a plan says.
 pub record PlanTerms : Type 0 where
   pub game : Game
   pub tables : ℕ
@@ -16,10 +16,10 @@ pub record PlanTerms : Type 0 where
   pub blinds : List Blind
   pub shares : List ℕ
 
--- the unit of a level, from level 1 on
+-- The unit of a level, where the first level is level 1.
 abbrev pub unit_of_level : List Blind → ℕ → ℕ
-unit_of_level blinds level = option_map_or (λ blind. blind.unit) 1 (slice_get blinds (level - 1))
+unit_of_level blinds level = option_map_or (λ blind. blind.unit) (slice_get blinds (level - 1)) 1
 
--- each item is lawful, entries close at a level that is there, and the stack is a multiple of that level's unit
+-- Each item is lawful, `late` is one of the levels, of which there are at most 40, and the stack is a multiple of that level's unit.
 abbrev pub is_right : PlanTerms → Bool
 is_right plan = is_between 1 64 plan.tables && (is_between 2 10 plan.seats && (is_between 1 greatest_amount plan.stack && (nat_le plan.buyin greatest_amount && (is_between 1 (length plan.blinds) plan.late && (nat_le (length plan.blinds) 40 && (are_levels plan.blinds && (are_shares plan.shares && plan.stack % unit_of_level plan.blinds plan.late == 0)))))))

@@ -1,7 +1,9 @@
 //! What is lawful of each item of a plan, alone.
 
-ghost use Rattle.std.specs.Prelude.{◌≡◌};
+ghost use Rattle.std.specs.Prelude.{◌≡◌, ◌<◌, ◌≤◌, ◌^◌, sum, nat_le};
+ghost use Rattle.std.specs.List.{list_all};
 ghost use Rattle.level_plan.specs.Items.{is_between, is_next_unit, is_blind, may_follow, is_falling, are_shares};
+ghost use Rattle.level_plan.specs.Plans.{unit_of_level};
 
 use crate::plan::Blind;
 
@@ -20,8 +22,75 @@ pub fn is_between(low: u64, high: u64, n: u64) -> bool
 
 /// Whether a new unit is the one before times one of the whole numbers 1 to 6.
 pub fn is_next_unit(before: u64, unit: u64) -> bool
-    requires { before ≤ 1000000000 }
     ensures { result ≡ is_next_unit before unit }
 {
-    [1, 2, 3, 4, 5, 6].iter().any(|times| unit == before * times)
+    [1, 2, 3, 4, 5, 6]
+        .iter()
+        .any(|times| before.checked_mul(*times) == Some(unit))
+}
+
+/// Whether the blinds and the unit of a level are lawful, whatever the levels before it.
+pub fn is_blind(blind: Blind) -> bool
+    ensures { result ≡ is_blind blind }
+{
+    1 <= blind.unit
+        && 1 <= blind.small
+        && blind.small <= blind.big
+        && blind.big <= GREATEST_AMOUNT
+        && blind.small % blind.unit == 0
+        && blind.big % blind.unit == 0
+}
+
+/// Whether a level's unit may follow that of the last of the levels before it.
+pub fn may_follow(blinds: &[Blind], blind: Blind) -> bool
+    ensures { result ≡ may_follow blinds.now blind }
+{
+    match blinds.last() {
+        Some(before) => is_next_unit(before.unit, blind.unit),
+        None => true,
+    }
+}
+
+/// The unit of a level, from level 1 on; 1 where there is no such level.
+pub fn unit_of_level(blinds: &[Blind], level: u64) -> u64
+    requires { 1 ≤ level }
+    ensures { result ≡ unit_of_level blinds.now level }
+{
+    blinds.get(level as usize - 1).map_or(1, |blind| blind.unit)
+}
+
+/// Whether no number is greater than the one before it.
+fn is_falling(numbers: &[u64]) -> bool
+    ensures { result ≡ is_falling numbers.now }
+{
+    numbers
+        .iter()
+        .zip(numbers.iter().skip(1))
+        .all(|(before, next)| next <= before)
+}
+
+/// Whether each share is 1 to 1000 thousandths.
+fn are_thousandths(shares: &[u64]) -> bool
+    ensures { result ≡ list_all (is_between 1 1000) shares.now }
+{
+    shares.iter().all(|share| is_between(1, 1000, *share))
+}
+
+/// Whether the shares are together at most the whole pool, 1000.
+fn is_within_pool(shares: &[u64]) -> bool
+    requires { sum shares.now < 2 ^ 64 }
+    ensures { result ≡ nat_le (sum shares.now) 1000 }
+{
+    shares.iter().sum::<u64>() <= 1000
+}
+
+/// Whether the shares are lawful: 1 to 64 of them, each 1 to 1000, none greater than the one before,
+/// and together at most 1000.
+pub fn are_shares(shares: &[u64]) -> bool
+    ensures { result ≡ are_shares shares.now }
+{
+    is_between(1, 64, shares.len() as u64)
+        && are_thousandths(shares)
+        && is_falling(shares)
+        && is_within_pool(shares)
 }

@@ -1,13 +1,16 @@
 //! Plans of a tournament, given line by line.
 //!
-//! It stands on floor_text. `PlanDraft::line` names a wrong plan line by its item, and `PlanDraft::go`
-//! names the first item that is missing or wrong, else gives the `Plan`, which is right by its type.
+//! It stands on floor_text. `PlanDraft::line` takes a plan line, or names its item where the line is wrong and
+//! changes nothing. `PlanDraft::go` names the first item that is missing or wrong, else gives the `Plan`, which
+//! is right by its type.
 #![tactic(auto)]
 
 mod checks;
 mod draft;
 mod line;
 mod plan;
+#[cfg(test)]
+mod tests;
 
 pub use draft::PlanDraft;
 pub use line::{Game, PlanFault, PlanItem, PlanLine};

@@ -72,6 +72,26 @@ pub enum PlanLine {
     Shares(List<u64>),
 }
 
+impl PlanLine {
+    ghost use Rattle.level_plan.specs.Drafts.{item_of_line};
+
+    /// The item that the line gives.
+    pub(crate) fn item(&self) -> PlanItem
+        ensures { result ≡ item_of_line self.now }
+    {
+        match self {
+            PlanLine::Game(_) => PlanItem::Game,
+            PlanLine::Tables(_) => PlanItem::Tables,
+            PlanLine::Seats(_) => PlanItem::Seats,
+            PlanLine::Stack(_) => PlanItem::Stack,
+            PlanLine::Buyin(_) => PlanItem::Buyin,
+            PlanLine::Late(_) => PlanItem::Late,
+            PlanLine::Blinds { .. } => PlanItem::Blinds,
+            PlanLine::Shares(_) => PlanItem::Shares,
+        }
+    }
+}
+
 /// Why a plan line or a whole plan was not taken.
 #[derive(Clone, Copy, Debug, PartialEq, Eq)]
 pub enum PlanFault {

@@ -42,7 +42,9 @@ impl Model for Plan {
 
     ghost Value = { PlanTerms };
 
-    ghost view = { λ plan. record { game = plan.game; tables = plan.tables; seats = plan.seats; stack = plan.stack; buyin = plan.buyin; late = plan.late; blinds = plan.blinds; shares = plan.shares } };
+    ghost use Rattle.level_plan.specs.Fields.{terms_of};
 
-    ghost invariant = { λ plan. IsTrue (is_right (record { game = plan.game; tables = plan.tables; seats = plan.seats; stack = plan.stack; buyin = plan.buyin; late = plan.late; blinds = plan.blinds; shares = plan.shares })) };
+    ghost view = { terms_of };
+
+    ghost invariant = { λ fields. IsTrue (is_right (terms_of fields)) };
 }
