@@ -1,13 +1,12 @@
 -- What is read from a line is spelled as that line, and what is spelled so is read.
-use Rattle.std.proofs.Common.{◌≡◌, ℕ, ◌<◌, ◌≤◌, Bool, true, false, ◌&&◌, cond, leb, List, [], ◌∷◌, map, length, Option, Some, None, option_map, IsTrue, refl, sym, ap, ◌∙◌, subst, arith}
+use Rattle.std.proofs.Common.{◌≡◌, ℕ, ◌≤◌, Bool, true, false, ◌&&◌, cond, leb, List, [], ◌∷◌, map, length, Option, Some, None, option_map, refl, sym, ap, ◌∙◌, subst, arith}
 use Rattle.std.specs.Prelude.{codes}
 use Rattle.std.specs.Fmt.{decimal}
-use Rattle.std.specs.List.{AllByRecursion, list_all, join_with_byte}
+use Rattle.std.specs.List.{join_with_byte}
 use Rattle.std.specs.Option.{IfSome}
 use Rattle.std.proofs.lemmas.Bool.Decides.{nat_tests}
 use Rattle.std.proofs.lemmas.List.Splits.{join_with_byte-slice_split}
 use Rattle.std.proofs.lemmas.Option.{same_Some}
-use Rattle.floor_text.specs.Names.{is_name}
 use Rattle.floor_text.specs.Numbers.{IsLineNumber, number_of}
 use Rattle.floor_text.proofs.NumberLaws.{number_found, number_of-decimal}
 use Rattle.level_plan.specs.declared.line.Game.TheVariants.{Holdem, Omaha, Hilo}
@@ -20,10 +19,10 @@ use Rattle.floor_events.specs.declared.event.Item.TheVariants as found
 use Rattle.floor_events.specs.declared.keyword.Keyword.{Keyword}
 use Rattle.floor_events.specs.declared.keyword.Keyword.TheVariants as keywords
 use Rattle.floor_events.specs.Words.{words_of_line}
-use Rattle.floor_events.specs.Spelling.{game_word, plan_words, event_words, event_text, item_text, HasLineNumbers, HasLineParts, IsWritable}
+use Rattle.floor_events.specs.Spelling.{event_words, event_text, item_text, HasLineNumbers, HasLineParts, IsWritable}
 use Rattle.floor_events.specs.Reading.{◌>>=◌, keyword_list, keyword_of, name_of, no_word, three_words, numbers_of, one_number, one_game, blinds_of, share_numbers, shares_of, enter_of, numbered, event_of, item_of_words, item_of_line}
 use Rattle.floor_events.proofs.FieldLaws.{bind_found, map_found, test_found, meaning_found, name_found, name_again, three_words_found, one_number_found, one_number_again, one_game_found, one_game_again, numbers_found, numbers_again}
-use Rattle.floor_events.proofs.Spaces.{has_no_space, words_again, decimal_spaceless, decimals_spaceless, name_spaceless}
+use Rattle.floor_events.proofs.Spaces.{words_again, decimal_spaceless, decimals_spaceless, name_spaceless}
 
 abbrev keyword_text : Keyword → List ℕ
 keyword_text keywords.Game = codes "game"

@@ -21,3 +21,6 @@ pub use event::{Event, Item, Place};
 pub use read::read_item;
 pub use report::{Report, ReportOut, ReportSeat};
 pub use reports::write_report;
+
+#[cfg(test)]
+mod tests;

@@ -1,7 +1,5 @@
-use Rattle.std.proofs.Common.{◌≡◌, ◌∷◌, [], length, take, subst, sym, ap, ◌∙◌, arith}
+use Rattle.std.proofs.Common.{◌≡◌, [], length, take, sym, ap, ◌∙◌, arith}
 use Rattle.std.proofs.lemmas.List.{length-take}
-use Rattle.std.proofs.lemmas.Result.{err_from_is_err_and}
-use Rattle.floor_text.specs.Numbers.{number_of}
 use Rattle.floor_events.specs.Reading.{numbers_of}
 use Rattle.floor_events.proofs.Shares.{with_front, shares_too_many, shares_unread, shares_none, shares_all}
 use Rattle.floor_events.proofs.fields.share_numbers.Goals as goal

@@ -1,4 +1,3 @@
-use Rattle.std.proofs.Common.{ap, ◌∙◌, ◌++◌}
 use Rattle.std.proofs.lemmas.Result.{on_ok_weaker}
 use Rattle.floor_events.proofs.Growth.{Extends-before, joined}
 use Rattle.floor_events.proofs.word.push_words.Goals as goal
