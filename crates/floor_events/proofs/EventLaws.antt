@@ -1,5 +1,5 @@
 -- What is read from a line is spelled as that line, and what is spelled so is read.
-use Rattle.std.proofs.Common.{◌≡◌, ℕ, ◌≤◌, Bool, true, false, ◌&&◌, cond, leb, List, [], ◌∷◌, map, length, Option, Some, None, option_map, refl, sym, ap, ◌∙◌, subst, arith}
+use Rattle.std.proofs.Common.{◌≡◌, ℕ, ◌≤◌, true, ◌&&◌, cond, leb, List, [], ◌∷◌, map, length, Option, Some, None, option_map, refl, sym, ap, ◌∙◌, subst, arith}
 use Rattle.std.specs.Prelude.{codes}
 use Rattle.std.specs.Fmt.{decimal}
 use Rattle.std.specs.List.{join_with_byte}
@@ -22,7 +22,7 @@ use Rattle.floor_events.specs.Words.{words_of_line}
 use Rattle.floor_events.specs.Spelling.{event_words, event_text, item_text, HasLineNumbers, HasLineParts, IsWritable}
 use Rattle.floor_events.specs.Reading.{◌>>=◌, keyword_list, keyword_of, name_of, no_word, three_words, numbers_of, one_number, one_game, blinds_of, share_numbers, shares_of, enter_of, numbered, event_of, item_of_words, item_of_line}
 use Rattle.floor_events.proofs.FieldLaws.{bind_found, map_found, test_found, meaning_found, name_found, name_again, three_words_found, one_number_found, one_number_again, one_game_found, one_game_again, numbers_found, numbers_again}
-use Rattle.floor_events.proofs.Spaces.{words_again, decimal_spaceless, decimals_spaceless, name_spaceless}
+use Rattle.floor_events.proofs.Spaces.{and_parts, words_again, decimal_spaceless, decimals_spaceless, name_spaceless}
 
 abbrev keyword_text : Keyword → List ℕ
 keyword_text keywords.Game = codes "game"
@@ -64,10 +64,6 @@ blinds_found fields line h =
     let three = three_words_found fields words.0 words.1 in
     let whole : codes "blinds" ∷ fields ≡ codes "blinds" ∷ decimal small.0 ∷ decimal big.0 ∷ decimal unit.0 ∷ [] = cc (three, first.1, second.1, third.1) in
     line_respelled (codes "blinds" ∷ fields) (lines.Blinds small.0 big.0 unit.0) line (same_Some (lines.Blinds small.0 big.0 unit.0) line unit.2) (record { spelling = whole; parts = (first.0, second.0, third.0) })
-
-and_parts : (a b : Bool) → (a && b) ≡ true → (a ≡ true) × (b ≡ true)
-and_parts true b h = (refl, h)
-and_parts false b h = absurd cc
 
 shares_found : (fields : List (List ℕ)) (event : Event) → shares_of fields ≡ Some event → Spells (codes "shares" ∷ fields) event
 unfolding share_numbers

@@ -9,7 +9,8 @@ use Rattle.std.specs.Option.{is_some, option_copied}
 use Rattle.floor_events.specs.Words.{words_of_line, words_of_rest}
 use Rattle.floor_events.specs.Reading.{no_word}
 
-abbrev is_space : ℕ → Bool
+-- the byte between two words
+abbrev pub is_space : ℕ → Bool
 is_space byte = eqb byte 32
 
 rest_of : (bytes : List ℕ) (k : ℕ) → take (length bytes - k) (drop k bytes) ≡ drop k bytes

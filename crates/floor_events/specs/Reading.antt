@@ -15,6 +15,7 @@ use Rattle.floor_events.specs.declared.keyword.Keyword.{Keyword}
 use Rattle.floor_events.specs.declared.keyword.Keyword.TheVariants as keywords
 use Rattle.floor_events.specs.Words.{words_of_line}
 
+-- a step, and what follows where it found something
 infixl 10 ◌>>=◌
 abbrev pub ◌>>=◌ : {A B : Type 0} → Option A → (A → Option B) → Option B
 o >>= f = option_and_then f o
@@ -24,7 +25,7 @@ abbrev pub meaning : {A : Type 0} → List (List ℕ × A) → List ℕ → Opti
 meaning [] word = None
 meaning (entry ∷ entries) word = if bytes_eq word entry.0 then Some entry.1 else meaning entries word
 
--- the keywords, with which the lines of the events begin
+-- the words with which the lines of the events begin
 abbrev pub keyword_list : List (List ℕ × Keyword)
 keyword_list =
     (codes "game", keywords.Game) ∷
@@ -39,17 +40,19 @@ keyword_list =
     (codes "enter", keywords.Enter) ∷
     (codes "stop", keywords.Stop) ∷ []
 
+-- the keyword that a word is
 abbrev pub keyword_of : List ℕ → Option Keyword
 keyword_of word = meaning keyword_list word
 
--- the games, by their words
+-- the words of the games
 abbrev pub game_list : List (List ℕ × Game)
 game_list = (codes "holdem", Holdem) ∷ (codes "omaha", Omaha) ∷ (codes "hilo", Hilo) ∷ []
 
+-- the game that a word names
 abbrev pub game_of : List ℕ → Option Game
 game_of word = meaning game_list word
 
--- a name is its word
+-- the name that a word is
 abbrev pub name_of : List ℕ → Option (List ℕ)
 name_of word = if is_name word then Some word else None
 

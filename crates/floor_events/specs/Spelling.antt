@@ -90,6 +90,7 @@ HasLineParts events.Stop = Unit {0}
 abbrev pub IsWritableEvent : Event → Type 0
 IsWritableEvent event = HasLineParts event × (length (event_text event) ≤ 400)
 
+-- An item is writable where its event is.
 abbrev pub IsWritable : Item → Type 0
 IsWritable (found.Event event) = IsWritableEvent event
 
