@@ -1,5 +1,5 @@
 -- The one spelling of each event, answer and report. This project's own.
-use Rattle.std.specs.Prelude.{◌≡◌, ℕ, ◌≤◌, IsTrue, List, [], ◌∷◌, ◌++◌, length, map, codes, Option, Some, None}
+use Rattle.std.specs.Prelude.{ℕ, ◌≤◌, IsTrue, List, [], ◌∷◌, ◌++◌, length, map, codes, Option, Some, None}
 use Rattle.std.specs.List.{flat_map, join_with_byte, AllByRecursion}
 use Rattle.std.specs.Fmt.{decimal}
 use Rattle.floor_text.specs.Names.{is_name}
@@ -90,6 +90,7 @@ HasLineParts events.Stop = Unit {0}
 abbrev pub IsWritableEvent : Event → Type 0
 IsWritableEvent event = HasLineParts event × (length (event_text event) ≤ 400)
 
+-- An item is writable where its event is.
 abbrev pub IsWritable : Item → Type 0
 IsWritable (found.Event event) = IsWritableEvent event
 
@@ -116,16 +117,21 @@ out_line out = line_of_words (codes "*" ∷ codes "out" ∷ decimal out.place �
 abbrev pub amount_line : List ℕ → ℕ → List ℕ
 amount_line word amount = line_of_words (codes "*" ∷ word ∷ decimal amount ∷ [])
 
--- a report's text: the amounts, the players who are in, those who are out, and the end
-abbrev pub report_text : Report → List ℕ
-report_text report =
+-- the first lines of a report: what it is, the level and the amounts
+abbrev pub report_head : Report → List ℕ
+report_head report =
     line_of_words (codes "*" ∷ codes "report" ∷ []) ++
     (amount_line (codes "level") report.level ++
     (amount_line (codes "sold") report.sold ++
     (amount_line (codes "removed") report.removed ++
     (amount_line (codes "added") report.added ++
     (amount_line (codes "rest") report.rest ++
-    (amount_line (codes "play") report.play ++
-    (flat_map seat_line report.seats ++
-    (flat_map out_line report.outs ++
-    line_of_words (codes "*" ∷ codes "end" ∷ [])))))))))
+    amount_line (codes "play") report.play)))))
+
+-- the last line of a report
+abbrev pub report_end : List ℕ
+report_end = line_of_words (codes "*" ∷ codes "end" ∷ [])
+
+-- a report's text: its first lines, the players who are in, those who are out, and the end
+abbrev pub report_text : Report → List ℕ
+report_text report = report_head report ++ (flat_map seat_line report.seats ++ (flat_map out_line report.outs ++ report_end))

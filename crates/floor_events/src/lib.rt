@@ -5,15 +5,22 @@
 #![tactic(auto)]
 
 mod answer;
+mod answers;
 mod event;
+mod fields;
+mod keyword;
 mod read;
 mod report;
+mod reports;
 mod word;
 mod words;
-mod write;
 
 pub use answer::Answer;
+pub use answers::write_answer;
 pub use event::{Event, Item, Place};
 pub use read::read_item;
 pub use report::{Report, ReportOut, ReportSeat};
-pub use write::{write_answer, write_report};
+pub use reports::write_report;
+
+#[cfg(test)]
+mod tests;

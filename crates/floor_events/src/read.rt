@@ -1,15 +1,41 @@
 //! Lines are read as items.
 
-ghost use Rattle.std.specs.Prelude.{◌≡◌, Some, IfOk, IfSome, Option, ℕ, List};
+ghost use Rattle.std.specs.Prelude.{◌≡◌, Some, IfOk, IfSome};
 ghost use Rattle.floor_events.specs.declared.event.Item.{Item};
 ghost use Rattle.floor_events.specs.Spelling.{IsWritable, item_text};
-ghost use Rattle.floor_events.specs.Reading.{item_of_line};
+ghost use Rattle.floor_events.specs.Reading.{item_of_words, item_of_line};
 
-use crate::event::{Event, Item};
+use crate::event::Item;
+use crate::fields::read_event;
+use crate::keyword::read_keyword;
 use crate::words::Words;
-use floor_text::{List, Name, read_number};
-use level_plan::{Game, PlanLine};
 use std::alloc::{AllocError, Global};
+
+/// The longest line of the grammar, in bytes.
+const LONGEST: usize = 400;
+
+#[tactic(auto, unfolding(crate::specs::Reading::item_of_words))]
+fn read_words(alloc: Global, words: &mut Words<'_>) -> Result<Option<Item>, AllocError>
+    ensures { IfOk result (λ found. found ≡ item_of_words words.old) }
+{
+    let Some(word) = words.next_word() else {
+        return Ok(None);
+    };
+    let Some(keyword) = read_keyword(word) else {
+        return Ok(None);
+    };
+    Ok(read_event(alloc, keyword, words)?.map(Item::Event))
+}
+
+#[tactic(auto, unfolding(crate::specs::Reading::item_of_line))]
+fn read_line(alloc: Global, line: &[u8]) -> Result<Option<Item>, AllocError>
+    ensures { IfOk result (λ found. found ≡ item_of_line line.now) }
+{
+    if line.len() > LONGEST {
+        return Ok(None);
+    }
+    read_words(alloc, &mut Words::of_line(line))
+}
 
 /// Reads a line, without its line feed. `None` exactly where it is not in the grammar.
 pub fn read_item(alloc: Global, line: &[u8]) -> Result<Option<Item>, AllocError>
@@ -19,5 +45,5 @@ pub fn read_item(alloc: Global, line: &[u8]) -> Result<Option<Item>, AllocError>
     // What is writable and spelled so is read.
     ensures only { (item : Item) → IsWritable item → line.now ≡ item_text item → IfOk result (λ found. found ≡ Some item) }
 {
-    Ok(None)
+    read_line(alloc, line)
 }

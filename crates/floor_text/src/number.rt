@@ -4,7 +4,7 @@ ghost use Rattle.std.specs.Prelude.{◌≡◌, ℕ, Some, IfSome};
 ghost use Rattle.std.specs.Char.{is_ascii_digit};
 ghost use Rattle.std.specs.Fmt.{decimal};
 ghost use Rattle.std.specs.List.{list_all};
-ghost use Rattle.floor_text.specs.Numbers.{IsLineNumber, is_spelled};
+ghost use Rattle.floor_text.specs.Numbers.{IsLineNumber, is_spelled, number_of};
 
 /// The greatest number that a line may hold.
 const GREATEST: u64 = 9_007_199_254_740_991;
@@ -29,6 +29,7 @@ fn is_spelled(bytes: &[u8]) -> bool
 /// Reads a number: `0`, or a digit 1 to 9 and further digits, at most 9007199254740991.
 /// `None` exactly where the bytes are no such number. Each number has one spelling.
 pub fn read_number(bytes: &[u8]) -> Option<u64>
+    ensures exact { result ≡ number_of bytes.now }
     ensures found { IfSome result (λ n. IsLineNumber n × (bytes.now ≡ decimal n)) }
     ensures only { (n : ℕ) → IsLineNumber n → bytes.now ≡ decimal n → result ≡ Some n }
 {

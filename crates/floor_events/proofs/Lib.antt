@@ -1,0 +1,6 @@
+pub mod EventLaws
+pub mod FieldLaws
+pub mod Growth
+pub mod Shares
+pub mod Spaces
+pub mod WordSplits

@@ -1,0 +1,212 @@
+use super::*;
+use floor_text::{List, Name, Refusal};
+use level_plan::{Game, PlanItem, PlanLine};
+use std::test::Fail;
+
+/// Lines that are not in the grammar.
+static OUTSIDE: [&[u8]; 40] = [
+    b"",
+    b" ",
+    b"*",
+    b"* go",
+    b"go ",
+    b" go",
+    b"go\r",
+    b"go\0",
+    b"\0",
+    b"\xff",
+    b"stop\xff",
+    b"Go",
+    b"goes",
+    b"go now",
+    b"stop 1",
+    b"game",
+    b"game poker",
+    b"game holdem omaha",
+    b"game  holdem",
+    b"tables",
+    b"tables 06",
+    b"tables 00",
+    b"tables +6",
+    b"tables -1",
+    b"tables 1.5",
+    b"tables 6 ",
+    b"tables 6 6",
+    b"tables\t6",
+    b"tables six",
+    b"tables 9007199254740992",
+    b"blinds 50 100",
+    b"blinds 50 100 50 25",
+    b"blinds 50 100 050",
+    b"shares",
+    b"shares 500 x",
+    b"enter ann 1",
+    b"enter ann 1 2 3",
+    b"enter floor 1 2",
+    b"enter 1ann 1 2",
+    b"enter abcdefghijklmnopq 1 2",
+];
+
+#[test]
+fn lines_outside_the_grammar_hold_no_item(rt: HostRuntime) -> Result<(), Fail> {
+    for line in &OUTSIDE {
+        assert!(rt; read_item(rt.alloc(), line)?.is_none(), "{line:?}");
+    }
+    Ok(())
+}
+
+#[test]
+fn plan_lines_are_read(rt: HostRuntime) -> Result<(), Fail> {
+    let alloc = rt.alloc();
+    let lines: [&[u8]; 9] = [
+        b"game holdem",
+        b"game omaha",
+        b"game hilo",
+        b"tables 0",
+        b"seats 10",
+        b"stack 9007199254740991",
+        b"buyin 1000",
+        b"late 3",
+        b"blinds 50 100 25",
+    ];
+    for (place, line) in lines.iter().enumerate() {
+        let Some(Item::Event(Event::Plan(read))) = read_item(alloc, line)? else {
+            return Err("a plan line".into());
+        };
+        let right = match read {
+            PlanLine::Game(Game::Holdem) => place == 0,
+            PlanLine::Game(Game::Omaha) => place == 1,
+            PlanLine::Game(Game::Hilo) => place == 2,
+            PlanLine::Tables(n) => place == 3 && n == 0,
+            PlanLine::Seats(n) => place == 4 && n == 10,
+            PlanLine::Stack(n) => place == 5 && n == 9_007_199_254_740_991,
+            PlanLine::Buyin(n) => place == 6 && n == 1000,
+            PlanLine::Late(n) => place == 7 && n == 3,
+            PlanLine::Blinds { small, big, unit } => {
+                place == 8 && small == 50 && big == 100 && unit == 25
+            }
+            PlanLine::Shares(_) => false,
+        };
+        assert!(rt; right, "{line:?}");
+    }
+    Ok(())
+}
+
+#[test]
+fn other_events_are_read(rt: HostRuntime) -> Result<(), Fail> {
+    let alloc = rt.alloc();
+    assert!(rt; matches!(read_item(alloc, b"go")?, Some(Item::Event(Event::Go))));
+    assert!(rt; matches!(read_item(alloc, b"stop")?, Some(Item::Event(Event::Stop))));
+    let item = read_item(alloc, b"enter Ann_01 0 64")?;
+    let right = match &item {
+        Some(Item::Event(Event::Enter { name, table, seat })) => {
+            name.bytes() == b"Ann_01".as_slice() && *table == 0 && *seat == 64
+        }
+        _ => false,
+    };
+    assert!(rt; right);
+    Ok(())
+}
+
+/// How many shares a line holds, or `None` where it is no such line.
+fn share_count(line: &[u8], alloc: std::alloc::Global) -> Result<Option<usize>, Fail> {
+    match read_item(alloc, line)? {
+        Some(Item::Event(Event::Plan(PlanLine::Shares(shares)))) => Ok(Some(shares.items().len())),
+        _ => Ok(None),
+    }
+}
+
+#[test]
+fn shares_are_at_most_64(rt: HostRuntime) -> Result<(), Fail> {
+    let alloc = rt.alloc();
+    let mut line = Vec::from_slice(alloc, b"shares 500")?;
+    assert_eq!(rt; share_count(&line, alloc)?, Some(1));
+    for _ in 0..63 {
+        line.extend_from_slice(b" 1")?;
+    }
+    assert_eq!(rt; share_count(&line, alloc)?, Some(64));
+    line.extend_from_slice(b" 1")?;
+    assert_eq!(rt; share_count(&line, alloc)?, None);
+    Ok(())
+}
+
+#[test]
+fn lines_are_at_most_400_bytes(rt: HostRuntime) -> Result<(), Fail> {
+    let alloc = rt.alloc();
+    let mut line = Vec::from_slice(alloc, b"shares")?;
+    for _ in 0..62 {
+        line.extend_from_slice(b" 12345")?;
+    }
+    line.extend_from_slice(b" 1234567890 1234567890")?;
+    assert_eq!(rt; line.len(), 400);
+    assert_eq!(rt; share_count(&line, alloc)?, Some(64));
+    line.extend_from_slice(b"1")?;
+    assert_eq!(rt; share_count(&line, alloc)?, None);
+    Ok(())
+}
+
+#[test]
+fn answers_have_their_text(rt: HostRuntime) -> Result<(), Fail> {
+    let mut out = Vec::new(rt.alloc());
+    write_answer(&Answer::Ok, &mut out)?;
+    write_answer(&Answer::No(Refusal::Syntax), &mut out)?;
+    write_answer(&Answer::No(Refusal::NotTurn), &mut out)?;
+    write_answer(&Answer::No(Refusal::NotBuilt), &mut out)?;
+    write_answer(&Answer::PlanWrong(PlanItem::Seats), &mut out)?;
+    assert_eq!(rt;
+        out.as_slice(),
+        b"ok\nno 1 Syntax\nno 21 NotTurn\nno 99 NotBuilt\nno 4 PlanWrong seats\n".as_slice()
+    );
+    Ok(())
+}
+
+#[test]
+fn a_report_has_its_text(rt: HostRuntime) -> Result<(), Fail> {
+    let alloc = rt.alloc();
+    let mut seats = List::new(alloc);
+    seats.push(ReportSeat {
+        place: Place { table: 1, seat: 1 },
+        name: Name::read(b"ann").ok_or("a name")?,
+        stack: Some(1000),
+    })?;
+    seats.push(ReportSeat {
+        place: Place { table: 2, seat: 10 },
+        name: Name::read(b"bob").ok_or("a name")?,
+        stack: None,
+    })?;
+    let mut outs = List::new(alloc);
+    outs.push(ReportOut {
+        place: 3,
+        name: Name::read(b"cat").ok_or("a name")?,
+        prize: 250,
+    })?;
+    let report = Report {
+        level: 4,
+        sold: 3000,
+        removed: 75,
+        added: 100,
+        rest: 1000,
+        play: 2025,
+        seats,
+        outs,
+    };
+    let mut out = Vec::from_slice(alloc, b"ok\n")?;
+    write_report(&report, &mut out)?;
+    assert_eq!(rt; out.as_slice(), REPORT);
+    Ok(())
+}
+
+/// A report behind an answer.
+const REPORT: &[u8] = b"ok
+* report
+* level 4
+* sold 3000
+* removed 75
+* added 100
+* rest 1000
+* play 2025
+* seat 1 1 ann 1000
+* seat 2 10 bob play
+* out 3 cat 250
+* end
+";
