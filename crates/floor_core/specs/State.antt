@@ -1,11 +1,11 @@
 -- The state of a tournament, as plain lists. This project's own.
-use Rattle.std.specs.Prelude.{ℕ, Bool, false, ◌==◌, ◌&&◌, ◌||◌, nat_lt, List, [], Option, None, insert, count_by}
+use Rattle.std.specs.Prelude.{ℕ, Bool, false, ◌==◌, ◌&&◌, List, [], Option, None, insert, count_by}
 use Rattle.std.specs.List.{list_any}
 use Rattle.std.specs.Str.{bytes_eq}
 use Rattle.level_plan.specs.Plans.{PlanTerms}
 use Rattle.level_plan.specs.Drafts.{Draft, empty_draft}
-use Rattle.floor_events.specs.declared.event.Place.{Place}
 use Rattle.floor_core.specs.declared.seated.Seated.{Seated}
+use Rattle.floor_core.specs.Places.{comes_before}
 
 pub record State : Type 0 where
   -- what the accepted plan lines have given
@@ -32,10 +32,6 @@ is_known state name = list_any (λ known. bytes_eq known name) state.entries
 -- whether a player sits in a seat of a table
 abbrev pub is_taken : State → ℕ → ℕ → Bool
 is_taken state table seat = list_any (λ player. player.place.table == table && player.place.seat == seat) state.seats
-
--- by table, and at one table by seat
-abbrev pub comes_before : Place → Place → Bool
-comes_before first second = nat_lt first.table second.table || (first.table == second.table && nat_lt first.seat second.seat)
 
 -- a player sits down behind those who come before him
 abbrev pub sit_down : Seated → List Seated → List Seated

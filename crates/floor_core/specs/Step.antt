@@ -14,6 +14,7 @@ use Rattle.floor_events.specs.declared.answer.Answer.{Answer}
 use Rattle.floor_events.specs.declared.answer.Answer.TheVariants.{Ok, No, PlanWrong}
 use Rattle.floor_events.specs.declared.event.Event.{Event}
 use Rattle.floor_events.specs.declared.event.Event.TheVariants.{Plan, Go, Enter, Stop}
+use Rattle.floor_core.specs.declared.seated.Seated.{Seated}
 use Rattle.floor_core.specs.State.{State, is_known, is_taken, sit_down}
 
 -- an answer, and whether its check holds
@@ -31,11 +32,11 @@ is_planned state = is_some state.plan
 
 -- whether the plan has a number of an item from 1 to what it says
 abbrev pub plan_has : (PlanTerms → ℕ) → State → ℕ → Bool
-plan_has item state n = option_map_or (λ plan. is_between 1 (item plan) n) false state.plan
+plan_has item state n = option_map_or (λ plan. is_between 1 (item plan) n) state.plan false
 
 -- whether the level is above the last one for entries
 abbrev pub is_late : State → Bool
-is_late state = option_map_or (λ plan. nat_lt plan.late state.level) false state.plan
+is_late state = option_map_or (λ plan. nat_lt plan.late state.level) state.plan false
 
 -- the check of a whole plan: its wrong item, where there is one
 abbrev pub go_check : Option PlanItem → Check
@@ -91,7 +92,11 @@ answer_to state event = told (first_that_holds (checks state event))
 
 -- the stack that a player starts with
 abbrev pub starting_stack : State → ℕ
-starting_stack state = option_map_or (λ plan. plan.stack) 0 state.plan
+starting_stack state = option_map_or (λ plan. plan.stack) state.plan 0
+
+-- a player as he sits down, with the stack that a player starts with
+abbrev pub newcomer : State → List ℕ → ℕ → ℕ → Seated
+newcomer state name table seat = record { place = record { table = table; seat = seat }; name = name; stack = starting_stack state }
 
 -- what an accepted event makes of the state
 abbrev pub effect : State → Event → State
@@ -99,7 +104,7 @@ effect state (Plan line) = record state { draft = draft_after state.draft line }
 effect state Go = record state { plan = Some (plan_of state.draft); level = 1 }
 effect state (Enter name table seat) = record state {
     entries = state.entries ++ name ∷ [];
-    seats = sit_down (record { place = record { table = table; seat = seat }; name = name; stack = starting_stack state }) state.seats }
+    seats = sit_down (newcomer state name table seat) state.seats }
 effect state Stop = record state { stopped = true }
 
 -- whether an answer accepts its event

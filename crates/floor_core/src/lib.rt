@@ -4,8 +4,13 @@
 //! check that holds, and changes the state just as the definition says; `Tournament::report` reports it.
 #![tactic(auto)]
 
+mod answers;
 mod seated;
 mod tournament;
 
 pub use seated::Seated;
 pub use tournament::Tournament;
+
+
+#[cfg(test)]
+mod tests;
