@@ -1,0 +1,90 @@
+-- What holds of a run between two lines, and what it comes to at the end.
+use Rattle.std.proofs.Common.{◌≡◌, ℕ, ◌+◌, ◌<◌, ◌≤◌, refl, sym, subst, ap, ◌∙◌, inl, inr, List, [], ◌∷◌, ◌++◌, length, arith}
+use Rattle.std.specs.Prelude.{Option, Some, None, IfSome, IsSomeAnd, ◌⊎◌, Result, Ok, Err, OnOk, Contains}
+use Rattle.floor_text.specs.Lines.{lines_of_bytes}
+use Rattle.floor_text.specs.Outside.{Rose}
+use Rattle.floor_core.specs.State.{State, first_state}
+use Rattle.floor_offline.specs.declared.fault.Fault.{Fault}
+use Rattle.floor_offline.specs.declared.fault.Fault.TheVariants as faults
+use Rattle.floor_offline.specs.Endings.{input_limit, fault_status}
+use Rattle.floor_offline.specs.Replay.{items_of_bytes, final_text, replay_text}
+use Rattle.floor_offline.specs.Promise.{whole_text, Keeps, Counts, GivesMore}
+
+-- The whole text stays what it was, the bytes taken are counted, and no count of faults has fallen.
+pub record IsRunning (first_whole whole first_left left : Option (List ℕ)) (taken limit first_input input first_out out : ℕ) : Type 0 where
+  pub keeps : Keeps first_whole whole
+  pub counts : Counts first_left left taken
+  pub at_limit : limit ≡ input_limit
+  pub input_later : first_input ≤ input
+  pub out_later : first_out ≤ out
+
+pub keeps_same : (text : Option (List ℕ)) → Keeps text text
+keeps_same None = tt
+keeps_same (Some text) = refl
+
+pub keeps_on : (first second third : Option (List ℕ)) → Keeps first second → Keeps second third → Keeps first third
+keeps_on None second third here next = tt
+keeps_on (Some text) second third here next = let P : Option (List ℕ) → Type 0 = λ known. Keeps known third in subst P here next
+
+pub counts_first : (left : Option (List ℕ)) → Counts left left 0
+counts_first None = tt
+counts_first (Some bytes) = omega arith
+
+-- a source that told at first tells still, so it is at its end
+pub ends : (first left rest : Option (List ℕ)) (taken : ℕ) → Counts first left taken → IfSome left (λ _. rest ≡ Some []) → IfSome first (λ _. rest ≡ Some [])
+ends None left rest taken counts end = tt
+ends (Some bytes) None rest taken counts end = absurd counts
+ends (Some bytes) (Some more) rest taken counts end = end
+
+-- at the end as many bytes were taken as there were
+pub within_at_end : (first left rest : Option (List ℕ)) (taken taken_at_end limit : ℕ) → Counts first left taken → IfSome left (λ _. rest ≡ Some []) → Counts first rest taken_at_end → limit ≡ input_limit → taken_at_end ≤ limit → IfSome first (λ bytes. length bytes ≤ input_limit)
+within_at_end None left rest taken taken_at_end limit counts end counted at_limit within = tt
+within_at_end (Some bytes) None rest taken taken_at_end limit counts end counted at_limit within = absurd counts
+within_at_end (Some bytes) (Some more) rest taken taken_at_end limit counts end counted at_limit within =
+    let P : Option (List ℕ) → Type 0 = λ known. IsSomeAnd known (λ left. taken_at_end + length left ≡ length bytes) in
+    let all : taken_at_end + 0 ≡ length bytes = subst P end counted in
+    omega (arith, all, at_limit, within)
+
+-- more bytes were taken than the limit
+pub gives_more : (first left : Option (List ℕ)) (taken limit : ℕ) → Counts first left taken → limit ≡ input_limit → limit < taken → GivesMore input_limit first left
+gives_more None left taken limit counts at_limit more = tt
+gives_more (Some bytes) None taken limit counts at_limit more = absurd counts
+gives_more (Some bytes) (Some rest) taken limit counts at_limit more = omega (arith, counts, at_limit, more)
+
+-- a count that rose since a later moment rose since an earlier one
+pub rose_since : (first before now : ℕ) → first ≤ before → Rose before now → Rose first now
+rose_since first before now later (inl rose) = inl (omega arith)
+rose_since first before now later (inr stands) = inr stands
+
+-- with nothing left, the whole text is what is written and then the report
+pub text_at_end : (state : State) (left written rest told all : Option (List ℕ))
+    → Keeps (whole_text first_state [] left written) (whole_text state [] rest told)
+    → IfSome left (λ _. rest ≡ Some [])
+    → IfSome told (λ text. all ≡ Some (text ++ final_text state))
+    → IfSome left (λ bytes. IfSome written (λ text. all ≡ Some (text ++ replay_text bytes)))
+unfolding whole_text lines_of_bytes
+text_at_end state None written rest told all keeps end report = tt
+text_at_end state (Some bytes) None rest told all keeps end report = tt
+text_at_end state (Some bytes) (Some before) rest None all keeps end report =
+    let P : Option (List ℕ) → Type 0 = λ known. whole_text state [] known None ≡ Some (before ++ replay_text bytes) in
+    let none = subst P end keeps in cc
+text_at_end state (Some bytes) (Some before) rest (Some text) all keeps end report =
+    let P : Option (List ℕ) → Type 0 = λ known. whole_text state [] known (Some text) ≡ Some (before ++ replay_text bytes) in
+    report ∙ subst P end keeps
+
+-- what holds anyway holds at `Ok`, and so does what follows from what holds there
+pub on_ok : {T E : Type 0} (result : Result T E) {P : Type 0} → P → OnOk result P
+on_ok (Ok value) holds = holds
+on_ok (Err fault) holds = tt
+
+pub on_ok_from : {T E : Type 0} (result : Result T E) {P Q : Type 0} → (P → Q) → OnOk result P → OnOk result Q
+on_ok_from (Ok value) step holds = step holds
+on_ok_from (Err fault) step holds = tt
+
+-- a fault's status is one of those told
+pub status_of_fault : (fault : Fault) → Contains (0 ∷ 2 ∷ 3 ∷ 4 ∷ 5 ∷ 8 ∷ []) (fault_status fault)
+status_of_fault faults.Usage = (1, omega arith, refl)
+status_of_fault faults.Read = (2, omega arith, refl)
+status_of_fault faults.Write = (3, omega arith, refl)
+status_of_fault faults.NoMemory = (4, omega arith, refl)
+status_of_fault faults.InputTooLong = (5, omega arith, refl)

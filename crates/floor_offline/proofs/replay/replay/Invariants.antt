@@ -1,0 +1,18 @@
+use Rattle.std.proofs.Common.{[]}
+use Rattle.floor_text.specs.Reading.{bytes_ahead}
+use Rattle.floor_core.specs.State.{first_state}
+use Rattle.floor_offline.specs.Promise.{whole_text}
+use Rattle.floor_offline.proofs.Running.{IsRunning}
+use Rattle.floor_offline.proofs.replay.replay.Given as goal
+
+abbrev pub invariant-lines : goal.invariant-lines
+invariant-lines g l = IsRunning
+    (whole_text first_state [] (g.I.Source.left l.fn.input) (g.O.Sink.written l.fn.out))
+    (whole_text l.tournament l.reader.held (g.I.Source.left l.input) (g.O.Sink.written l.out))
+    (g.I.Source.left l.fn.input) (g.I.Source.left l.input)
+    l.reader.taken l.reader.limit
+    (g.I.Source.faults l.fn.input) (g.I.Source.faults l.input)
+    (g.O.Sink.faults l.fn.out) (g.O.Sink.faults l.out)
+
+abbrev pub decreases-lines : goal.decreases-lines
+decreases-lines g l = bytes_ahead l.reader

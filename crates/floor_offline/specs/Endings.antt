@@ -1,0 +1,54 @@
+-- How a run ends. This project's own.
+use Rattle.std.specs.Prelude.{◌≡◌, ℕ, ◌==◌, ◌⊎◌, List, [], ◌∷◌, ◌++◌, map, take, codes, Option, Some, if◌then◌else◌}
+use Rattle.floor_text.specs.Outside.{Rose}
+use Rattle.floor_text.specs.declared.line_reader.ReadEnd.{ReadEnd}
+use Rattle.floor_text.specs.declared.line_reader.ReadEnd.TheVariants.{ReadFault, InputTooLong}
+use Rattle.floor_offline.specs.declared.fault.Fault.{Fault}
+use Rattle.floor_offline.specs.declared.fault.Fault.TheVariants as faults
+
+-- the most bytes that an input may have
+abbrev pub input_limit : ℕ
+input_limit = 268435456
+
+-- the exit status of a run that ended by a fault
+abbrev pub fault_status : Fault → ℕ
+fault_status faults.Usage = 2
+fault_status faults.Read = 3
+fault_status faults.Write = 4
+fault_status faults.NoMemory = 5
+fault_status faults.InputTooLong = 8
+
+-- the line that tells a fault
+abbrev pub fault_line : Fault → List ℕ
+fault_line faults.Usage = codes "usage: replay / view NAME / simulate N / serve PORT DESKS" ++ 10 ∷ []
+fault_line faults.Read = codes "read fault" ++ 10 ∷ []
+fault_line faults.Write = codes "write fault" ++ 10 ∷ []
+fault_line faults.NoMemory = codes "out of memory" ++ 10 ∷ []
+fault_line faults.InputTooLong = codes "input too long" ++ 10 ∷ []
+
+-- the line of a status, which is that of its fault
+abbrev pub status_line : ℕ → List ℕ
+status_line status =
+    if status == 2 then fault_line faults.Usage else
+    (if status == 3 then fault_line faults.Read else
+    (if status == 4 then fault_line faults.Write else
+    (if status == 5 then fault_line faults.NoMemory else
+    (if status == 8 then fault_line faults.InputTooLong else []))))
+
+-- why no line could be read, as a fault of the run
+abbrev pub fault_of_read_end : ReadEnd → Fault
+fault_of_read_end ReadFault = faults.Read
+fault_of_read_end InputTooLong = faults.InputTooLong
+
+-- A line was put whole, or a front of it and then the sink failed in this call.
+abbrev pub PutsLine : List ℕ → List ℕ → Option (List ℕ) → ℕ → ℕ → Type 0
+PutsLine before line written faults_before faults_now =
+    (written ≡ Some (before ++ line)) ⊎ ((n : ℕ) × (written ≡ Some (before ++ take n line)) × Rose faults_before faults_now)
+
+-- the faults of writing: the sink failed, or memory ran out
+abbrev pub IsOfWriting : Fault → Type 0
+IsOfWriting faults.Usage = ⊥
+IsOfWriting faults.Read = ⊥
+IsOfWriting faults.Write = Unit {0}
+IsOfWriting faults.NoMemory = Unit {0}
+IsOfWriting faults.InputTooLong = ⊥

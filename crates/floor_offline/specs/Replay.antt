@@ -1,0 +1,54 @@
+-- What a stream of bytes is answered. This project's own.
+use Rattle.std.specs.Prelude.{ℕ, List, [], ◌∷◌, ◌++◌, map, Option, Some, None, option_and_then}
+use Rattle.std.specs.List.{flat_map}
+use Rattle.floor_text.specs.declared.refusal.Refusal.TheVariants.{Syntax}
+use Rattle.floor_text.specs.Lines.{lines_of_bytes}
+use Rattle.floor_events.specs.declared.answer.Answer.{Answer}
+use Rattle.floor_events.specs.declared.answer.Answer.TheVariants.{No}
+use Rattle.floor_events.specs.declared.event.Item.{Item}
+use Rattle.floor_events.specs.declared.event.Item.TheVariants.{Event}
+use Rattle.floor_events.specs.Reading.{item_of_line}
+use Rattle.floor_events.specs.Spelling.{answer_text, report_text}
+use Rattle.floor_core.specs.State.{State, first_state}
+use Rattle.floor_core.specs.Step.{answer_to, state_after}
+use Rattle.floor_core.specs.Report.{report_of}
+
+-- the item of a line, where the line is not too long and in the grammar
+abbrev pub item_of_cut : Option (List ℕ) → Option Item
+item_of_cut line = option_and_then item_of_line line
+
+-- an item is answered by the step; a line that holds none is refused as no line of the grammar
+abbrev pub answer_to_item : State → Option Item → Answer
+answer_to_item state None = No Syntax
+answer_to_item state (Some (Event event)) = answer_to state event
+
+-- an item changes the state by the step; a line that holds none changes nothing
+abbrev pub state_after_item : State → Option Item → State
+state_after_item state None = state
+state_after_item state (Some (Event event)) = state_after state event
+
+-- the answers to items in order
+abbrev pub answers_to_items : State → List (Option Item) → List Answer
+answers_to_items state [] = []
+answers_to_items state (item ∷ items) = answer_to_item state item ∷ answers_to_items (state_after_item state item) items
+
+-- the state after items in order
+abbrev pub state_after_items : State → List (Option Item) → State
+state_after_items state [] = state
+state_after_items state (item ∷ items) = state_after_items (state_after_item state item) items
+
+-- the items of the lines of a stream
+abbrev pub items_of_bytes : List ℕ → List (Option Item)
+items_of_bytes bytes = map item_of_cut (lines_of_bytes bytes)
+
+-- the text of the report at the end
+unfoldable pub final_text : State → List ℕ
+final_text state = report_text (report_of state)
+
+-- what items are answered from a state on: the text of each answer, and then of the report
+abbrev pub text_from : State → List (Option Item) → List ℕ
+text_from state items = flat_map answer_text (answers_to_items state items) ++ final_text (state_after_items state items)
+
+-- what a stream is answered from the first state on
+abbrev pub replay_text : List ℕ → List ℕ
+replay_text bytes = text_from first_state (items_of_bytes bytes)

@@ -1,0 +1,79 @@
+//! Why a run ends otherwise than well.
+
+ghost use Rattle.std.specs.Prelude.{◌≡◌};
+ghost use Rattle.floor_text.specs.declared.line_reader.ReadEnd.TheVariants as read_ends;
+ghost use Rattle.floor_offline.specs.declared.fault.Fault.TheVariants.{Write, NoMemory};
+ghost use Rattle.floor_offline.specs.Endings.{fault_status, fault_line, fault_of_read_end};
+
+use floor_text::{Failed, ReadEnd};
+use std::alloc::AllocError;
+
+/// Why a run ends otherwise than well.
+#[derive(Clone, Copy, Debug, PartialEq, Eq)]
+pub enum Fault {
+    /// The words are no written command.
+    Usage,
+    /// The source failed.
+    Read,
+    /// The sink of the answers failed.
+    Write,
+    /// Memory ran out.
+    NoMemory,
+    /// The input has more bytes than the limit.
+    InputTooLong,
+}
+
+impl Fault {
+    /// The exit status.
+    pub fn status(self) -> u8
+        ensures { result ≡ fault_status self }
+    {
+        match self {
+            Fault::Usage => 2,
+            Fault::Read => 3,
+            Fault::Write => 4,
+            Fault::NoMemory => 5,
+            Fault::InputTooLong => 8,
+        }
+    }
+
+    /// The line that tells it.
+    pub fn line(self) -> &'static [u8]
+        ensures { result.now ≡ fault_line self }
+    {
+        match self {
+            Fault::Usage => b"usage: replay / view NAME / simulate N / serve PORT DESKS\n",
+            Fault::Read => b"read fault\n",
+            Fault::Write => b"write fault\n",
+            Fault::NoMemory => b"out of memory\n",
+            Fault::InputTooLong => b"input too long\n",
+        }
+    }
+}
+
+impl From<AllocError> for Fault {
+    ghost from_gives = { λ _ fault. fault ≡ NoMemory };
+
+    fn from(_: AllocError) -> Fault {
+        Fault::NoMemory
+    }
+}
+
+impl From<Failed> for Fault {
+    ghost from_gives = { λ _ fault. fault ≡ Write };
+
+    fn from(_: Failed) -> Fault {
+        Fault::Write
+    }
+}
+
+impl From<ReadEnd> for Fault {
+    ghost from_gives = { λ end fault. fault ≡ fault_of_read_end end };
+
+    fn from(end: ReadEnd) -> Fault {
+        match end {
+            ReadEnd::ReadFault => Fault::Read,
+            ReadEnd::InputTooLong => Fault::InputTooLong,
+        }
+    }
+}

@@ -1,0 +1,11 @@
+//! Tournaments run offline: lines in, answers and a report out.
+//!
+//! It stands on floor_core, floor_events and floor_text. `run_offline` is the whole program over any source and
+//! sinks, and its contract says what the program promises: what it wrote is `replay_text` of what it read.
+#![tactic(auto)]
+
+mod fault;
+mod replay;
+mod run;
+
+pub use run::run_offline;

@@ -1,0 +1,131 @@
+//! Lines are answered one by one, and at the end comes the report.
+
+ghost use Rattle.std.specs.Prelude.{◌≡◌, ◌≤◌, ◌<◌, ◌++◌, List, ℕ, length, Option, Ok, true, false, [], Some, IfOk, IfSome, OnOk, OnErr, IfErr, IsErrOf};
+ghost use Rattle.floor_text.specs.Outside.{Rose};
+ghost use Rattle.floor_text.specs.Reading.{bytes_ahead};
+ghost use Rattle.floor_events.specs.Spelling.{answer_text};
+ghost use Rattle.floor_events.specs.Reading.{item_of_line};
+ghost use Rattle.floor_offline.specs.Endings.{input_limit, IsOfWriting};
+ghost use Rattle.floor_offline.specs.Replay.{answer_to_item, state_after_item, final_text, replay_text};
+ghost use Rattle.floor_offline.specs.Promise.{whole_text, Keeps, Counts, GivesMore};
+
+use crate::fault::Fault;
+use floor_core::Tournament;
+use floor_events::{Answer, Item, read_item, write_answer, write_report};
+use floor_text::{LineReader, Next, Refusal, Sink, Source};
+use std::alloc::{AllocError, Global};
+
+/// The most bytes that an input may have.
+const INPUT_LIMIT: u64 = 268_435_456;
+
+/// The answer to a line of at most 400 bytes.
+fn answer_line(
+    alloc: Global,
+    tournament: &mut Tournament,
+    line: &[u8],
+) -> Result<Answer, AllocError>
+    ensures answer { IfOk result (λ answer. answer ≡ answer_to_item tournament.old (item_of_line line.now)) }
+    ensures state { OnOk result (tournament.new ≡ state_after_item tournament.old (item_of_line line.now)) }
+{
+    match read_item(alloc, line)? {
+        Some(Item::Event(event)) => tournament.apply(&event),
+        None => Ok(Answer::No(Refusal::Syntax)),
+    }
+}
+
+/// Puts a text, by one put.
+fn put_text<O: Sink>(text: &[u8], out: &mut O) -> Result<(), Fault>
+    ensures ok { OnOk result (IfSome (O.written out.old) (λ before. O.written out.new ≡ Some (before ++ text.now))) }
+    ensures later { O.faults out.old ≤ O.faults out.new }
+    ensures write { OnErr result (Rose (O.faults out.old) (O.faults out.new)) }
+    ensures others { IfErr result IsOfWriting }
+{
+    out.put(text)?;
+    Ok(())
+}
+
+/// Puts an answer, by one put.
+fn put_answer<O: Sink>(text: &mut Vec<u8>, answer: &Answer, out: &mut O) -> Result<(), Fault>
+    ensures ok { OnOk result (IfSome (O.written out.old) (λ before. O.written out.new ≡ Some (before ++ answer_text answer.now))) }
+    ensures later { O.faults out.old ≤ O.faults out.new }
+    ensures write { IsErrOf result Fault.Write → Rose (O.faults out.old) (O.faults out.new) }
+    ensures others { IfErr result IsOfWriting }
+{
+    text.clear();
+    write_answer(answer, text)?;
+    put_text(text, out)
+}
+
+/// Puts the report, by one put.
+#[tactic(auto, unfolding(crate::specs::Replay::final_text))]
+fn put_report<O: Sink>(
+    tournament: &Tournament,
+    text: &mut Vec<u8>,
+    out: &mut O,
+) -> Result<(), Fault>
+    ensures ok { OnOk result (IfSome (O.written out.old) (λ before. O.written out.new ≡ Some (before ++ final_text tournament.now))) }
+    ensures later { O.faults out.old ≤ O.faults out.new }
+    ensures write { IsErrOf result Fault.Write → Rose (O.faults out.old) (O.faults out.new) }
+    ensures others { IfErr result IsOfWriting }
+{
+    text.clear();
+    write_report(&tournament.report()?, text)?;
+    put_text(text, out)
+}
+
+/// Answers the next line, and tells whether there was one.
+fn answer_next<I: Source, O: Sink>(
+    alloc: Global,
+    reader: &mut LineReader,
+    tournament: &mut Tournament,
+    text: &mut Vec<u8>,
+    input: &mut I,
+    out: &mut O,
+) -> Result<bool, Fault>
+    // What is written and what is to come make the same text.
+    ensures keeps { OnOk result (Keeps (whole_text tournament.old reader.old.held (I.left input.old) (O.written out.old))
+        (whole_text tournament.new reader.new.held (I.left input.new) (O.written out.new))) }
+    ensures shorter { result ≡ Ok true → bytes_ahead reader.new < bytes_ahead reader.old }
+
+    // At the end nothing is held or left, and no more was taken than the limit allows.
+    ensures end { result ≡ Ok false → reader.new.held ≡ [] }
+    ensures source_end { result ≡ Ok false → IfSome (I.left input.old) (λ _. I.left input.new ≡ Some []) }
+    ensures within { result ≡ Ok false → reader.new.taken ≤ reader.new.limit }
+
+    // The bytes taken are counted, whatever comes.
+    ensures counts { (first : Option (List ℕ)) → Counts first (I.left input.old) reader.old.taken → Counts first (I.left input.new) reader.new.taken }
+    ensures limit { reader.new.limit ≡ reader.old.limit }
+    ensures too_long { IsErrOf result Fault.InputTooLong → reader.new.limit < reader.new.taken }
+
+    // The other faults have their causes.
+    ensures input_later { I.faults input.old ≤ I.faults input.new }
+    ensures out_later { O.faults out.old ≤ O.faults out.new }
+    ensures read { IsErrOf result Fault.Read → Rose (I.faults input.old) (I.faults input.new) }
+    ensures write { IsErrOf result Fault.Write → Rose (O.faults out.old) (O.faults out.new) }
+    ensures words { IsErrOf result Fault.Usage → ⊥ }
+{
+    let answer = match reader.next_line(input)? {
+        Next::End => return Ok(false),
+        Next::TooLong => Answer::No(Refusal::Syntax),
+        Next::Line => answer_line(alloc, tournament, reader.line())?,
+    };
+    put_answer(text, &answer, out)?;
+    Ok(true)
+}
+
+/// Answers all lines of the input, and puts the report behind the answers.
+pub fn replay<I: Source, O: Sink>(alloc: Global, input: &mut I, out: &mut O) -> Result<(), Fault>
+    ensures end { OnOk result (IfSome (I.left input.old) (λ _. I.left input.new ≡ Some [])) }
+    ensures text { OnOk result (IfSome (I.left input.old) (λ bytes. IfSome (O.written out.old) (λ before. O.written out.new ≡ Some (before ++ replay_text bytes)))) }
+    ensures within { OnOk result (IfSome (I.left input.old) (λ bytes. length bytes ≤ input_limit)) }
+    ensures too_long { IsErrOf result Fault.InputTooLong → GivesMore input_limit (I.left input.old) (I.left input.new) }
+    ensures read { IsErrOf result Fault.Read → Rose (I.faults input.old) (I.faults input.new) }
+    ensures write { IsErrOf result Fault.Write → Rose (O.faults out.old) (O.faults out.new) }
+    ensures words { IsErrOf result Fault.Usage → ⊥ }
+{
+    let mut reader = LineReader::new(alloc, INPUT_LIMIT)?;
+    let mut tournament = Tournament::new(alloc)?;
+    let mut text = Vec::new(alloc);
+    'lines: while answer_next(alloc, &mut reader, &mut tournament, &mut text, input, out)? {}
+    put_report(&tournament, &mut text, out)
+}

@@ -1,0 +1,77 @@
+//! The top call.
+
+ghost use Rattle.std.specs.Prelude.{◌≡◌, ◌≢◌, ◌↔◌, ◌≤◌, ◌∷◌, [], ◌++◌, ℕ, length, map, codes, string_bytes, Some, IfSome, IsTrue, Contains};
+ghost use Rattle.floor_text.specs.Outside.{Rose};
+ghost use Rattle.floor_offline.specs.Endings.{input_limit, status_line, PutsLine};
+ghost use Rattle.floor_offline.specs.Replay.{replay_text};
+ghost use Rattle.floor_offline.specs.Promise.{GivesMore};
+
+use crate::fault::Fault;
+use crate::replay::replay;
+use floor_text::{Sink, Source};
+use std::alloc::Global;
+
+/// Whether the words are the command `replay` and nothing else.
+fn is_replay(words: &[String]) -> bool
+    ensures { IsTrue result ↔ (map string_bytes words.now ≡ codes "replay" ∷ []) }
+{
+    match words {
+        [word] => word.as_str() == "replay",
+        _ => false,
+    }
+}
+
+/// Runs a command over a source and two sinks, and answers the exit status.
+///
+/// `replay` answers each line of the input by a line on `out`, and at the end of the input puts the report there.
+///
+/// | status | comes | err |
+/// |---|---|---|
+/// | 0 | the input was read to its end and all was written | nothing |
+/// | 2 | exactly where the words are not the list `replay`; nothing is taken, and nothing put to `out` | the usage line |
+/// | 3 | only where the source's count of faults rose | `read fault` |
+/// | 4 | only where the count of faults of `out` rose | `write fault` |
+/// | 5 | memory ran out | `out of memory` |
+/// | 8 | only where more than 268,435,456 bytes were taken | `input too long` |
+///
+/// A failure of `err` changes no status.
+pub fn run_offline<I: Source, O: Sink, E: Sink>(
+    alloc: Global,
+    words: &Vec<String>,
+    input: &mut I,
+    out: &mut O,
+    err: &mut E,
+) -> u8
+    ensures statuses { Contains (0 ∷ 2 ∷ 3 ∷ 4 ∷ 5 ∷ 8 ∷ []) result }
+
+    // Status 0: the input was read to its end, and what was put is its replay.
+    ensures read_to_end { result ≡ 0 → IfSome (I.left input.old) (λ _. I.left input.new ≡ Some []) }
+    ensures replayed { result ≡ 0 → IfSome (I.left input.old) (λ bytes. IfSome (O.written out.old) (λ before. O.written out.new ≡ Some (before ++ replay_text bytes))) }
+    ensures within_limit { result ≡ 0 → IfSome (I.left input.old) (λ bytes. length bytes ≤ input_limit) }
+
+    // Status 2: exactly where the words are no written command, and then nothing is touched but err.
+    ensures usage { (result ≡ 2) ↔ (map string_bytes words.now.items ≢ codes "replay" ∷ []) }
+    ensures untouched { result ≡ 2 → (input.new ≡ input.old) × (out.new ≡ out.old) }
+
+    // The other statuses have their causes.
+    ensures read_fault { result ≡ 3 → Rose (I.faults input.old) (I.faults input.new) }
+    ensures write_fault { result ≡ 4 → Rose (O.faults out.old) (O.faults out.new) }
+    ensures input_too_long { result ≡ 8 → GivesMore input_limit (I.left input.old) (I.left input.new) }
+
+    // Err holds nothing at status 0, and else the status's line.
+    ensures quiet { result ≡ 0 → err.new ≡ err.old }
+    ensures told { result ≢ 0 → IfSome (E.written err.old) (λ before. PutsLine before (status_line result) (E.written err.new) (E.faults err.old) (E.faults err.new)) }
+{
+    let ran = if is_replay(words) {
+        replay(alloc, input, out)
+    } else {
+        Err(Fault::Usage)
+    };
+    match ran {
+        Ok(()) => 0,
+        Err(fault) => {
+            let _ = err.put(fault.line());
+            fault.status()
+        }
+    }
+}
