@@ -1,0 +1,35 @@
+//! The program that runs tournaments offline: `run_offline` over the words that it was given and the standard
+//! streams.
+#![tactic(auto)]
+
+use floor_offline::run_offline;
+use floor_text::{ReaderSource, Sink, WriterSink};
+use std::io::{self, ErrorKind};
+use std::process::ExitCode;
+use std::rt::Env;
+
+/// The words behind the program's own name.
+fn command_words(rt: &(impl Env + AllocGlobal)) -> io::Result<Vec<String>> {
+    let mut words = Vec::new(rt.alloc());
+    for word in std::env::args(rt)?.skip(1) {
+        words.push(word)?;
+    }
+    Ok(words)
+}
+
+fn main(rt: HostRuntime) -> ExitCode {
+    let mut input = ReaderSource::new(rt.stdin());
+    let mut out = WriterSink::new(rt.stdout());
+    let mut err = WriterSink::new(rt.stderr());
+    let words = match command_words(&rt) {
+        Ok(words) => words,
+        Err(error) if error.kind() == ErrorKind::OutOfMemory => {
+            let _ = err.put(b"out of memory\n");
+            return ExitCode::from(5);
+        }
+        // Words that are no text are no written command.
+        Err(_) => Vec::new(rt.alloc()),
+    };
+    let status = run_offline(rt.alloc(), &words, &mut input, &mut out, &mut err);
+    ExitCode::from(status)
+}
