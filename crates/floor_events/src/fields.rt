@@ -1,6 +1,6 @@
 //! The fields of an event, the words behind its keyword, are read.
 
-ghost use Rattle.std.specs.Prelude.{◌≡◌, ◌≤◌, IfOk, IfSome, option_map, take};
+ghost use Rattle.std.specs.Prelude.{◌≡◌, ◌≤◌, IfOk, OnErr, IfSome, IsSome, option_map, take};
 ghost use Rattle.floor_events.specs.Reading.{name_of, game_of, one_number, one_game, blinds_of, share_numbers, shares_of, enter_of, event_of};
 
 use crate::event::Event;
@@ -75,7 +75,8 @@ fn share_numbers(fields: &mut Words<'_>, shares: &mut [u64; MOST_SHARES]) -> Opt
 }
 
 fn read_shares(alloc: Global, fields: &mut Words<'_>) -> Result<Option<Event>, AllocError>
-    ensures { IfOk result (λ found. found ≡ shares_of fields.old) }
+    ensures exact { IfOk result (λ found. found ≡ shares_of fields.old) }
+    ensures err { OnErr result (IsSome (shares_of fields.old)) }
 {
     let mut shares = [0; MOST_SHARES];
     let Some(count) = share_numbers(fields, &mut shares) else {
@@ -96,13 +97,15 @@ fn read_enter(fields: &mut Words<'_>) -> Option<Event>
     Some(Event::Enter { name, table, seat })
 }
 
-/// Reads an event from the words behind its keyword. `None` exactly where it is not in the grammar.
+/// Reads an event from the words behind its keyword. `None` exactly where it is not in the grammar; memory is
+/// wanted only where it is.
 pub fn read_event(
     alloc: Global,
     keyword: Keyword,
     fields: &mut Words<'_>,
 ) -> Result<Option<Event>, AllocError>
-    ensures { IfOk result (λ found. found ≡ event_of keyword fields.old) }
+    ensures exact { IfOk result (λ found. found ≡ event_of keyword fields.old) }
+    ensures err { OnErr result (IsSome (event_of keyword fields.old)) }
 {
     match keyword {
         Keyword::Game => Ok(one_game(fields).map(|game| Event::Plan(PlanLine::Game(game)))),
