@@ -9,3 +9,6 @@ mod replay;
 mod run;
 
 pub use run::run_offline;
+
+#[cfg(test)]
+mod tests;
