@@ -1,8 +1,8 @@
 -- What the answers and the states of a step come to.
-use Rattle.std.proofs.Common.{◌≡◌, ℕ, ◌<◌, ◌≤◌, ◌+◌, ◌*◌, true, false, refl, subst, sym, ap, ◌∙◌, List, [], ◌∷◌, ◌++◌, length, Some, None, arith, rules, length-append}
+use Rattle.std.proofs.Common.{◌≡◌, ℕ, ◌<◌, ◌≤◌, true, false, refl, subst, ap, List, [], ◌∷◌, length, Some, None, arith, length-append}
 use Rattle.std.proofs.lemmas.Bool.{and_parts}
 use borrow.Author.Tests.{leb-true}
-use Rattle.std.specs.Prelude.{Bool, cond, nat_lt, nat_le, IsSome, Option, sum_by}
+use Rattle.std.specs.Prelude.{Bool, cond, nat_lt, nat_le, IsSome}
 use Rattle.std.proofs.lemmas.List.Sums.{sum_by-insert}
 use Rattle.floor_text.specs.declared.refusal.Refusal.{Refusal}
 use Rattle.floor_text.specs.declared.refusal.Refusal.TheVariants.{PlanLate, NotBuilt}
@@ -13,11 +13,10 @@ use Rattle.level_plan.specs.Items.{is_between}
 use Rattle.level_plan.specs.Plans.{PlanTerms, is_right}
 use Rattle.floor_events.specs.declared.answer.Answer.{Answer}
 use Rattle.floor_events.specs.declared.answer.Answer.TheVariants.{Ok, No, PlanWrong}
-use Rattle.floor_events.specs.declared.event.Event.TheVariants.{Plan, Go, Enter, Stop}
-use Rattle.floor_core.specs.State.{State, is_known, is_taken, sit_down}
+use Rattle.floor_events.specs.declared.event.Event.TheVariants.{Plan, Enter}
+use Rattle.floor_core.specs.State.{State, is_known, is_taken}
 use Rattle.floor_events.specs.declared.event.Event.{Event}
-use Rattle.floor_core.specs.Step.{told, first_that_holds, checks, answer_to, state_after, is_accepted, is_planned, is_not_built, effect, newcomer, starting_stack}
-use Rattle.floor_core.specs.Report.{sold, rest}
+use Rattle.floor_core.specs.Step.{told, first_that_holds, checks, answer_to, state_after, is_accepted, is_planned, is_not_built, effect}
 use Rattle.floor_core.specs.Valid.{IsValid}
 
 -- a plan line by its tests: whether there is a plan, whether the line is wrong, and whether it is carried out yet
@@ -53,10 +52,11 @@ unbuilt_line s line = unbuilt_by_tests (is_planned s) (is_wrong_line s.draft lin
 -- after an entry the tournament is still valid
 pub valid_entered : (s : State) (name : List ℕ) (table seat : ℕ) → IsValid s → IsSome s.plan → length s.entries < 640 → IsValid (effect s (Enter name table seat))
 valid_entered s name table seat valid planned room = record {
-    right = valid.right;
-    closed = λ none. let found : IsSome {T = PlanTerms} None = subst IsSome none planned in cc;
-    few = simp length-append (omega arith);
-    kept = simp (length-append, sum_by-insert) (omega (arith, valid.kept)) }
+  right = valid.right;
+  closed = λ none. let found : IsSome {T = PlanTerms} None = subst IsSome none planned in cc;
+  few = simp length-append (omega arith);
+  kept = simp (length-append, sum_by-insert) (omega (arith, valid.kept));
+}
 
 -- an accepted event has its effect
 pub accepted_state : (s : State) (event : Event) → answer_to s event ≡ Ok → state_after s event ≡ effect s event

@@ -1,5 +1,5 @@
 -- The order of places. This project's own.
-use Rattle.std.specs.Prelude.{ℕ, Bool, ◌==◌, ◌&&◌, ◌||◌, nat_lt}
+use Rattle.std.specs.Prelude.{Bool, ◌==◌, ◌&&◌, ◌||◌, nat_lt}
 use Rattle.floor_events.specs.declared.event.Place.{Place}
 
 -- by table, and at one table by seat

@@ -1,5 +1,5 @@
 -- What is reported of a state. This project's own.
-use Rattle.std.specs.Prelude.{ℕ, ◌*◌, List, [], length, map, sum_by, Option, Some}
+use Rattle.std.specs.Prelude.{ℕ, ◌*◌, [], length, map, sum_by, Some}
 use Rattle.floor_events.specs.declared.report.Report.{Report}
 use Rattle.floor_events.specs.declared.report.ReportSeat.{ReportSeat}
 use Rattle.floor_core.specs.declared.seated.Seated.{Seated}

@@ -1,9 +1,9 @@
 -- A run of a list of events. This project's own.
-use Rattle.std.specs.Prelude.{ℕ, ◌*◌, List, [], ◌∷◌, length, sum_by}
+use Rattle.std.specs.Prelude.{List, [], ◌∷◌}
 use Rattle.floor_events.specs.declared.answer.Answer.{Answer}
 use Rattle.floor_events.specs.declared.event.Event.{Event}
 use Rattle.floor_core.specs.State.{State}
-use Rattle.floor_core.specs.Step.{answer_to, state_after, starting_stack}
+use Rattle.floor_core.specs.Step.{answer_to, state_after}
 
 -- the state after all events of a list
 abbrev pub run : State → List Event → State

@@ -1,7 +1,6 @@
 -- The step: what an event is answered, and what it makes of the state. This project's own.
-use Rattle.std.specs.Prelude.{◌≡◌, ℕ, Bool, true, false, ◌&&◌, not, nat_le, nat_lt, List, [], ◌∷◌, ◌++◌, length, Option, Some, None, is_some, if◌then◌else◌}
+use Rattle.std.specs.Prelude.{ℕ, Bool, true, false, not, nat_le, nat_lt, List, [], ◌∷◌, ◌++◌, length, Option, Some, None, is_some, if◌then◌else◌}
 use Rattle.std.specs.Option.{option_map_or}
-use Rattle.floor_text.specs.declared.refusal.Refusal.{Refusal}
 use Rattle.floor_text.specs.declared.refusal.Refusal.TheVariants.{NoPlan, PlanLate, Stopped, NameKnown, NoTable, NoSeat, SeatTaken, LateClosed, ListFull, NotBuilt}
 use Rattle.level_plan.specs.declared.line.Game.TheVariants.{Holdem, Omaha, Hilo}
 use Rattle.level_plan.specs.declared.line.PlanItem.{PlanItem}
@@ -103,8 +102,9 @@ abbrev pub effect : State → Event → State
 effect state (Plan line) = record state { draft = draft_after state.draft line }
 effect state Go = record state { plan = Some (plan_of state.draft); level = 1 }
 effect state (Enter name table seat) = record state {
-    entries = state.entries ++ name ∷ [];
-    seats = sit_down (newcomer state name table seat) state.seats }
+  entries = state.entries ++ name ∷ [];
+  seats = sit_down (newcomer state name table seat) state.seats;
+}
 effect state Stop = record state { stopped = true }
 
 -- whether an answer accepts its event

@@ -1,5 +1,5 @@
 -- What holds of a tournament at every moment. This project's own.
-use Rattle.std.specs.Prelude.{◌≡◌, ℕ, ◌*◌, ◌≤◌, true, List, [], length, sum_by, Option, None, Some}
+use Rattle.std.specs.Prelude.{◌≡◌, ◌≤◌, true, [], length, None, Some}
 use Rattle.level_plan.specs.Plans.{PlanTerms, is_right}
 use Rattle.floor_core.specs.State.{State}
 use Rattle.floor_core.specs.Report.{sold, rest}

@@ -2,15 +2,17 @@
 //!
 //! It stands on floor_events, level_plan and floor_text. `Tournament::apply` answers an event by the first
 //! check that holds, and changes the state just as the definition says; `Tournament::report` reports it.
+//! `chips_are_kept` is a law of the step over any list of events.
 #![tactic(auto)]
 
 mod answers;
+mod laws;
 mod seated;
 mod tournament;
 
+pub use laws::chips_are_kept;
 pub use seated::Seated;
 pub use tournament::Tournament;
-
 
 #[cfg(test)]
 mod tests;

@@ -11,7 +11,10 @@ fn nothing_is_entered_before_the_plan(rt: HostRuntime) -> Result<(), Fail> {
         assert_eq!(rt; answer, Answer::No(Refusal::NotBuilt));
     }
     let report = tournament.report()?;
-    assert_eq!(rt; (report.level, report.sold, report.rest, report.play), (0, 0, 0, 0));
+    assert_eq!(rt;
+        (report.level, report.sold, report.rest, report.play),
+        (0, 0, 0, 0)
+    );
     assert_eq!(rt; report.seats.items().len(), 0);
     Ok(())
 }

@@ -1,5 +1,3 @@
-use Rattle.std.proofs.Common.{◌≡◌, ◌<◌, length}
-use Rattle.std.specs.Prelude.{IsSome}
 use Rattle.floor_core.specs.contracts.tournament.Tournament.{the_view}
 use Rattle.floor_core.proofs.Steps.{valid_entered}
 use Rattle.floor_core.proofs.tournament.Tournament.enter.Goals as goal

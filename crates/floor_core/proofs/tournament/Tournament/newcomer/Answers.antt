@@ -1,4 +1,4 @@
-use Rattle.std.proofs.Common.{◌≡◌, ◌<◌, ◌∙◌, sym, length, rules}
+use Rattle.std.proofs.Common.{◌<◌, ◌∙◌, sym, length, rules}
 use Rattle.std.proofs.lemmas.Bool.{lt-leb}
 use Rattle.floor_core.specs.contracts.tournament.Tournament.{the_view}
 use Rattle.floor_core.proofs.Steps.{lawful_entry}
