@@ -52,20 +52,23 @@ module _ {Val E : Type 0} (history : Val → List E) (caller_of : E → ℕ) (n 
   closes id v words slots out whole f =
       let s : St = f.0 in let r = f.1.0 in let at = f.1.1 in
       let none_left : (j : ℕ) (a : View E) → j ≢ id → HasView s.views j a → a.shares ≡ [] = λ j a ne h.
-          let two = two_le_sum_by shares_of s.views id j v a (λ e. ne (sym e)) at h in empty_list a.shares (omega (arith, r.numbers.once)) in
+      let two = two_le_sum_by shares_of s.views id j v a (λ e. ne (sym e)) at h in empty_list a.shares (omega (arith, r.numbers.once)) in
       let quiet : (j : ℕ) (a : View E) → HasView s.views j a → a.served ≡ false = λ j a h. dite (ℕ_discrete j id)
-          (λ e. ap (λ (z : View E). z.served) (same_view s.views id a v (subst (λ k. HasView s.views k a) e h) at) ∙ out)
-          (λ ne. false_unless a.served (λ is. let t = r.served.ticket j a h is in let i = r.spent j a h (none_left j a ne h) in absurd (cc (t, i)))) in
+      (λ e. ap (λ (z : View E). z.served) (same_view s.views id a v (subst (λ k. HasView s.views k a) e h) at) ∙ out)
+      (λ ne. false_unless a.served (λ is. let t = r.served.ticket j a h is in let i = r.spent j a h (none_left j a ne h) in absurd (cc (t, i)))) in
       let home = r.slot.home quiet in
-      let Own : Share E → Type 0 = λ z. (z.number < n) × (r.keeper z.number ≡ id) × (z.own ≡ entries_by caller_of z.number r.now) in
-      (home.0, f.4 0 (Some home.0) (ap (λ hs. get_elem? hs 0) home.1), record {
-        begins = each_map (λ (z : Share E). IsPrefix z.seen r.now) (λ (z : Share E). IsPrefix z.seen (history home.0)) v.shares (λ z p. subst (IsPrefix z.seen) (sym home.2) p) (r.longest.begin_it id v at);
-        own = each_map Own (λ (z : Share E). entries_by caller_of z.number (history home.0) ≡ z.own) v.shares (λ z p. ap (entries_by caller_of z.number) home.2 ∙ sym p.2) (r.numbers.own id v at);
-        numbers = λ k l. let t = r.numbers.kept k l in let Is : Share E → Type 0 = λ z. z.number ≡ k in dite (ℕ_discrete (r.keeper k) id)
-            (λ e. subst (λ (z : View E). AtLeastOne Is z.shares) (same_view s.views id t.0 v (subst (λ i. HasView s.views i t.0) e t.1) at) t.2)
-            (λ ne. absurd (subst (AtLeastOne Is) (none_left (r.keeper k) t.0 ne t.1) t.2));
-        others = subst (Each (λ e. (caller_of e < n) ⊎ (caller_of e ≡ OPENER))) (sym home.2) r.numbers.others;
-      })
+      let Own : Share E → Type 0 = λ z. (z.number < n) × (r.keeper z.number ≡ id) × (z.own ≡ entries_by caller_of z.number r.now) in (
+        home.0,
+        f.4 0 (Some home.0) (ap (λ hs. get_elem? hs 0) home.1),
+        record {
+          begins = each_map (λ (z : Share E). IsPrefix z.seen r.now) (λ (z : Share E). IsPrefix z.seen (history home.0)) v.shares (λ z p. subst (IsPrefix z.seen) (sym home.2) p) (r.longest.begin_it id v at);
+          own = each_map Own (λ (z : Share E). entries_by caller_of z.number (history home.0) ≡ z.own) v.shares (λ z p. ap (entries_by caller_of z.number) home.2 ∙ sym p.2) (r.numbers.own id v at);
+          numbers = λ k l. let t = r.numbers.kept k l in let Is : Share E → Type 0 = λ z. z.number ≡ k in dite (ℕ_discrete (r.keeper k) id)
+              (λ e. subst (λ (z : View E). AtLeastOne Is z.shares) (same_view s.views id t.0 v (subst (λ i. HasView s.views i t.0) e t.1) at) t.2)
+              (λ ne. absurd (subst (AtLeastOne Is) (none_left (r.keeper k) t.0 ne t.1) t.2));
+          others = subst (Each (λ e. (caller_of e < n) ⊎ (caller_of e ≡ OPENER))) (sym home.2) r.numbers.others;
+        },
+      )
 
 module _ {Val E : Type 0} {g : Ghosts Val E} (history : Val → List E) (caller_of : E → ℕ) (n : ℕ) where
   -- the value that is given fits each pass that was taken in

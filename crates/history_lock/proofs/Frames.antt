@@ -74,8 +74,8 @@ module _ {E : Type 0} where
         (λ j a ne h. each_map (λ (z : Share E). IsPrefix z.seen now) (λ (z : Share E). IsPrefix z.seen now') a.shares (λ z p. prefix_trans z.seen now now' p longer) (r.begin_it j a h));
     is_seen = ⊎_elim (λ e. here e) (λ (t : (now ≡ now') × (y.seen ≡ x.seen)). dite (ℕ_discrete r.is_seen.0 id)
         (λ e. let u = r.is_seen.1 in let is : u ≡ v = same_view views id u v (subst (λ j. HasView views j u) e r.is_seen.2) at in
-            let mine : AtLeastOne (λ (z : Share E). z.seen ≡ now) (x ∷ []) = subst (AtLeastOne (λ (z : Share E). z.seen ≡ now)) (ap (λ (z : View E). z.shares) is ∙ has) r.is_seen.3 in
-            ⊎_elim (λ s. here (t.1 ∙ (s ∙ t.0))) (λ no. absurd no) mine)
+        let mine : AtLeastOne (λ (z : Share E). z.seen ≡ now) (x ∷ []) = subst (AtLeastOne (λ (z : Share E). z.seen ≡ now)) (ap (λ (z : View E). z.shares) is ∙ has) r.is_seen.3 in
+        ⊎_elim (λ s. here (t.1 ∙ (s ∙ t.0))) (λ no. absurd no) mine)
         (λ ne. (r.is_seen.0, r.is_seen.1, set_else views id r.is_seen.0 w ne ∙ r.is_seen.2, subst (λ (l : List E). AtLeastOne (λ (z : Share E). z.seen ≡ l) r.is_seen.1.shares) t.0 r.is_seen.3))) newest;
     known = each_set (λ (j : ℕ) (a : View E). a.known ≤ length now') views id w knows (λ j a ne h. omega (arith, r.known j a h, prefix_length now now' longer));
   }
@@ -95,9 +95,9 @@ module _ {E : Type 0} where
       let mine : P id x = (subst (Each (P id)) has (r.own id v at)).0 in record {
         kept = λ k l. let t = r.kept k l in dite (ℕ_discrete (keeper k) id)
             (λ e. let is : t.0 ≡ v = same_view views id t.0 v (subst (λ j. HasView views j t.0) e t.1) at in
-                let old : AtLeastOne (λ (z : Share E). z.number ≡ k) (x ∷ []) = subst (AtLeastOne (λ (z : Share E). z.number ≡ k)) (ap (λ (z : View E). z.shares) is ∙ has) t.2 in
-                let new : AtLeastOne (λ (z : Share E). z.number ≡ k) (y ∷ []) = ⊎_elim (λ s. inl (number ∙ s)) (λ no. absurd no) old in
-                (w, subst (λ j. HasView (set views id w) j w) (sym e) (set_here views id w (within views id v at)), subst (AtLeastOne (λ (z : Share E). z.number ≡ k)) (sym has') new))
+            let old : AtLeastOne (λ (z : Share E). z.number ≡ k) (x ∷ []) = subst (AtLeastOne (λ (z : Share E). z.number ≡ k)) (ap (λ (z : View E). z.shares) is ∙ has) t.2 in
+            let new : AtLeastOne (λ (z : Share E). z.number ≡ k) (y ∷ []) = ⊎_elim (λ s. inl (number ∙ s)) (λ no. absurd no) old in
+            (w, subst (λ j. HasView (set views id w) j w) (sym e) (set_here views id w (within views id v at)), subst (AtLeastOne (λ (z : Share E). z.number ≡ k)) (sym has') new))
             (λ ne. (t.0, set_else views id (keeper k) w ne ∙ t.1, t.2));
         own = each_set (λ (j : ℕ) (a : View E). Each (Q j) a.shares) views id w
             (subst (Each (Q id)) (sym has') ((subst (λ k. k < n) (sym number) mine.0, ap keeper number ∙ mine.1, own ∙ ap (λ k. entries_by caller_of k now') (sym number)), tt))

@@ -70,7 +70,7 @@ module _ {Val E : Type 0} (history : Val → List E) (caller_of : E → ℕ) (n 
             ticket = each_set (λ (j : ℕ) (a : View E). a.served ≡ true → a.ticket ≡ Some r.serving) s.views id w (λ is'. absurd (cc (is', out))) (λ j a ne h. r.served.ticket j a h);
             one = λ i j a b h k is' also.
                 let old : (j : ℕ) (a : View E) → HasView (set s.views id w) j a → a.served ≡ true → HasView s.views j a = each_set (λ (j : ℕ) (a : View E). a.served ≡ true → HasView s.views j a) s.views id w
-                    (λ is'. absurd (cc (is', out))) (λ j a ne h is'. h) in
+                (λ is'. absurd (cc (is', out))) (λ j a ne h is'. h) in
                 r.served.one i j a b (old i a h is') (old j b k also) is' also;
           };
           slot = slot_stays history r.now s.homes s.views id v w at out out r.slot;
@@ -101,51 +101,51 @@ module _ {Val E : Type 0} (history : Val → List E) (caller_of : E → ℕ) (n 
       let is : found ≡ r.serving = word s r 1 in
       dite (ℕ_discrete found ticket)
       (λ hit. let here : v.ticket ≡ Some r.serving = drew ∙ ap (λ (k : ℕ). Some k) (sym hit ∙ is) in
-          let quiet = none_served s r id v at here out in
-          let home = r.slot.home quiet in
-          let val : Val = home.0 in
-          let y : Share E = record x { seen = history val } in
-          let w : View E = served_view v x (history val) in
-          let mine = owned s r id v x at has in
-          let found' : IsFound history caller_of x v.known val = record {
-            seen = subst (IsPrefix x.seen) (sym home.2) (begins s r id v x at has);
-            own = ap (entries_by caller_of x.number) home.2 ∙ sym mine.2;
-            known = subst (λ (l : List E). v.known ≤ length l) (sym home.2) (r.longest.known id v at);
-          } in (
-            w,
-            takes 0 (Some val),
-            ap (λ hs. get_elem? hs 0) home.1,
-            record {
-              now = r.now;
-              ticket = r.ticket;
-              serving = r.serving;
-              calls = r.calls;
-              keeper = r.keeper;
-              limit = r.limit;
-              words = set-get_or s.words 1 0 ∙ r.words;
-              tickets = tickets_stay n r.ticket r.serving s.views id v w at refl r.tickets;
-              longest = seen_grows r.now r.now s.views id v w x y at has refl (prefix_self r.now) r.longest.fits (subst (λ l. IsPrefix l r.now) (sym home.2) (prefix_self r.now)) (r.longest.known id v at) (inl home.2) r.longest;
-              numbers = numbers_stay caller_of n r.now r.now r.keeper s.views id v w x y at has refl refl mine.2 (λ k ne. refl) r.numbers.others r.numbers;
-              served = record {
-                ticket = each_set (λ (j : ℕ) (a : View E). a.served ≡ true → a.ticket ≡ Some r.serving) s.views id w (λ _. here) (λ j a ne h. r.served.ticket j a h);
-                one = λ i j a b h k is' also.
-                    let only : (j : ℕ) (a : View E) → HasView (set s.views id w) j a → a.served ≡ true → j ≡ id = each_set (λ (j : ℕ) (a : View E). a.served ≡ true → j ≡ id) s.views id w
-                        (λ _. refl) (λ j a ne h is'. absurd (cc (is', quiet j a h))) in
-                    only i a h is' ∙ sym (only j b k also);
-              };
-              slot = record {
-                home = λ nobody. absurd (cc (nobody id w (set_here s.views id w (within s.views id v at))));
-                out = each_set (λ (j : ℕ) (a : View E). a.served ≡ true → (set s.homes 0 none ≡ none ∷ []) × Each (λ (z : Share E). z.seen ≡ r.now) a.shares) s.views id w
-                    (λ _. (ap (λ hs. set hs 0 none) home.1, (home.2, tt))) (λ j a ne h is'. absurd (cc (is', quiet j a h)));
-              };
-              spent = spent_stays s.views id w y refl r.spent;
-            },
-            (λ t share has_ticket has_share.
-                let same_ticket : ticket ≡ t = cc (drew, has_ticket) in
-                let same_share : x ≡ share = ap first_share (sym has ∙ has_share) in
-                let test : (found == t) ≡ true = let e : found ≡ t = hit ∙ same_ticket in grind (arith, nat_tests) in
-                subst (λ b. LookTells b (v, []) (w, (0, Some val) ∷ []) share) (sym test) (val, ap (λ (z : Share E). let m : M = (served_view v z (history val), (0, Some val) ∷ []) in m) same_share, subst (λ (z : Share E). IsFound history caller_of z v.known val) same_share found')),
-          ))
+      let quiet = none_served s r id v at here out in
+      let home = r.slot.home quiet in
+      let val : Val = home.0 in
+      let y : Share E = record x { seen = history val } in
+      let w : View E = served_view v x (history val) in
+      let mine = owned s r id v x at has in
+      let found' : IsFound history caller_of x v.known val = record {
+        seen = subst (IsPrefix x.seen) (sym home.2) (begins s r id v x at has);
+        own = ap (entries_by caller_of x.number) home.2 ∙ sym mine.2;
+        known = subst (λ (l : List E). v.known ≤ length l) (sym home.2) (r.longest.known id v at);
+      } in (
+        w,
+        takes 0 (Some val),
+        ap (λ hs. get_elem? hs 0) home.1,
+        record {
+          now = r.now;
+          ticket = r.ticket;
+          serving = r.serving;
+          calls = r.calls;
+          keeper = r.keeper;
+          limit = r.limit;
+          words = set-get_or s.words 1 0 ∙ r.words;
+          tickets = tickets_stay n r.ticket r.serving s.views id v w at refl r.tickets;
+          longest = seen_grows r.now r.now s.views id v w x y at has refl (prefix_self r.now) r.longest.fits (subst (λ l. IsPrefix l r.now) (sym home.2) (prefix_self r.now)) (r.longest.known id v at) (inl home.2) r.longest;
+          numbers = numbers_stay caller_of n r.now r.now r.keeper s.views id v w x y at has refl refl mine.2 (λ k ne. refl) r.numbers.others r.numbers;
+          served = record {
+            ticket = each_set (λ (j : ℕ) (a : View E). a.served ≡ true → a.ticket ≡ Some r.serving) s.views id w (λ _. here) (λ j a ne h. r.served.ticket j a h);
+            one = λ i j a b h k is' also.
+                let only : (j : ℕ) (a : View E) → HasView (set s.views id w) j a → a.served ≡ true → j ≡ id = each_set (λ (j : ℕ) (a : View E). a.served ≡ true → j ≡ id) s.views id w
+                (λ _. refl) (λ j a ne h is'. absurd (cc (is', quiet j a h))) in
+                only i a h is' ∙ sym (only j b k also);
+          };
+          slot = record {
+            home = λ nobody. absurd (cc (nobody id w (set_here s.views id w (within s.views id v at))));
+            out = each_set (λ (j : ℕ) (a : View E). a.served ≡ true → (set s.homes 0 none ≡ none ∷ []) × Each (λ (z : Share E). z.seen ≡ r.now) a.shares) s.views id w
+                (λ _. (ap (λ hs. set hs 0 none) home.1, (home.2, tt))) (λ j a ne h is'. absurd (cc (is', quiet j a h)));
+          };
+          spent = spent_stays s.views id w y refl r.spent;
+        },
+        (λ t share has_ticket has_share.
+            let same_ticket : ticket ≡ t = cc (drew, has_ticket) in
+            let same_share : x ≡ share = ap first_share (sym has ∙ has_share) in
+            let test : (found == t) ≡ true = let e : found ≡ t = hit ∙ same_ticket in grind (arith, nat_tests) in
+            subst (λ b. LookTells b (v, []) (w, (0, Some val) ∷ []) share) (sym test) (val, ap (λ (z : Share E). let m : M = (served_view v z (history val), (0, Some val) ∷ []) in m) same_share, subst (λ (z : Share E). IsFound history caller_of z v.known val) same_share found')),
+      ))
       (λ miss. (
         v,
         keeps,
@@ -170,11 +170,11 @@ module _ {Val E : Type 0} (history : Val → List E) (caller_of : E → ℕ) (n 
       let more : drop (length x.seen) left ≡ added = ap (drop (length x.seen)) grown ∙ drop_append x.seen added in
       let longer : IsPrefix r.now left = (added, sym whole) in
       let own : y.own ≡ entries_by caller_of x.number left =
-          ap (λ l. x.own ++ l) more ∙ (ap (λ l. l ++ added) mine.2 ∙ (sym (entries_by_grown caller_of x.number r.now added theirs) ∙ ap (entries_by caller_of x.number) (sym whole))) in
+      ap (λ l. x.own ++ l) more ∙ (ap (λ l. l ++ added) mine.2 ∙ (sym (entries_by_grown caller_of x.number r.now added theirs) ∙ ap (entries_by caller_of x.number) (sym whole))) in
       let known : v.known ≤ length left = omega (arith, r.longest.known id v at, prefix_length r.now left longer) in
       let Fits : E → Type 0 = λ e. (caller_of e < n) ⊎ (caller_of e ≡ OPENER) in
       let all : Each Fits left = subst (Each Fits) (sym whole) (each_append Fits r.now added r.numbers.others
-          (each_map (λ e. caller_of e ≡ x.number) Fits added (λ e h. inl (subst (λ k. k < n) (sym h) mine.0)) theirs)) in (
+      (each_map (λ e. caller_of e ≡ x.number) Fits added (λ e h. inl (subst (λ k. k < n) (sym h) mine.0)) theirs)) in (
         w,
         keeps,
         tt,
@@ -198,8 +198,11 @@ module _ {Val E : Type 0} (history : Val → List E) (caller_of : E → ℕ) (n 
           };
           spent = spent_stays s.views id w y refl r.spent;
         },
-        (refl, λ share has_share. let same : x ≡ share = ap first_share (sym has ∙ has_share) in
-            ap (λ (z : Share E). let m : M = (record v { shares = share_left z left ∷ [] }, (0, None) ∷ []) in m) same),
+        (
+          refl,
+          λ share has_share. let same : x ≡ share = ap first_share (sym has ∙ has_share) in
+              ap (λ (z : Share E). let m : M = (record v { shares = share_left z left ∷ [] }, (0, None) ∷ []) in m) same,
+        ),
       )
 
   pub passes_on : (slots id : ℕ) (v : View E) (x : Share E) (val : Val) → v.shares ≡ x ∷ [] → v.served ≡ true → history val ≡ x.seen
@@ -212,7 +215,7 @@ module _ {Val E : Type 0} (history : Val → List E) (caller_of : E → ℕ) (n 
       let w : View E = record v { ticket = None; served = false } in
       let mine = owned s r id v x at has in
       let quiet : (j : ℕ) (a : View E) → HasView (set s.views id w) j a → a.served ≡ false = each_set (λ (j : ℕ) (a : View E). a.served ≡ false) s.views id w refl
-          (λ j a ne h. false_unless a.served (λ is'. ne (r.served.one j id a v h at is' inside))) in (
+      (λ j a ne h. false_unless a.served (λ is'. ne (r.served.one j id a v h at is' inside))) in (
         w,
         gives,
         tt,

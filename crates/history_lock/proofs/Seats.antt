@@ -131,8 +131,8 @@ module _ {Val E : Type 0} (history : Val → List E) (caller_of : E → ℕ) (n 
               (λ (q : (j ≡ length kept_views) × (given ≡ a)). subst (λ (z : View E). Each Begins z.shares) q.1 (begin.0, tt)) (at_push kept_views given a j h);
           is_seen = dite (ℕ_discrete r.longest.is_seen.0 id)
               (λ e. ⊎_elim (λ h. (length kept_views, given, at_last kept_views given (length kept_views) refl, inl h))
-                  (λ h. (id, left, at_longer kept_views (given ∷ []) id left (set_here s.views id left (within s.views id v at)), h))
-                  (subst (AtLeastOne IsNow) (ap (λ (z : View E). z.shares) (same_view s.views id r.longest.is_seen.1 v (subst (λ k. HasView s.views k r.longest.is_seen.1) e r.longest.is_seen.2) at) ∙ has) r.longest.is_seen.3))
+              (λ h. (id, left, at_longer kept_views (given ∷ []) id left (set_here s.views id left (within s.views id v at)), h))
+              (subst (AtLeastOne IsNow) (ap (λ (z : View E). z.shares) (same_view s.views id r.longest.is_seen.1 v (subst (λ k. HasView s.views k r.longest.is_seen.1) e r.longest.is_seen.2) at) ∙ has) r.longest.is_seen.3))
               (λ ne. (r.longest.is_seen.0, r.longest.is_seen.1, at_longer kept_views (given ∷ []) r.longest.is_seen.0 r.longest.is_seen.1 (same_else s.views id r.longest.is_seen.0 left r.longest.is_seen.1 ne r.longest.is_seen.2), r.longest.is_seen.3));
           known = λ j a h. ⊎_elim (λ o. each_set (λ (j : ℕ) (a : View E). a.known ≤ length r.now) s.views id left (r.longest.known id v at) (λ j a ne h. r.longest.known j a h) j a o)
               (λ (q : (j ≡ length kept_views) × (given ≡ a)). subst (λ (z : View E). z.known ≤ length r.now) q.1 (omega arith)) (at_push kept_views given a j h);
@@ -141,13 +141,16 @@ module _ {Val E : Type 0} (history : Val → List E) (caller_of : E → ℕ) (n 
           kept = λ k l. let t = r.numbers.kept k l in dite (ℕ_discrete k x.number)
               (λ e. (given, subst (λ i. HasView (kept_views ++ given ∷ []) i given) (sym (keeper_first k e)) (at_last kept_views given (length kept_views) refl), inl (sym e)))
               (λ ne. dite (ℕ_discrete (r.keeper k) id)
-                  (λ e. (left, subst (λ i. HasView (kept_views ++ given ∷ []) i left) (sym (keeper_rest k ne ∙ e)) (at_longer kept_views (given ∷ []) id left (set_here s.views id left (within s.views id v at))),
-                      ⊎_elim (λ h. absurd (ne (sym h))) (λ h. h) (subst (AtLeastOne (λ (z : Share E). z.number ≡ k)) (ap (λ (z : View E). z.shares) (same_view s.views id t.0 v (subst (λ i. HasView s.views i t.0) e t.1) at) ∙ has) t.2)))
-                  (λ other. (t.0, subst (λ i. HasView (kept_views ++ given ∷ []) i t.0) (sym (keeper_rest k ne)) (at_longer kept_views (given ∷ []) (r.keeper k) t.0 (same_else s.views id (r.keeper k) left t.0 other t.1)), t.2)));
+              (λ e. (
+                left,
+                subst (λ i. HasView (kept_views ++ given ∷ []) i left) (sym (keeper_rest k ne ∙ e)) (at_longer kept_views (given ∷ []) id left (set_here s.views id left (within s.views id v at))),
+                ⊎_elim (λ h. absurd (ne (sym h))) (λ h. h) (subst (AtLeastOne (λ (z : Share E). z.number ≡ k)) (ap (λ (z : View E). z.shares) (same_view s.views id t.0 v (subst (λ i. HasView s.views i t.0) e t.1) at) ∙ has) t.2),
+              ))
+              (λ other. (t.0, subst (λ i. HasView (kept_views ++ given ∷ []) i t.0) (sym (keeper_rest k ne)) (at_longer kept_views (given ∷ []) (r.keeper k) t.0 (same_else s.views id (r.keeper k) left t.0 other t.1)), t.2)));
           own = λ j a h. ⊎_elim
               (λ o. each_set (λ (j : ℕ) (a : View E). Each (Owned r.now keeper' j) a.shares) s.views id left
-                  (each_both (λ (z : Share E). x.number ≢ z.number) (Owned r.now r.keeper id) (Owned r.now keeper' id) rest (λ z ne p. (p.0, keeper_rest z.number (λ e. ne (sym e)) ∙ p.1, p.2)) apart mine.1)
-                  (λ j a ne h. each_map (Owned r.now r.keeper j) (Owned r.now keeper' j) a.shares (λ z p. (p.0, keeper_rest z.number (λ e. ne (sym p.1 ∙ (ap r.keeper e ∙ mine.0.1))) ∙ p.1, p.2)) (r.numbers.own j a h)) j a o)
+              (each_both (λ (z : Share E). x.number ≢ z.number) (Owned r.now r.keeper id) (Owned r.now keeper' id) rest (λ z ne p. (p.0, keeper_rest z.number (λ e. ne (sym e)) ∙ p.1, p.2)) apart mine.1)
+              (λ j a ne h. each_map (Owned r.now r.keeper j) (Owned r.now keeper' j) a.shares (λ z p. (p.0, keeper_rest z.number (λ e. ne (sym p.1 ∙ (ap r.keeper e ∙ mine.0.1))) ∙ p.1, p.2)) (r.numbers.own j a h)) j a o)
               (λ (q : (j ≡ length kept_views) × (given ≡ a)). subst (λ (t : ℕ × View E). Each (Owned r.now keeper' t.0) t.1.shares) (λ i. (sym q.0 i, q.1 i)) ((mine.0.0, keeper_first x.number refl, mine.0.2), tt))
               (at_push kept_views given a j h);
           once = omega (arith, sum_by_push shares_of kept_views given, share_count-set s.views id v left at, ap length has, r.numbers.once);
@@ -186,26 +189,32 @@ module _ {Val E : Type 0} (history : Val → List E) (caller_of : E → ℕ) (n 
           is_seen = let j = r.longest.is_seen.0 in let a = r.longest.is_seen.1 in dite (ℕ_discrete j id)
               (λ e. (id, both, holds_both, least_append_right IsNow w.shares v.shares (subst (λ (z : View E). AtLeastOne IsNow z.shares) (same_view s.views id a v (subst (λ k. HasView s.views k a) e r.longest.is_seen.2) at) r.longest.is_seen.3)))
               (λ ne. dite (ℕ_discrete j other)
-                  (λ e. (id, both, holds_both, least_append_left IsNow w.shares v.shares (subst (λ (z : View E). AtLeastOne IsNow z.shares) (same_view s.views other a w (subst (λ k. HasView s.views k a) e r.longest.is_seen.2) was) r.longest.is_seen.3)))
-                  (λ ne'. (j, a, unchanged j a ne ne' r.longest.is_seen.2, r.longest.is_seen.3)));
+              (λ e. (id, both, holds_both, least_append_left IsNow w.shares v.shares (subst (λ (z : View E). AtLeastOne IsNow z.shares) (same_view s.views other a w (subst (λ k. HasView s.views k a) e r.longest.is_seen.2) was) r.longest.is_seen.3)))
+              (λ ne'. (j, a, unchanged j a ne ne' r.longest.is_seen.2, r.longest.is_seen.3)));
           known = each_set (λ (j : ℕ) (a : View E). a.known ≤ length r.now) views' other spent_view (omega arith)
               (λ j a ne h. each_set (λ (j : ℕ) (a : View E). a.known ≤ length r.now) s.views id both (r.longest.known id v at) (λ j a ne h. r.longest.known j a h) j a h);
         };
         numbers = record {
           kept = λ k l. let t = r.numbers.kept k l in let Is : Share E → Type 0 = λ z. z.number ≡ k in dite (ℕ_discrete (r.keeper k) other)
-              (λ e. (both, subst (λ i. HasView (set views' other spent_view) i both) (sym (turn_here r.keeper other id k e)) holds_both,
-                  least_append_left Is w.shares v.shares (subst (λ (z : View E). AtLeastOne Is z.shares) (same_view s.views other t.0 w (subst (λ i. HasView s.views i t.0) e t.1) was) t.2)))
+              (λ e. (
+                both,
+                subst (λ i. HasView (set views' other spent_view) i both) (sym (turn_here r.keeper other id k e)) holds_both,
+                least_append_left Is w.shares v.shares (subst (λ (z : View E). AtLeastOne Is z.shares) (same_view s.views other t.0 w (subst (λ i. HasView s.views i t.0) e t.1) was) t.2),
+              ))
               (λ ne'. dite (ℕ_discrete (r.keeper k) id)
-                  (λ e. (both, subst (λ i. HasView (set views' other spent_view) i both) (sym (turn_else r.keeper other id k ne' ∙ e)) holds_both,
-                      least_append_right Is w.shares v.shares (subst (λ (z : View E). AtLeastOne Is z.shares) (same_view s.views id t.0 v (subst (λ i. HasView s.views i t.0) e t.1) at) t.2)))
-                  (λ ne. (t.0, subst (λ i. HasView (set views' other spent_view) i t.0) (sym (turn_else r.keeper other id k ne')) (unchanged (r.keeper k) t.0 ne ne' t.1), t.2)));
+              (λ e. (
+                both,
+                subst (λ i. HasView (set views' other spent_view) i both) (sym (turn_else r.keeper other id k ne' ∙ e)) holds_both,
+                least_append_right Is w.shares v.shares (subst (λ (z : View E). AtLeastOne Is z.shares) (same_view s.views id t.0 v (subst (λ i. HasView s.views i t.0) e t.1) at) t.2),
+              ))
+              (λ ne. (t.0, subst (λ i. HasView (set views' other spent_view) i t.0) (sym (turn_else r.keeper other id k ne')) (unchanged (r.keeper k) t.0 ne ne' t.1), t.2)));
           own = let K : ℕ → View E → Type 0 = λ j a. Each (Owned r.now keeper' j) a.shares in
               each_set K views' other spent_view tt
               (λ j a ne' h. each_set (λ (j : ℕ) (a : View E). j ≢ other → K j a) s.views id both
-                  (λ _. each_append (Owned r.now keeper' id) w.shares v.shares
-                      (each_map (Owned r.now r.keeper other) (Owned r.now keeper' id) w.shares (λ z p. (p.0, turn_here r.keeper other id z.number p.1, p.2)) (r.numbers.own other w was))
-                      (each_map (Owned r.now r.keeper id) (Owned r.now keeper' id) v.shares (λ z p. (p.0, turn_else r.keeper other id z.number (λ e. apart (sym e ∙ p.1)) ∙ p.1, p.2)) (r.numbers.own id v at)))
-                  (λ j a ne h ne''. each_map (Owned r.now r.keeper j) (Owned r.now keeper' j) a.shares (λ z p. (p.0, turn_else r.keeper other id z.number (λ e. ne'' (sym p.1 ∙ e)) ∙ p.1, p.2)) (r.numbers.own j a h)) j a h ne');
+              (λ _. each_append (Owned r.now keeper' id) w.shares v.shares
+              (each_map (Owned r.now r.keeper other) (Owned r.now keeper' id) w.shares (λ z p. (p.0, turn_here r.keeper other id z.number p.1, p.2)) (r.numbers.own other w was))
+              (each_map (Owned r.now r.keeper id) (Owned r.now keeper' id) v.shares (λ z p. (p.0, turn_else r.keeper other id z.number (λ e. apart (sym e ∙ p.1)) ∙ p.1, p.2)) (r.numbers.own id v at)))
+              (λ j a ne h ne''. each_map (Owned r.now r.keeper j) (Owned r.now keeper' j) a.shares (λ z p. (p.0, turn_else r.keeper other id z.number (λ e. ne'' (sym p.1 ∙ e)) ∙ p.1, p.2)) (r.numbers.own j a h)) j a h ne');
           once = omega (arith, share_count-set views' other w spent_view there, share_count-set s.views id v both at, length-append w.shares v.shares, r.numbers.once);
           others = r.numbers.others;
         };

@@ -59,7 +59,7 @@ module _ {E : Type 0} where
       let now : found ≡ (serving + m) % 2 ^ 64 = is ∙ r.difference in
       let InRange : ℕ → Type 0 = λ t. (i : ℕ) × (i < waiting (set views id w)) × (t ≡ (serving + i) % 2 ^ 64) in
       let earlier : (j : ℕ) (a : View E) (t : ℕ) → HasView views j a → a.ticket ≡ Some t → t ≢ found = λ j a t h has e.
-          let p = r.in_range j a t h has in places_differ serving p.0 m p.1 (omega (arith, room, limit)) (sym p.2 ∙ (e ∙ now)) in
+      let p = r.in_range j a t h has in places_differ serving p.0 m p.1 (omega (arith, room, limit)) (sym p.2 ∙ (e ∙ now)) in
       record {
         difference = ap (λ k. (k + 1) % 2 ^ 64) now ∙ (mod-step (serving + m) ∙ ap (λ k. k % 2 ^ 64) (let e : serving + m + 1 ≡ serving + waiting (set views id w) = omega arith in e));
         few = omega arith;
@@ -103,7 +103,7 @@ module _ {E : Type 0} where
   tickets_push n ticket serving views w idle r =
       let count = waiting_push views w idle in
       let old : (j : ℕ) (a : View E) (t : ℕ) → HasView (views ++ w ∷ []) j a → a.ticket ≡ Some t → HasView views j a = λ j a t h is.
-          ⊎_elim (λ o. o) (λ (q : (j ≡ length views) × (w ≡ a)). absurd (cc (is, idle, q.1))) (at_push views w a j h) in
+      ⊎_elim (λ o. o) (λ (q : (j ≡ length views) × (w ≡ a)). absurd (cc (is, idle, q.1))) (at_push views w a j h) in
       record {
         difference = r.difference ∙ ap (λ (m : ℕ). (serving + m) % 2 ^ 64) (sym count);
         few = subst (λ (m : ℕ). m ≤ n) (sym count) r.few;
@@ -114,7 +114,7 @@ module _ {E : Type 0} where
   pub served_push : (serving : ℕ) (views : List (View E)) (w : View E) → w.served ≡ false → OneIsServed serving views → OneIsServed serving (views ++ w ∷ [])
   served_push serving views w out r =
       let old : (j : ℕ) (a : View E) → HasView (views ++ w ∷ []) j a → a.served ≡ true → HasView views j a = λ j a h is.
-          ⊎_elim (λ o. o) (λ (q : (j ≡ length views) × (w ≡ a)). absurd (cc (is, out, q.1))) (at_push views w a j h) in
+      ⊎_elim (λ o. o) (λ (q : (j ≡ length views) × (w ≡ a)). absurd (cc (is, out, q.1))) (at_push views w a j h) in
       record {
         ticket = λ j a h is. r.ticket j a (old j a h is) is;
         one = λ i j a b h k is also. r.one i j a b (old i a h is) (old j b k also) is also;

@@ -1,7 +1,6 @@
 -- Histories: lists of entries, each with the number of its caller.
 use Rattle.std.specs.Prelude.{◌≡◌, ◌==◌, ℕ, List, ◌++◌, All, filter}
 
-
 module _ {E : Type 0} (caller_of : E → ℕ) where
   -- The entries of caller k, in order.
   abbrev pub entries_by : ℕ → List E → List E

@@ -51,27 +51,27 @@ module _ {Val E : Type 0} {g : Ghosts Val E} where
 
   -- The lock that it is inside of.
   abbrev pub inside_lock : Inside Val E g → TableId
-  inside_lock inside = inside.place.table_id
+  inside_lock inside = inside.turn.place.table_id
 
   -- The number of the pass that is inside.
   abbrev pub inside_number : Inside Val E g → ℕ
-  inside_number inside = inside.number
+  inside_number inside = inside.turn.number
 
   -- The history of the value as the pass found it.
   abbrev pub found : Inside Val E g → List E
-  found inside = (first_share inside.place.me.0.shares).seen
+  found inside = (first_share inside.turn.place.me.0.shares).seen
 
   -- The entries that the pass made before it entered, in order.
   abbrev pub inside_own : Inside Val E g → List E
-  inside_own inside = (first_share inside.place.me.0.shares).own
+  inside_own inside = (first_share inside.turn.place.me.0.shares).own
 
   -- How often the pass has entered, this time included.
   abbrev pub inside_holds : Inside Val E g → ℕ
-  inside_holds inside = inside.place.me.0.holds
+  inside_holds inside = inside.turn.place.me.0.holds
 
   -- The last count that was loaded for the pass.
   abbrev pub inside_known : Inside Val E g → ℕ
-  inside_known inside = inside.known
+  inside_known inside = inside.turn.known
 
   -- What stands of a pass in the rule.
   abbrev pub share_of : Pass Val E g → Share E

@@ -32,8 +32,8 @@ module _ {Val E : Type 0} where
   looked history caller_of step before found after =
       (ticket : ℕ) (share : Share E) → before.0.ticket ≡ Some ticket → before.0.shares ≡ share ∷ []
       → MatchBool (found == ticket)
-        ((x : Val) × (after ≡ (served_view before.0 share (history x), (0, Some x) ∷ before.1)) × IsFound history caller_of share before.0.known x)
-        (after ≡ before)
+      ((x : Val) × (after ≡ (served_view before.0 share (history x), (0, Some x) ∷ before.1)) × IsFound history caller_of share before.0.known x)
+      (after ≡ before)
 
   -- Publish count: while the slot is out and empty, the seen list and the own list grow to the history that is to be left.
   abbrev pub published : List E → Step (Option Val) → Me (Option Val) (View E) → ℕ → Me (Option Val) (View E) → Type 0

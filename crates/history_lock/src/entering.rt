@@ -7,7 +7,7 @@ ghost use Rattle.history_lock.specs.Views.{ticketed_view, let_in_view, first_sha
 ghost use Rattle.history_lock.specs.Steps.{IsFound, served_view, share_left};
 
 use crate::grows::Grows;
-use crate::inside::Inside;
+use crate::inside::{Inside, Turn};
 use crate::lock::HistoryLock;
 use crate::pass::Pass;
 use crate::plays::{Draw, Leaving, Look, PassOn, Publish};
@@ -71,9 +71,11 @@ impl<V: Grows> HistoryLock<V> {
         let value = wait_turn(rt, steps, &mut place, ticket);
         Inside {
             value,
-            number,
-            known,
-            place,
+            turn: Turn {
+                number,
+                known,
+                place,
+            },
         }
     }
 
@@ -90,12 +92,12 @@ impl<V: Grows> HistoryLock<V> {
 
         ensures same { (lock_of result ≡ inside_lock inside) × (pass_number result ≡ inside_number inside) × (holds result ≡ inside_holds inside) × (known result ≡ inside_known inside) }
     {
-        let Inside {
-            value,
+        let Inside { value, turn } = inside;
+        let Turn {
             number,
             known,
             mut place,
-        } = inside;
+        } = turn;
         let steps = &self.table.shared;
         publish::<V, Brand>(steps, &mut place, &value);
         let taken = steps.exchange(&mut place, SLOT, Some(value));

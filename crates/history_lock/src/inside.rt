@@ -5,14 +5,19 @@ ghost use Rattle.history_lock.specs.Views.{inside_view};
 use crate::grows::Grows;
 use crate::rule::Place;
 
-/// The value of a lock, while one pass is inside. It is not `Drop`: end it by `leave`.
-pub struct Inside<V: Grows> {
-    pub(crate) value: V,
+/// A pass while it is inside: it has the slot, which is empty.
+pub struct Turn<V: Grows> {
     pub(crate) number: u32,
     pub(crate) known: u64,
     pub(crate) place: Place<V>,
     ghost empty_slot: { place.me.1 ≡ (0, None) ∷ [] },
     ghost let_in: { place.me.0 ≡ inside_view number known place.me.0 },
+}
+
+/// The value of a lock, while one pass is inside. It is not `Drop`: end it by `leave`.
+pub struct Inside<V: Grows> {
+    pub(crate) value: V,
+    pub(crate) turn: Turn<V>,
 }
 
 impl<V: Grows> Inside<V> {
@@ -22,7 +27,7 @@ impl<V: Grows> Inside<V> {
     pub fn number(&self) -> u32
         ensures { result ≡ inside_number self.now }
     {
-        self.number
+        self.turn.number
     }
 
     /// The value.

@@ -13,12 +13,7 @@ use std::alloc::Global;
 use std::snapshot::Snapshot;
 
 // Gives out the passes: one is split off for each number but the last, which the seat itself has.
-fn deal<V: Grows>(
-    steps: &Steps<V>,
-    place: Place<V>,
-    passes: Vec<Pass<V>>,
-    n: u32,
-) -> Vec<Pass<V>>
+fn deal<V: Grows>(steps: &Steps<V>, place: Place<V>, passes: Vec<Pass<V>>, n: u32) -> Vec<Pass<V>>
     requires table { (place.table_id ≡ steps.now.table_id) × (steps.now.table_id.words ≡ 4) }
     requires all { (place.me.0 ≡ opening_view n (first_share place.me.0.shares).seen) × (place.me.1 ≡ []) × (0 < n) }
     requires room { (passes.items ≡ []) × (n ≤ vec_capacity passes) }
@@ -56,11 +51,7 @@ fn one_slot<V>(alloc: Global, value: V) -> Result<Vec<Option<V>>, V>
 }
 
 /// Makes a lock round the value, with `n` passes, 1 to 256. The value comes back for want of memory alone.
-pub fn make<V: Grows>(
-    alloc: Global,
-    value: V,
-    n: u32,
-) -> Result<(HistoryLock<V>, Vec<Pass<V>>), V>
+pub fn make<V: Grows>(alloc: Global, value: V, n: u32) -> Result<(HistoryLock<V>, Vec<Pass<V>>), V>
     requires passes { (0 < n) × (n ≤ 256) }
     requires opener { All (λ e. V.caller_of e ≡ OPENER) (V.history value) }
     ensures lock { IfOk result (λ r. pass_count r.0 ≡ n) }

@@ -20,8 +20,7 @@ store-requires g c =
     let grown = c.requires.grown in
     let left : List g.row.V-Entry.Denot = g.J.Leaving.left in
     let same : H c.args.value.now ≡ left = c.requires.left in
-    let counted : c.count-count.result ≡ length left = c.count-count.ensures ∙ ap length same in
-    (
+    let counted : c.count-count.result ≡ length left = c.count-count.ensures ∙ ap length same in (
       search rules,
       search rules,
       subst (λ (m : M). Allows (IsKept H C n) slots id m 2 (λ _. c.count-count.result) (λ _. published left (step slots 2 c.count-count.result 0 none) m c.count-count.result)) (sym is)

@@ -22,32 +22,32 @@ load-requires g c =
 pub exchange-requires : goal.exchange-requires
 exchange-requires g c =
     let hit = look_hit g.V.Grows.history g.V.Grows.caller_of (step c.args.steps.now.table_id.slots 1 0 0 none) c.args.ticket c.load.result c.loop.place.me c.load.new.seat.me
-        (waits c.args.ticket c.args.place.now.me c.loop.place.me c.requires.ready.0 c.requires.ready.1 c.loop.invariant.2) c.load.ensures.2 c.if-load-ticket.true in
+    (waits c.args.ticket c.args.place.now.me c.loop.place.me c.requires.ready.0 c.requires.ready.1 c.loop.invariant.2) c.load.ensures.2 c.if-load-ticket.true in
     let slot : c.load.new.seat.me.1 ≡ (0, Some hit.0) ∷ [] = ap (λ (m : Me (Option g.row.V.Denot) (View g.row.V-Entry.Denot)). m.1) hit.1.0 in
     (search rules, (Some hit.0, slot ∙ ap (λ cs. (0, Some hit.0) ∷ rest cs) (sym slot)))
 
 pub unwrap-requires : goal.unwrap-requires
 unwrap-requires g c =
     let t = turn_taken g.V.Grows.history g.V.Grows.caller_of (step c.args.steps.now.table_id.slots 1 0 0 none) c.args.ticket c.load.result c.args.place.now.me c.loop.place.me c.load.new.seat.me c.exchange.new.seat.me
-        c.exchange.result c.requires.ready.0 c.requires.ready.1 c.loop.invariant.2 c.load.ensures.2 c.if-load-ticket.true c.exchange.ensures.2 c.exchange.ensures.3 in
+    c.exchange.result c.requires.ready.0 c.requires.ready.1 c.loop.invariant.2 c.load.ensures.2 c.if-load-ticket.true c.exchange.ensures.2 c.exchange.ensures.3 in
     subst IsSome (sym t.1) refl
 
 pub returns-then-load-ticket-clause-served : goal.returns-then-load-ticket-clause-served
 returns-then-load-ticket-clause-served g c =
     let t = turn_taken g.V.Grows.history g.V.Grows.caller_of (step c.args.steps.now.table_id.slots 1 0 0 none) c.args.ticket c.load.result c.args.place.now.me c.loop.place.me c.load.new.seat.me c.exchange.new.seat.me
-        c.exchange.result c.requires.ready.0 c.requires.ready.1 c.loop.invariant.2 c.load.ensures.2 c.if-load-ticket.true c.exchange.ensures.2 c.exchange.ensures.3 in
+    c.exchange.result c.requires.ready.0 c.requires.ready.1 c.loop.invariant.2 c.load.ensures.2 c.if-load-ticket.true c.exchange.ensures.2 c.exchange.ensures.3 in
     let same : t.0 ≡ c.unwrap.result = let e = sym t.1 ∙ c.unwrap.ensures in cc in
     t.2 ∙ ap (λ x. let z : Me (Option g.row.V.Denot) (View g.row.V-Entry.Denot) = (served_view c.args.place.now.me.0 (first_share c.args.place.now.me.0.shares) (g.V.Grows.history x), (0, None) ∷ []) in z) same
 
 pub returns-then-load-ticket-clause-found : goal.returns-then-load-ticket-clause-found
 returns-then-load-ticket-clause-found g c =
     let t = turn_taken g.V.Grows.history g.V.Grows.caller_of (step c.args.steps.now.table_id.slots 1 0 0 none) c.args.ticket c.load.result c.args.place.now.me c.loop.place.me c.load.new.seat.me c.exchange.new.seat.me
-        c.exchange.result c.requires.ready.0 c.requires.ready.1 c.loop.invariant.2 c.load.ensures.2 c.if-load-ticket.true c.exchange.ensures.2 c.exchange.ensures.3 in
+    c.exchange.result c.requires.ready.0 c.requires.ready.1 c.loop.invariant.2 c.load.ensures.2 c.if-load-ticket.true c.exchange.ensures.2 c.exchange.ensures.3 in
     let same : t.0 ≡ c.unwrap.result = let e = sym t.1 ∙ c.unwrap.ensures in cc in
     subst (IsFound g.V.Grows.history g.V.Grows.caller_of (first_share c.args.place.now.me.0.shares) c.args.place.now.me.0.known) same t.3
 
 pub loop-preserved : goal.loop-preserved
 loop-preserved g c =
     let same = look_miss g.V.Grows.history g.V.Grows.caller_of (step c.args.steps.now.table_id.slots 1 0 0 none) c.args.ticket c.load.result c.loop.place.me c.load.new.seat.me
-        (waits c.args.ticket c.args.place.now.me c.loop.place.me c.requires.ready.0 c.requires.ready.1 c.loop.invariant.2) c.load.ensures.2 c.if-load-ticket.false in
+    (waits c.args.ticket c.args.place.now.me c.loop.place.me c.requires.ready.0 c.requires.ready.1 c.loop.invariant.2) c.load.ensures.2 c.if-load-ticket.false in
     (search rules, search rules, same ∙ c.loop.invariant.2)

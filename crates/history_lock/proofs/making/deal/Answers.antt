@@ -8,8 +8,7 @@ loop-number-init g c = (refl, c.requires.all.1, (c.args.n, omega arith, c.requir
 
 pub split_seat-given-requires : goal.split_seat-given-requires
 split_seat-given-requires g c =
-    let left = c.loop-number.invariant.2 in
-    (
+    let left = c.loop-number.invariant.2 in (
       search rules,
       search rules,
       gives g.V.Grows.history g.V.Grows.caller_of c.args.steps.now.key.passes c.loop-number.place.id c.loop-number.number left.0 c.args.n (first_share c.args.place.me.0.shares).seen c.loop-number.place.me.0 left.2 left.1
@@ -37,8 +36,7 @@ loop-number-preserved g c =
     let below : c.loop-number.number < c.args.n = let lt = c.loop-number-test.true in omega arith in
     let over = left_over c.loop-number.number left.0 c.args.n seen c.loop-number.place.me.0 left.2 left.1 c.loop-number-test.true in
     let one : c.split_seat-given.result.me.0 ≡ giving c.loop-number.number 1 seen = ap (λ m. m.0) given ∙ given_one c.loop-number.number left.0 c.args.n seen c.loop-number.place.me.0 left.2 left.1 below in
-    let len : length c.loop-number.passes.items ≡ c.loop-number.number = omega (arith, c.loop-number.passes.ok.0) in
-    (
+    let len : length c.loop-number.passes.items ≡ c.loop-number.number = omega (arith, c.loop-number.passes.ok.0) in (
       search rules,
       ap (λ m. m.1) kept ∙ c.loop-number.invariant.1,
       (over.0, over.1, ap (λ m. m.0) kept ∙ over.2),
@@ -58,4 +56,4 @@ returns-clause-fresh g c =
     let len : length c.loop-number.passes.items ≡ c.loop-number.number = omega (arith, c.loop-number.passes.ok.0) in
     let one : c.loop-number.place.me.0 ≡ giving c.loop-number.number 1 seen = last_one c.loop-number.number left.0 c.args.n seen c.loop-number.place.me.0 left.2 left.1 c.loop-number-test.false below in
     rw c.push_reserved-2.ensures.items (fresh_push c.args.place.table_id seen c.loop-number.passes.items _ c.loop-number.number len c.loop-number.invariant.5
-        (giving_is_fresh c.args.place.table_id c.loop-number.number seen _ c.loop-number.invariant.0 last refl one))
+    (giving_is_fresh c.args.place.table_id c.loop-number.number seen _ c.loop-number.invariant.0 last refl one))

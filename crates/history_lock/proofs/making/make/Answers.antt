@@ -29,5 +29,5 @@ returns-in-Ok-new-clause-fresh g c =
     let H = g.V.Grows.history in
     let first = c.in-Ok-new.ensures.ok.4 in
     let seen : (first_share c.in-Ok-new.place.me.0.shares).seen ≡ H c.args.value =
-        ap (λ m. (first_share m.0.shares).seen) first ∙ (opening_seen c.args.n (H c.of.result.value) c.requires.passes.0 ∙ ap H c.of.ensures) in
+    ap (λ m. (first_share m.0.shares).seen) first ∙ (opening_seen c.args.n (H c.of.result.value) c.requires.passes.0 ∙ ap H c.of.ensures) in
     subst (λ (t : TableId × List g.row.V-Entry.Denot). AreFresh t.0 t.1 c.deal-passes.result.items) (λ i. (c.in-Ok-new.ensures.ok.2 i, seen i)) c.deal-passes.ensures.fresh

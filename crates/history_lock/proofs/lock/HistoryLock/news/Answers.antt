@@ -15,8 +15,7 @@ load-count-requires g c =
     let M : Type 0 = Me (Option g.row.V.Denot) (View g.row.V-Entry.Denot) in
     let before : M = c.args.pass.now.place.me in
     let v : View g.row.V-Entry.Denot = resting_view c.args.pass.now.number c.args.pass.now.known before.0 in
-    let is : before ≡ (v, []) = λ i. (c.args.pass.now.at_rest i, c.args.pass.now.empty_handed i) in
-    (
+    let is : before ≡ (v, []) = λ i. (c.args.pass.now.at_rest i, c.args.pass.now.empty_handed i) in (
       search rules,
       search rules,
       subst (λ (m : M). Allows (IsKept H C n) slots id m 2 (λ k. k) (counted (step slots 2 0 0 none) m)) (sym is) (counts H C n slots id v [] (record (first_share before.0.shares) { number = c.args.pass.now.number }) refl refl),
