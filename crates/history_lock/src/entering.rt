@@ -14,6 +14,7 @@ use crate::plays::{Draw, Leaving, Look, PassOn, Publish};
 use crate::rule::{COUNT, Place, SERVING, SLOT, Steps, TICKET};
 use crossbeam_utils::Backoff;
 use std::marker::Brand;
+use std::snapshot::Snapshot;
 use std::sync::Wait;
 
 // Waits until the ticket is served, and takes the value out of the slot.
@@ -34,16 +35,21 @@ fn wait_turn<V: Grows, R: Wait>(rt: &R, steps: &Steps<V>, place: &mut Place<V>, 
     unreachable!()
 }
 
-// Publishes how many entries the value has that is to be left.
-fn publish<V: Grows, J: Leaving<V::Entry>>(steps: &Steps<V>, place: &mut Place<V>, value: &V)
-    requires left { V.history value.now ≡ J.left }
+// Publishes how many entries the history has that is to be left.
+fn publish<V: Grows, J: Leaving<V::Entry>>(
+    steps: &Steps<V>,
+    place: &mut Place<V>,
+    left: &Snapshot<V>,
+    count: u64,
+)
+    requires left { V.history left.now.value ≡ J.left }
+    requires count { count ≡ length (V.history left.now.value) }
     requires table { (place.old.table_id ≡ steps.now.table_id) × (steps.now.table_id.words ≡ 4) × (steps.now.table_id.slots ≡ 1) }
     requires served { (place.old.me.0 ≡ let_in_view place.old.me.0) × (place.old.me.1 ≡ (0, None) ∷ []) }
-    requires grown { IsGrownBy V.caller_of (first_share place.old.me.0.shares).number (first_share place.old.me.0.shares).seen (V.history value.now) }
+    requires grown { IsGrownBy V.caller_of (first_share place.old.me.0.shares).number (first_share place.old.me.0.shares).seen (V.history left.now.value) }
     ensures seat { (place.new.table_id ≡ place.old.table_id) × (place.new.id ≡ place.old.id) }
-    ensures left { place.new.me ≡ (record place.old.me.0 { shares = share_left (first_share place.old.me.0.shares) (V.history value.now) ∷ [] }, (0, None) ∷ []) }
+    ensures left { place.new.me ≡ (record place.old.me.0 { shares = share_left (first_share place.old.me.0.shares) (V.history left.now.value) ∷ [] }, (0, None) ∷ []) }
 {
-    let count = value.count();
     steps.store::<Publish<J>>(place, COUNT, count);
 }
 
@@ -99,7 +105,9 @@ impl<V: Grows> HistoryLock<V> {
             mut place,
         } = turn;
         let steps = &self.table.shared;
-        publish::<V, Brand>(steps, &mut place, &value);
+        let left = Snapshot::of(&value);
+        let count = value.count();
+        publish::<V, Brand>(steps, &mut place, &left, count);
         let taken = steps.exchange(&mut place, SLOT, Some(value));
         let None = taken else { unreachable!() };
         steps.fetch_add::<PassOn>(&mut place, SERVING, 1);

@@ -18,6 +18,7 @@
 #![tactic(auto)]
 
 mod closing;
+mod diary;
 mod entering;
 mod grows;
 mod inside;

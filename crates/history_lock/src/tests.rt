@@ -3,6 +3,7 @@ ghost use Rattle.std.specs.Prelude.{◌≡◌, ◌<◌, ◌≤◌, [], All, IfOk
 ghost use Rattle.history_lock.specs.Passes.{lock_id, lock_of};
 
 use super::*;
+use crate::diary::{Diary, Note, add_note};
 use std::alloc::{AllocError, Global};
 use std::process::Abort;
 use std::sync::Wait;
@@ -11,29 +12,6 @@ use std::thread;
 use std::thread::Threads;
 
 const PAGES: u32 = 1000;
-
-#[derive(Clone, Copy, Debug, PartialEq, Eq)]
-struct Note {
-    caller: u32,
-    page: u32,
-}
-
-#[derive(Drop)]
-struct Diary {
-    notes: Vec<Note>,
-}
-
-impl Grows for Diary {
-    type Entry = Note;
-
-    ghost history = { λ diary. diary.notes.items };
-
-    ghost caller_of = { λ note. note.caller };
-
-    fn count(&self) -> u64 {
-        self.notes.len() as u64
-    }
-}
 
 // A lock with n passes round an empty diary.
 fn open(alloc: Global, n: u32) -> Result<(HistoryLock<Diary>, Vec<Pass<Diary>>), AllocError>
@@ -50,24 +28,13 @@ fn open(alloc: Global, n: u32) -> Result<(HistoryLock<Diary>, Vec<Pass<Diary>>),
     }
 }
 
-// Adds one note under the caller's number. Where there is no memory it adds none.
-fn add(rt: &impl Wait, lock: &HistoryLock<Diary>, pass: Pass<Diary>, page: u32) -> Pass<Diary>
-    requires { lock_of pass ≡ lock_id lock.now }
-    ensures { lock_of result ≡ lock_of pass }
-{
-    let mut inside = lock.enter(rt, pass);
-    let caller = inside.number();
-    let _ = inside.value_mut().notes.push(Note { caller, page });
-    lock.leave(inside)
-}
-
 fn fill(rt: &impl Wait, lock: &HistoryLock<Diary>, pass: Pass<Diary>) -> Pass<Diary>
     requires { lock_of pass ≡ lock_id lock.now }
     ensures { lock_of result ≡ lock_id lock.now }
 {
     let mut pass = pass;
     for page in 0..PAGES {
-        pass = add(rt, lock, pass, page);
+        pass = add_note(rt, lock, pass, page).0;
     }
     pass
 }
@@ -108,7 +75,7 @@ fn fill_from_threads<R: Threads + Wait + Abort + Sync>(
         passes,
         &|pass: Pass<Diary>| -> Pass<Diary>
             requires { lock_of pass ≡ lock_id shared.now }
-            ensures { lock_of result ≡ lock_id shared.now }
+            ensures { lock_of result ≡ lock_id shared.entry.now }
         { fill(rt, shared, pass) },
     )?;
     let Ok(diary) = lock.close(passes) else {
@@ -162,7 +129,7 @@ fn news_counts_what_another_added(rt: HostRuntime) -> Result<(), Fail> {
     let mut second = passes.remove(1);
     let first = passes.remove(0);
     assert!(rt; lock.news(&mut second) == 0);
-    let first = add(&rt, &lock, first, 7);
+    let first = add_note(&rt, &lock, first, 7).0;
     assert!(rt; lock.news(&mut second) == 1);
     let inside = lock.enter(&rt, second);
     let note = inside.value().notes.get(0).copied();
@@ -195,7 +162,7 @@ fn add_and_wake(rt: &impl Wait, lock: &HistoryLock<Diary>, pass: Pass<Diary>) ->
     requires { lock_of pass ≡ lock_id lock.now }
     ensures { lock_of result ≡ lock_id lock.now }
 {
-    let pass = add(rt, lock, pass, 0);
+    let pass = add_note(rt, lock, pass, 0).0;
     lock.wake();
     pass
 }
@@ -209,10 +176,12 @@ fn a_thread_awaits_the_entry_of_another(rt: HostRuntime) -> Result<(), Fail> {
     let (first, second) = thread::join(
         &rt,
         || -> Pass<Diary>
-            ensures { lock_of result ≡ lock_id shared.now }
+            requires { lock_of first ≡ lock_id shared.now }
+            ensures { lock_of result ≡ lock_id shared.entry.now }
         { add_and_wake(&rt, shared, first) },
         || -> Pass<Diary>
-            ensures { lock_of result ≡ lock_id shared.now }
+            requires { lock_of second ≡ lock_id shared.now }
+            ensures { lock_of result ≡ lock_id shared.entry.now }
         { await_entry(&rt, shared, second) },
     );
     passes.push(first)?;

@@ -19,12 +19,12 @@ store-requires g c =
     let is : before ≡ (v, (0, None) ∷ []) = λ i. (c.requires.served.0 i, c.requires.served.1 i) in
     let grown = c.requires.grown in
     let left : List g.row.V-Entry.Denot = g.J.Leaving.left in
-    let same : H c.args.value.now ≡ left = c.requires.left in
-    let counted : c.count-count.result ≡ length left = c.count-count.ensures ∙ ap length same in (
+    let same : H c.args.left.now.value ≡ left = c.requires.left in
+    let counted : c.args.count ≡ length left = c.requires.count ∙ ap length same in (
       search rules,
       search rules,
-      subst (λ (m : M). Allows (IsKept H C n) slots id m 2 (λ _. c.count-count.result) (λ _. published left (step slots 2 c.count-count.result 0 none) m c.count-count.result)) (sym is)
-          (publishes H C n slots id v (first_share before.0.shares) left grown.0 c.count-count.result refl refl (sym same ∙ grown.1) (each_of_all (λ e. C e ≡ (first_share before.0.shares).number) grown.0 grown.2) counted (omega arith)),
+      subst (λ (m : M). Allows (IsKept H C n) slots id m 2 (λ _. c.args.count) (λ _. published left (step slots 2 c.args.count 0 none) m c.args.count)) (sym is)
+          (publishes H C n slots id v (first_share before.0.shares) left grown.0 c.args.count refl refl (sym same ∙ grown.1) (each_of_all (λ e. C e ≡ (first_share before.0.shares).number) grown.0 grown.2) counted (omega arith)),
     )
 
 pub returns : goal.returns
