@@ -1,8 +1,7 @@
 -- What the last state says, once a seat has taken in all passes.
-use Rattle.std.proofs.Common.{◌≡◌, ◌≢◌, ◌⊎◌, ℕ, zero, suc, ◌+◌, ◌<◌, ◌≤◌, Bool, true, false, List, [], ◌∷◌, ◌++◌, map, length, refl, sym, ap, ◌∙◌, subst, inl, inr, ⊎_elim, arith, Option, Some, None, All, Any}
+use Rattle.std.proofs.Common.{◌≡◌, ◌≢◌, ◌⊎◌, ℕ, suc, ◌<◌, ◌≤◌, false, List, [], ◌∷◌, map, length, refl, sym, ap, ◌∙◌, subst, ⊎_elim, arith, Option, Some, All, Any}
 use mathlib.Core.Logic.{dite}
 use mathlib.Core.Option.{some, some-injective}
-use mathlib.Core.Option as maybe
 use mathlib.Core.List.{IsPrefix}
 use native.Mathlib.Decide.{ℕ_discrete}
 use lib.ListN.{get_elem?, length-map}
@@ -16,7 +15,7 @@ use Rattle.history_lock.specs.Entries.{entries_by}
 use Rattle.history_lock.specs.Views.{Each, AtLeastOne, HasView}
 use Rattle.history_lock.specs.Passes.{pass_number, seen, own, share_of}
 use Rattle.history_lock.specs.Rule.{IsKept}
-use Rattle.history_lock.proofs.Lists.{each_map, each_both, all_of_each, two_le_sum_by}
+use Rattle.history_lock.proofs.Lists.{each_map, all_of_each, two_le_sum_by}
 use Rattle.history_lock.proofs.Frames.{shares_of, same_view}
 use Rattle.history_lock.proofs.Tickets.{false_unless}
 

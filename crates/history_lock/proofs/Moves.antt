@@ -1,24 +1,23 @@
 -- Each step of a pass keeps the rule.
-use Rattle.std.proofs.Common.{◌≡◌, ◌≢◌, ◌⊎◌, ◌==◌, ℕ, zero, suc, ◌+◌, ◌%◌, ◌^◌, ◌<◌, ◌≤◌, Bool, true, false, List, [], ◌∷◌, ◌++◌, length, drop, set, get_or, refl, sym, ap, ◌∙◌, subst, inl, inr, ⊎_elim, arith, Option, Some, None, MatchBool}
+use Rattle.std.proofs.Common.{◌≡◌, ◌≢◌, ◌⊎◌, ◌==◌, ℕ, ◌+◌, ◌%◌, ◌^◌, ◌<◌, ◌≤◌, Bool, true, false, List, [], ◌∷◌, ◌++◌, length, drop, set, get_or, refl, sym, ap, ◌∙◌, subst, inl, inr, arith, Option, Some, None, MatchBool}
 use Rattle.std.proofs.lemmas.Bool.Decides.{nat_tests}
 use mathlib.Core.Logic.{dite}
 use mathlib.Core.Option.{none, some}
-use mathlib.Core.Option as maybe
 use mathlib.Core.List.{IsPrefix}
 use native.Mathlib.Decide.{ℕ_discrete}
 use lib.ListN.{get_elem?}
 use lib.Seq.{set-get_or}
-use Rattle.atomic_table.specs.Table.{State, Me, step, Act, keeps, takes, gives, Allows}
+use Rattle.atomic_table.specs.Table.{State, Me, step, keeps, takes, gives, Allows}
 use Rattle.atomic_table.proofs.Lists.{set_here, set_again}
 use Rattle.history_lock.specs.declared.view.Share.{Share}
 use Rattle.history_lock.specs.declared.view.View.{View}
 use Rattle.history_lock.specs.declared.grows.TheConstants.{OPENER}
 use Rattle.history_lock.specs.Entries.{entries_by}
-use Rattle.history_lock.specs.Views.{Each, HasView, waiting, first_share}
+use Rattle.history_lock.specs.Views.{Each, HasView, first_share}
 use Rattle.history_lock.specs.Rule.{IsKept, SlotIsRight, OneIsServed}
 use Rattle.history_lock.specs.Steps.{drew, looked, IsFound, served_view, share_left, published, passed_on, counted}
 use Rattle.history_lock.proofs.Lists.{within, each_set, each_append, each_map}
-use Rattle.history_lock.proofs.Prefixes.{prefix_self, prefix_append, prefix_length, drop_append, entries_by_grown, entries_by_kept}
+use Rattle.history_lock.proofs.Prefixes.{prefix_self, prefix_length, drop_append, entries_by_grown, entries_by_kept}
 use Rattle.history_lock.proofs.Frames.{same_view, tickets_stay, served_stays, spent_stays, seen_grows, numbers_stay}
 use Rattle.history_lock.proofs.Tickets.{false_unless, waiting_lt, tickets_drawn, tickets_spent, slot_stays}
 

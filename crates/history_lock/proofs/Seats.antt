@@ -1,20 +1,17 @@
 -- How passes are made, split off, taken in and counted keeps the rule.
-use Rattle.std.proofs.Common.{◌≡◌, ◌≢◌, ◌⊎◌, ℕ, zero, suc, ◌+◌, ◌%◌, ◌^◌, ◌<◌, ◌≤◌, Bool, true, false, List, [], ◌∷◌, ◌++◌, map, length, set, get_or, refl, sym, ap, ◌∙◌, subst, inl, inr, ⊎_elim, arith, Option, Some, None, length-set, length-append}
+use Rattle.std.proofs.Common.{◌≡◌, ◌≢◌, ◌⊎◌, ℕ, zero, suc, ◌+◌, ◌%◌, ◌^◌, ◌<◌, ◌≤◌, false, List, [], ◌∷◌, ◌++◌, length, set, get_or, refl, sym, ap, ◌∙◌, subst, inl, inr, ⊎_elim, arith, Option, Some, None, length-append}
 use Rattle.std.proofs.lemmas.List.Sums.{sum_by_push, sum_by-cons}
 use mathlib.Core.Logic.{dite}
-use mathlib.Core.Option.{none, some, some-injective, some-ne-none}
-use mathlib.Core.Option as maybe
+use mathlib.Core.Option.{none, some-injective, some-ne-none}
 use mathlib.Core.List.{IsPrefix}
 use native.Mathlib.Decide.{ℕ_discrete}
-use lib.ListN.{get_elem?}
-use lib.Seq.{set-get_or}
-use Rattle.atomic_table.specs.Table.{State, Me, step, keeps, stepped, Allows, Enters, Splits, Joins, opening}
+use Rattle.atomic_table.specs.Table.{State, step, keeps, Allows, Enters, Splits, Joins, opening}
 use Rattle.atomic_table.proofs.Lists.{set_here, set_else, set_again, at_longer, at_last}
 use Rattle.history_lock.specs.declared.view.Share.{Share}
 use Rattle.history_lock.specs.declared.view.View.{View}
 use Rattle.history_lock.specs.declared.grows.TheConstants.{OPENER}
 use Rattle.history_lock.specs.Entries.{entries_by}
-use Rattle.history_lock.specs.Views.{Each, AtLeastOne, HasView, waiting, share_count, view_of, spent_view, shares_from, opening_view, further_shares, only_first}
+use Rattle.history_lock.specs.Views.{Each, AtLeastOne, HasView, share_count, view_of, spent_view, shares_from, opening_view, further_shares, only_first}
 use Rattle.history_lock.specs.Rule.{IsKept, NowIsLongest, NumbersAreKept}
 use Rattle.history_lock.specs.Steps.{arrived}
 use Rattle.history_lock.proofs.Lists.{within, each_set, each_append, each_map, at_push, least_append_left, least_append_right, each_both, put, put_here, put_else, turn, turn_here, turn_else}

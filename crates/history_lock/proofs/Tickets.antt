@@ -1,18 +1,17 @@
 -- Tickets that are drawn and spent, and views that are added.
-use Rattle.std.proofs.Common.{◌≡◌, ◌≢◌, ◌⊎◌, ℕ, zero, suc, ◌+◌, ◌%◌, ◌^◌, ◌<◌, ◌≤◌, Bool, true, false, List, [], ◌∷◌, ◌++◌, length, set, refl, sym, ap, ◌∙◌, subst, inl, inr, ⊎_elim, arith, sum_by, is_some, cond, Option, Some, None}
-use Rattle.std.proofs.lemmas.List.Sums.{sum_by-append, sum_by_push}
+use Rattle.std.proofs.Common.{◌≡◌, ◌≢◌, ◌⊎◌, ℕ, zero, suc, ◌+◌, ◌%◌, ◌^◌, ◌<◌, ◌≤◌, Bool, true, false, List, [], ◌∷◌, ◌++◌, length, set, refl, sym, ap, ◌∙◌, subst, inl, inr, ⊎_elim, arith, is_some, cond, Option, Some, None}
+use Rattle.std.proofs.lemmas.List.Sums.{sum_by_push}
 use mathlib.Core.Logic.{dite}
 use mathlib.Core.Option.{some}
 use mathlib.Core.Option as maybe
 use native.Mathlib.Decide.{ℕ_discrete}
-use lib.ListN.{get_elem?}
-use Rattle.atomic_table.proofs.Lists.{set_here, set_else, at_longer, at_last, one_turn}
+use Rattle.atomic_table.proofs.Lists.{set_else, at_longer, one_turn}
 use Rattle.history_lock.specs.declared.view.Share.{Share}
 use Rattle.history_lock.specs.declared.view.View.{View}
-use Rattle.history_lock.specs.Views.{Each, AtLeastOne, HasView, waiting, share_count}
-use Rattle.history_lock.specs.Rule.{TicketsAreInRange, NowIsLongest, NumbersAreKept, OneIsServed, SlotIsRight, SpentIsIdle}
-use Rattle.history_lock.proofs.Lists.{within, each_set, at_push, sum_by_lt}
-use Rattle.history_lock.proofs.Frames.{has_ticket, shares_of, same_view, view_before, waiting-set}
+use Rattle.history_lock.specs.Views.{Each, HasView, waiting, share_count}
+use Rattle.history_lock.specs.Rule.{TicketsAreInRange, OneIsServed, SlotIsRight, SpentIsIdle}
+use Rattle.history_lock.proofs.Lists.{each_set, at_push, sum_by_lt}
+use Rattle.history_lock.proofs.Frames.{has_ticket, shares_of, same_view, waiting-set}
 
 pub false_unless : (b : Bool) → (b ≡ true → ⊥) → b ≡ false
 false_unless true never = absurd (never refl)

@@ -1,14 +1,11 @@
 -- What a contract sees of a pass, of a pass that is inside, and of a lock.
-use Rattle.std.specs.Prelude.{◌≡◌, ◌⊎◌, ℕ, ◌<◌, ◌++◌, List, [], length, All, Any, Vec, slice_get, Some}
-use mathlib.Core.List.{IsPrefix}
+use Rattle.std.specs.Prelude.{◌≡◌, ℕ, List, [], slice_get, Some}
 use Rattle.atomic_table.specs.Seated.{TableId}
 use Rattle.history_lock.specs.declared.grows.Grows.{Ghosts}
-use Rattle.history_lock.specs.declared.grows.TheConstants.{OPENER}
 use Rattle.history_lock.specs.declared.pass.Pass.{Pass}
 use Rattle.history_lock.specs.declared.inside.Inside.{Inside}
 use Rattle.history_lock.specs.declared.lock.HistoryLock.{HistoryLock}
 use Rattle.history_lock.specs.declared.view.Share.{Share}
-use Rattle.history_lock.specs.Entries.{entries_by}
 use Rattle.history_lock.specs.Views.{first_share}
 
 module _ {Val E : Type 0} where

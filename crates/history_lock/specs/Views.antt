@@ -1,5 +1,5 @@
 -- What each seat at the table knows. These views exist in proofs alone.
-use Rattle.std.specs.Prelude.{◌≡◌, ◌⊎◌, ℕ, suc, zero, ◌+◌, Bool, true, false, List, [], ◌∷◌, length, count_by, sum_by, is_some, None, Some}
+use Rattle.std.specs.Prelude.{◌≡◌, ◌⊎◌, ℕ, suc, zero, ◌+◌, true, false, List, [], ◌∷◌, length, count_by, sum_by, is_some, None, Some}
 use mathlib.Core.Option.{some}
 use lib.ListN.{get_elem?}
 use Rattle.history_lock.specs.declared.view.Share.{Share}

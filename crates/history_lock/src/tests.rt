@@ -123,6 +123,13 @@ fn opens_with_all_passes_alone(rt: HostRuntime) -> Result<(), Fail> {
     Ok(())
 }
 
+// What may cross to another thread, and nothing else, goes through.
+fn sent<T: Send>(value: T) -> T
+    ensures { result ≡ value }
+{
+    value
+}
+
 #[test]
 fn news_counts_what_another_added(rt: HostRuntime) -> Result<(), Fail> {
     let (lock, mut passes) = open(rt.alloc(), 2)?;
@@ -131,7 +138,7 @@ fn news_counts_what_another_added(rt: HostRuntime) -> Result<(), Fail> {
     assert!(rt; lock.news(&mut second) == 0);
     let first = add_note(&rt, &lock, first, 7).0;
     assert!(rt; lock.news(&mut second) == 1);
-    let inside = lock.enter(&rt, second);
+    let inside = sent(lock.enter(&rt, second));
     let note = inside.value().notes.get(0).copied();
     assert!(rt; note == Some(Note { caller: 0, page: 7 }) && inside.number() == 1);
     let second = lock.leave(inside);

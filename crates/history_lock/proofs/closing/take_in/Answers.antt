@@ -1,12 +1,9 @@
-use Rattle.std.proofs.Common.{rules, ◌≡◌, ◌∷◌, ◌++◌, [], List, All, None, Some, false, map, refl, sym, ap, ◌∙◌, subst, option_to_list, IfSome}
+use Rattle.std.proofs.Common.{rules, ◌≡◌, ◌∷◌, ◌++◌, [], map, sym, ap, ◌∙◌, subst, option_to_list, IfSome}
 use Rattle.std.proofs.lemmas.List.{append-nil}
 use Rattle.std.proofs.lemmas.List.Elements.{All-pop}
-use Rattle.atomic_table.specs.Table.{Joins}
 use Rattle.history_lock.specs.declared.pass.Pass.{Pass}
 use Rattle.history_lock.specs.declared.view.View.{View}
 use Rattle.history_lock.specs.Passes.{lock_of, share_of}
-use Rattle.history_lock.specs.Rule.{IsKept}
-use Rattle.history_lock.specs.Views.{spent_view}
 use Rattle.history_lock.proofs.Seats.{joins}
 use Rattle.history_lock.proofs.Dealing.{shares-pop}
 use Rattle.history_lock.proofs.closing.take_in.Goals as goal

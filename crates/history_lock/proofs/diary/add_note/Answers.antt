@@ -1,4 +1,4 @@
-use Rattle.std.proofs.Common.{rules, ◌≡◌, Bool, [], ◌∷◌, ◌++◌, sym, ap, ◌∙◌, if◌then◌else◌}
+use Rattle.std.proofs.Common.{◌≡◌, Bool, [], ◌∷◌, ◌++◌, sym, ap, ◌∙◌, if◌then◌else◌}
 use Rattle.history_lock.specs.declared.diary.Note.{Note}
 use Rattle.history_lock.specs.Passes.{pass_number, own, found, inside_own}
 use Rattle.history_lock.proofs.Diaries.{own_after}

@@ -1,4 +1,4 @@
-use Rattle.std.proofs.Common.{rules, ◌≡◌, length, slice_get, Some, ◌+◌, ◌-◌, ◌<◌, ◌≤◌, ℕ, [], List, refl, sym, ap, ◌∙◌, arith}
+use Rattle.std.proofs.Common.{rules, ◌≡◌, length, slice_get, ◌-◌, ◌<◌, List, refl, sym, ap, ◌∙◌, arith}
 use Rattle.history_lock.specs.Views.{first_share}
 use Rattle.history_lock.proofs.Dealing.{none_there, fresh_push, gives, left_over, given_one, last_one, giving, giving_rests, giving_is_fresh}
 use Rattle.history_lock.proofs.making.deal.Goals as goal

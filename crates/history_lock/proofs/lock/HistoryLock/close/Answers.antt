@@ -1,4 +1,4 @@
-use Rattle.std.proofs.Common.{rules, ◌≡◌, ◌≤◌, ◌<◌, ◌⊎◌, All, ℕ, length, refl, sym, ap, ◌∙◌, subst, arith, Option, Some, None, IsSome}
+use Rattle.std.proofs.Common.{◌≡◌, ◌≤◌, ◌<◌, ◌⊎◌, All, ℕ, length, refl, sym, ◌∙◌, subst, arith, IsSome}
 use Rattle.std.specs.Slots.{slots_items}
 use Rattle.history_lock.specs.declared.grows.TheConstants.{OPENER}
 use Rattle.history_lock.proofs.Ending.{comes_out, fits_value}

@@ -1,4 +1,4 @@
-use Rattle.std.proofs.Common.{rules, ◌≡◌, ℕ, [], refl, sym, ap, ◌∙◌, subst, Option}
+use Rattle.std.proofs.Common.{rules, ◌≡◌, ℕ, [], refl, sym, subst, Option}
 use mathlib.Core.Option.{none}
 use Rattle.atomic_table.specs.Table.{Me, step, Allows}
 use Rattle.history_lock.specs.declared.view.View.{View}

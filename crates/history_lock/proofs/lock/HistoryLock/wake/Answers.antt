@@ -1,4 +1,4 @@
-use Rattle.std.proofs.Common.{rules, ℕ}
+use Rattle.std.proofs.Common.{rules}
 use Rattle.history_lock.specs.Views.{opening_view}
 use Rattle.history_lock.proofs.Seats.{arrives, calls}
 use Rattle.history_lock.proofs.lock.HistoryLock.wake.Goals as goal
