@@ -1,0 +1,10 @@
+pub mod Lists
+pub mod Prefixes
+pub mod Frames
+pub mod Tickets
+pub mod Moves
+pub mod Seats
+pub mod Turns
+pub mod Dealing
+pub mod Ending
+pub mod Diaries

@@ -1,0 +1,51 @@
+-- Beginnings of one list, and the entries of one caller in a longer one.
+use Rattle.std.proofs.Common.{◌≡◌, ◌≢◌, ◌==◌, ℕ, ◌≤◌, true, false, List, [], ◌∷◌, ◌++◌, length, drop, refl, sym, ap, ◌∙◌, arith, append_assoc, length-append}
+use Rattle.std.proofs.lemmas.List.{append-nil}
+use Rattle.std.proofs.lemmas.List.Elements.{filter-append}
+use Rattle.std.proofs.lemmas.Bool.Decides.{nat_tests}
+use mathlib.Core.List.{IsPrefix}
+use Rattle.history_lock.specs.Entries.{entries_by}
+use Rattle.history_lock.specs.Views.{Each}
+
+module _ {A : Type 0} where
+  -- each list begins with itself
+  pub prefix_self : (xs : List A) → IsPrefix xs xs
+  prefix_self xs = ([], append-nil xs)
+
+  -- a longer list begins with what it was made of
+  pub prefix_append : (xs ys : List A) → IsPrefix xs (xs ++ ys)
+  prefix_append xs ys = (ys, refl)
+
+  pub prefix_trans : (xs ys zs : List A) → IsPrefix xs ys → IsPrefix ys zs → IsPrefix xs zs
+  prefix_trans xs ys zs p q = (p.0 ++ q.0, sym (append_assoc xs p.0 q.0) ∙ (ap (λ w. w ++ q.0) p.1 ∙ q.1))
+
+  pub prefix_length : (xs ys : List A) → IsPrefix xs ys → length xs ≤ length ys
+  prefix_length xs ys p = omega (arith, sym (ap length p.1) ∙ length-append xs p.0)
+
+  -- what stands behind a beginning is what was added
+  pub drop_append : (xs ys : List A) → drop (length xs) (xs ++ ys) ≡ ys
+  drop_append [] ys = refl
+  drop_append (x ∷ xs) ys = drop_append xs ys
+
+module _ {E : Type 0} (caller_of : E → ℕ) where
+  -- of entries of one caller, all are that caller's
+  pub entries_by_own : (k : ℕ) (added : List E) → Each (λ e. caller_of e ≡ k) added → entries_by caller_of k added ≡ added
+  entries_by_own k [] own = refl
+  entries_by_own k (e ∷ es) own =
+      let here : (caller_of e == k) ≡ true = let h = own.0 in grind (arith, nat_tests) in
+      let rest : entries_by caller_of k es ≡ es = entries_by_own k es own.1 in
+      rw here (ap (λ w. e ∷ w) rest)
+
+  -- and none is another's
+  pub entries_by_other : (k i : ℕ) (added : List E) → k ≢ i → Each (λ e. caller_of e ≡ k) added → entries_by caller_of i added ≡ []
+  entries_by_other k i [] ne own = refl
+  entries_by_other k i (e ∷ es) ne own =
+      let here : (caller_of e == i) ≡ false = let h = own.0 in grind (arith, nat_tests) in
+      rw here (entries_by_other k i es ne own.1)
+
+  pub entries_by_grown : (k : ℕ) (log added : List E) → Each (λ e. caller_of e ≡ k) added → entries_by caller_of k (log ++ added) ≡ entries_by caller_of k log ++ added
+  entries_by_grown k log added own = filter-append (λ e. caller_of e == k) log added ∙ ap (λ w. entries_by caller_of k log ++ w) (entries_by_own k added own)
+
+  pub entries_by_kept : (k i : ℕ) (log added : List E) → k ≢ i → Each (λ e. caller_of e ≡ k) added → entries_by caller_of i (log ++ added) ≡ entries_by caller_of i log
+  entries_by_kept k i log added ne own =
+      filter-append (λ e. caller_of e == i) log added ∙ (ap (λ w. entries_by caller_of i log ++ w) (entries_by_other k i added ne own) ∙ append-nil (entries_by caller_of i log))

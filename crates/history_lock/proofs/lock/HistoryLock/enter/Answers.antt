@@ -1,0 +1,20 @@
+use Rattle.std.proofs.Common.{rules, ◌≡◌, ◌+◌, ◌%◌, ◌^◌, ℕ, [], refl, sym, ap, ◌∙◌, subst, Option}
+use mathlib.Core.Option.{none}
+use Rattle.atomic_table.specs.Table.{Me, step, Allows}
+use Rattle.history_lock.specs.declared.view.View.{View}
+use Rattle.history_lock.specs.Views.{resting_view, first_share}
+use Rattle.history_lock.specs.Rule.{IsKept}
+use Rattle.history_lock.specs.Steps.{drew}
+use Rattle.history_lock.proofs.Moves.{draws}
+use Rattle.history_lock.proofs.lock.HistoryLock.enter.Goals as goal
+
+pub fetch_add-ticket-requires : goal.fetch_add-ticket-requires
+fetch_add-ticket-requires g c =
+    let H = g.V.Grows.history in let C = g.V.Grows.caller_of in let n : ℕ = c.args.self.now.table.shared.key.passes in
+    let slots : ℕ = c.args.self.now.table.shared.table_id.slots in let id : ℕ = c.into_parts-number.result.2.id in
+    let M : Type 0 = Me (Option g.row.V.Denot) (View g.row.V-Entry.Denot) in
+    let before : M = c.args.pass.place.me in
+    let share = record (first_share before.0.shares) { number = c.args.pass.number } in
+    let v : View g.row.V-Entry.Denot = resting_view c.args.pass.number c.args.pass.known before.0 in
+    let is : c.into_parts-number.result.2.me ≡ (v, []) = ap (λ p. p.me) c.into_parts-number.ensures.2 ∙ (λ i. (c.args.pass.at_rest i, c.args.pass.empty_handed i)) in
+    (search rules, search rules, subst (λ (m : M). Allows (IsKept H C n) slots id m 0 (λ k. (k + 1) % 2 ^ 64) (drew (step slots 0 1 0 none) m)) (sym is) (draws H C n slots id v [] share refl refl refl))

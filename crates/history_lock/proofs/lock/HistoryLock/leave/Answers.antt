@@ -1,0 +1,26 @@
+use Rattle.std.proofs.Common.{rules, ◌≡◌, ◌+◌, ◌%◌, ◌^◌, ℕ, [], ◌∷◌, refl, sym, ap, ◌∙◌, subst, Option, Some, None}
+use mathlib.Core.Option.{none}
+use Rattle.atomic_table.specs.Table.{Me, step, rest, Allows}
+use Rattle.history_lock.specs.declared.view.View.{View}
+use Rattle.history_lock.specs.Views.{first_share}
+use Rattle.history_lock.specs.Rule.{IsKept}
+use Rattle.history_lock.specs.Steps.{passed_on, share_left}
+use Rattle.history_lock.proofs.Moves.{passes_on}
+use Rattle.history_lock.proofs.lock.HistoryLock.leave.Goals as goal
+
+pub fetch_add-requires : goal.fetch_add-requires
+fetch_add-requires g c =
+    let H = g.V.Grows.history in let C = g.V.Grows.caller_of in let n : ℕ = c.args.self.now.table.shared.key.passes in
+    let slots : ℕ = c.args.self.now.table.shared.table_id.slots in let id : ℕ = c.exchange-taken.new.seat.id in
+    let M : Type 0 = Me (Option g.row.V.Denot) (View g.row.V-Entry.Denot) in
+    let before : M = c.args.inside.turn.place.me in
+    let val : g.row.V.Denot = c.args.inside.value in
+    let share = share_left (first_share before.0.shares) (H val) in
+    let v : View g.row.V-Entry.Denot = record before.0 { shares = share ∷ [] } in
+    let told : g.row.V.Denot → M = λ x. (record before.0 { shares = share_left (first_share before.0.shares) (H x) ∷ [] }, (0, None) ∷ []) in
+    let is : c.exchange-taken.new.seat.me ≡ (v, (0, Some val) ∷ []) = c.exchange-taken.ensures.3 ∙ ap (λ (m : M). let z : M = (m.0, (0, Some val) ∷ rest m.1) in z) (c.publish.ensures.left ∙ ap told c.of-left.ensures) in (
+      search rules,
+      search rules,
+      subst (λ (m : M). Allows (IsKept H C n) slots id m 1 (λ k. (k + 1) % 2 ^ 64) (passed_on (step slots 1 1 0 none) m)) (sym is)
+          (passes_on H C n slots id v share val refl (ap (λ (z : View g.row.V-Entry.Denot). z.served) c.args.inside.turn.let_in) refl),
+    )

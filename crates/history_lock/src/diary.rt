@@ -1,0 +1,54 @@
+//! A value that grows, as small as can be: a list of notes. It shows what a caller of `leave` owes, and the tests use it.
+ghost use Rattle.std.specs.Prelude.{◌≡◌, ◌+◌, ◌++◌, ◌∷◌, [], if◌then◌else◌};
+ghost use mathlib.Core.List.{IsPrefix};
+ghost use Rattle.history_lock.specs.Passes.{holds, lock_id, lock_of, own, pass_number, seen};
+
+use crate::grows::Grows;
+use crate::lock::HistoryLock;
+use crate::pass::Pass;
+use std::sync::Wait;
+
+/// A note, with the number of the pass that made it.
+#[derive(Clone, Copy, Debug, PartialEq, Eq)]
+pub(crate) struct Note {
+    pub(crate) caller: u32,
+    pub(crate) page: u32,
+}
+
+/// Notes, the oldest first.
+#[derive(Drop)]
+pub(crate) struct Diary {
+    pub(crate) notes: Vec<Note>,
+}
+
+impl Grows for Diary {
+    type Entry = Note;
+
+    ghost history = { λ diary. diary.notes.items };
+
+    ghost caller_of = { λ note. note.caller };
+
+    fn count(&self) -> u64 {
+        self.notes.len() as u64
+    }
+}
+
+/// Adds a note under the number of the pass, and says whether there was memory for it.
+pub(crate) fn add_note(
+    rt: &impl Wait,
+    lock: &HistoryLock<Diary>,
+    pass: Pass<Diary>,
+    page: u32,
+) -> (Pass<Diary>, bool)
+    requires { lock_of pass ≡ lock_id lock.now }
+    ensures own { own result.0 ≡ (if result.1 then own pass ++ (record { caller = pass_number pass; page = page }) ∷ [] else own pass) }
+    ensures seen { IsPrefix (seen pass) (seen result.0) }
+    ensures holds { holds result.0 ≡ holds pass + 1 }
+    ensures same { (lock_of result.0 ≡ lock_of pass) × (pass_number result.0 ≡ pass_number pass) }
+{
+    let mut inside = lock.enter(rt, pass);
+    let caller = inside.number();
+    let note = Note { caller, page };
+    let added = inside.value_mut().notes.push(note).is_ok();
+    (lock.leave(inside), added)
+}

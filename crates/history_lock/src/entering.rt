@@ -1,0 +1,120 @@
+//! How a pass goes in and comes out.
+ghost use Rattle.std.specs.Prelude.{◌≡◌, ◌+◌, ◌++◌, ◌<◌, ◌≤◌, length, [], ◌∷◌, List, None, Some};
+ghost use mathlib.Core.List.{IsPrefix};
+ghost use Rattle.history_lock.specs.Entries.{entries_by, IsGrownBy};
+ghost use Rattle.history_lock.specs.Passes.{lock_of, lock_id, pass_number, seen, own, holds, known, value_of, found, inside_lock, inside_number, inside_own, inside_holds, inside_known};
+ghost use Rattle.history_lock.specs.Views.{ticketed_view, let_in_view, first_share};
+ghost use Rattle.history_lock.specs.Steps.{IsFound, served_view, share_left};
+
+use crate::grows::Grows;
+use crate::inside::{Inside, Turn};
+use crate::lock::HistoryLock;
+use crate::pass::Pass;
+use crate::plays::{Draw, Leaving, Look, PassOn, Publish};
+use crate::rule::{COUNT, Place, SERVING, SLOT, Steps, TICKET};
+use crossbeam_utils::Backoff;
+use std::marker::Brand;
+use std::snapshot::Snapshot;
+use std::sync::Wait;
+
+// Waits until the ticket is served, and takes the value out of the slot.
+fn wait_turn<V: Grows, R: Wait>(rt: &R, steps: &Steps<V>, place: &mut Place<V>, ticket: u64) -> V
+    requires table { (place.old.table_id ≡ steps.now.table_id) × (steps.now.table_id.words ≡ 4) × (steps.now.table_id.slots ≡ 1) }
+    requires ready { (place.old.me.0 ≡ ticketed_view ticket place.old.me.0) × (place.old.me.1 ≡ []) }
+    ensures seat { (place.new.table_id ≡ place.old.table_id) × (place.new.id ≡ place.old.id) }
+    ensures served { place.new.me ≡ (served_view place.old.me.0 (first_share place.old.me.0.shares) (V.history result), (0, None) ∷ []) }
+    ensures found { IsFound V.history V.caller_of (first_share place.old.me.0.shares) place.old.me.0.known result }
+{
+    let backoff = Backoff::new();
+    for _ in rt.forever() {
+        if steps.load::<Look>(place, SERVING) == ticket {
+            return steps.exchange(place, SLOT, None).unwrap();
+        }
+        backoff.snooze();
+    }
+    unreachable!()
+}
+
+// Publishes how many entries the history has that is to be left.
+fn publish<V: Grows, J: Leaving<V::Entry>>(
+    steps: &Steps<V>,
+    place: &mut Place<V>,
+    left: &Snapshot<V>,
+    count: u64,
+)
+    requires left { V.history left.now.value ≡ J.left }
+    requires count { count ≡ length (V.history left.now.value) }
+    requires table { (place.old.table_id ≡ steps.now.table_id) × (steps.now.table_id.words ≡ 4) × (steps.now.table_id.slots ≡ 1) }
+    requires served { (place.old.me.0 ≡ let_in_view place.old.me.0) × (place.old.me.1 ≡ (0, None) ∷ []) }
+    requires grown { IsGrownBy V.caller_of (first_share place.old.me.0.shares).number (first_share place.old.me.0.shares).seen (V.history left.now.value) }
+    ensures seat { (place.new.table_id ≡ place.old.table_id) × (place.new.id ≡ place.old.id) }
+    ensures left { place.new.me ≡ (record place.old.me.0 { shares = share_left (first_share place.old.me.0.shares) (V.history left.now.value) ∷ [] }, (0, None) ∷ []) }
+{
+    steps.store::<Publish<J>>(place, COUNT, count);
+}
+
+impl<V: Grows> HistoryLock<V> {
+    /// Waits until the pass is let in, and gives it the value. It takes no memory.
+    pub fn enter<R: Wait>(&self, rt: &R, pass: Pass<V>) -> Inside<V>
+        requires { lock_of pass ≡ lock_id self.now }
+
+        // The history that is found begins with all that the pass has seen.
+        ensures seen { IsPrefix (seen pass) (V.history (value_of result)) }
+
+        // Its entries of this caller are just the pass's own, in order.
+        ensures own { entries_by V.caller_of (pass_number pass) (V.history (value_of result)) ≡ own pass }
+
+        // It has at least as many entries as the pass knows of.
+        ensures known { known pass ≤ length (V.history (value_of result)) }
+
+        ensures holds { inside_holds result ≡ holds pass + 1 }
+        ensures found { found result ≡ V.history (value_of result) }
+        ensures same { (inside_lock result ≡ lock_of pass) × (inside_number result ≡ pass_number pass) × (inside_own result ≡ own pass) × (inside_known result ≡ known pass) }
+    {
+        let (number, known, mut place) = pass.into_parts();
+        let steps = &self.table.shared;
+        let ticket = steps.fetch_add::<Draw>(&mut place, TICKET, 1);
+        let value = wait_turn(rt, steps, &mut place, ticket);
+        Inside {
+            value,
+            turn: Turn {
+                number,
+                known,
+                place,
+            },
+        }
+    }
+
+    /// Lets the next pass in. The value may have grown by entries of this caller alone. It takes no memory.
+    pub fn leave(&self, inside: Inside<V>) -> Pass<V>
+        requires lock { inside_lock inside ≡ lock_id self.now }
+        requires grown { IsGrownBy V.caller_of (inside_number inside) (found inside) (V.history (value_of inside)) }
+
+        // The pass has seen the history that it left.
+        ensures seen { seen result ≡ V.history (value_of inside) }
+
+        // Its own list is longer by what was added in this hold.
+        ensures own { (added : List V.Entry) → V.history (value_of inside) ≡ found inside ++ added → own result ≡ inside_own inside ++ added }
+
+        ensures same { (lock_of result ≡ inside_lock inside) × (pass_number result ≡ inside_number inside) × (holds result ≡ inside_holds inside) × (known result ≡ inside_known inside) }
+    {
+        let Inside { value, turn } = inside;
+        let Turn {
+            number,
+            known,
+            mut place,
+        } = turn;
+        let steps = &self.table.shared;
+        let left = Snapshot::of(&value);
+        let count = value.count();
+        publish::<V, Brand>(steps, &mut place, &left, count);
+        let taken = steps.exchange(&mut place, SLOT, Some(value));
+        let None = taken else { unreachable!() };
+        steps.fetch_add::<PassOn>(&mut place, SERVING, 1);
+        Pass {
+            number,
+            known,
+            place,
+        }
+    }
+}

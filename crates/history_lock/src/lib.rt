@@ -1,0 +1,41 @@
+//! A ticket lock round a value that knows its own history.
+//!
+//! A thread that holds a pass finds, each time it enters, a value whose history begins with all that
+//! this pass has seen, and has of its own entries just those that it made.
+//! It stands on `atomic_table` alone, and on `crossbeam_utils` for how it spins.
+//!
+//! | The call | What it promises |
+//! |---|---|
+//! | `make` | passes 0 to n - 1, each of which has seen the history that the value brought |
+//! | `HistoryLock::enter` | what the value that is found has to do with the pass |
+//! | `HistoryLock::leave` | the pass has seen the history that it left, and its own list has grown by what it added |
+//! | `HistoryLock::news` | the count that it loaded is what the pass knows |
+//! | `HistoryLock::await_news` | the pass is unchanged but for what it knows |
+//! | `HistoryLock::close` | the value comes exactly where all passes are given, and its history fits each of them |
+//! | `Inside::value`, `Inside::value_mut` | the value inside, and what a write through it leaves |
+//!
+//! `specs/Rule.antt` has the rule that holds between any two steps, and `specs/Steps.antt` what each kind of step tells.
+#![tactic(auto)]
+
+mod closing;
+mod diary;
+mod entering;
+mod grows;
+mod inside;
+mod lends;
+mod lock;
+mod making;
+mod news;
+mod pass;
+mod plays;
+mod rule;
+#[cfg(test)]
+mod tests;
+mod view;
+
+pub use closing::NotAll;
+pub use grows::{Grows, OPENER};
+pub use inside::Inside;
+pub use lock::HistoryLock;
+pub use making::make;
+pub use pass::Pass;

@@ -1,0 +1,48 @@
+//! A pass, which is the right to enter.
+ghost use Rattle.std.specs.Prelude.{◌≡◌, []};
+ghost use Rattle.history_lock.specs.Views.{resting_view};
+
+use crate::grows::Grows;
+use crate::rule::Place;
+
+/// The right to enter one lock. A contract sees its number, the history that it has seen, the list of its own
+/// entries, the number of its holds and the last count that it loaded.
+pub struct Pass<V: Grows> {
+    pub(crate) number: u32,
+    pub(crate) known: u64,
+    pub(crate) place: Place<V>,
+    ghost empty_handed: { place.me.1 ≡ [] },
+    ghost at_rest: { place.me.0 ≡ resting_view number known place.me.0 },
+}
+
+impl<V: Grows> Pass<V> {
+    ghost use Rattle.history_lock.specs.Passes.{pass_number};
+
+    /// The number of the pass, below the number of passes of its lock. It is what its own entries have as their caller.
+    pub fn number(&self) -> u32
+        ensures { result ≡ pass_number self.now }
+    {
+        self.number
+    }
+
+    pub(crate) fn into_parts(self) -> (u32, u64, Place<V>)
+        ensures { (result.0 ≡ self.number) × (result.1 ≡ self.known) × (result.2 ≡ self.place) }
+    {
+        let Self {
+            number,
+            known,
+            place,
+        } = self;
+        (number, known, place)
+    }
+}
+
+impl<V: Grows> Drop for Pass<V> {
+    fn drop(self) {
+        let Self {
+            number: _,
+            known: _,
+            place: _,
+        } = self;
+    }
+}
