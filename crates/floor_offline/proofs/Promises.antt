@@ -1,5 +1,5 @@
 -- What is written and what is to come make the same text.
-use Rattle.std.proofs.Common.{◌≡◌, ℕ, refl, sym, ap, ◌∙◌, List, [], ◌∷◌, ◌++◌, append_assoc, drop, ◌-◌}
+use Rattle.std.proofs.Common.{◌≡◌, ℕ, sym, ap, ◌∙◌, List, [], ◌∷◌, ◌++◌, append_assoc, drop, ◌-◌}
 use Rattle.std.specs.Prelude.{Option, Some, None, IfSome, map}
 use Rattle.std.proofs.lemmas.List.{map-append, append-nil}
 use Rattle.floor_text.specs.Lines.{lines_of_bytes}

@@ -1,13 +1,13 @@
 -- What holds of a run between two lines, and what it comes to at the end.
-use Rattle.std.proofs.Common.{◌≡◌, ℕ, ◌+◌, ◌<◌, ◌≤◌, refl, sym, subst, ap, ◌∙◌, inl, inr, List, [], ◌∷◌, ◌++◌, length, arith}
-use Rattle.std.specs.Prelude.{Option, Some, None, IfSome, IsSomeAnd, ◌⊎◌, Result, Ok, Err, OnOk, Contains}
+use Rattle.std.proofs.Common.{◌≡◌, ℕ, ◌+◌, ◌<◌, ◌≤◌, refl, subst, ◌∙◌, inl, inr, List, [], ◌∷◌, ◌++◌, length, arith}
+use Rattle.std.specs.Prelude.{Option, Some, None, IfSome, IsSomeAnd, Result, Ok, Err, OnOk, Contains}
 use Rattle.floor_text.specs.Lines.{lines_of_bytes}
 use Rattle.floor_text.specs.Outside.{Rose}
 use Rattle.floor_core.specs.State.{State, first_state}
 use Rattle.floor_offline.specs.declared.fault.Fault.{Fault}
 use Rattle.floor_offline.specs.declared.fault.Fault.TheVariants as faults
 use Rattle.floor_offline.specs.Endings.{input_limit, fault_status}
-use Rattle.floor_offline.specs.Replay.{items_of_bytes, final_text, replay_text}
+use Rattle.floor_offline.specs.Replay.{final_text, replay_text}
 use Rattle.floor_offline.specs.Promise.{whole_text, Keeps, Counts, GivesMore}
 
 -- The whole text stays what it was, the bytes taken are counted, and no count of faults has fallen.

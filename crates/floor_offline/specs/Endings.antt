@@ -1,5 +1,5 @@
 -- How a run ends. This project's own.
-use Rattle.std.specs.Prelude.{◌≡◌, ℕ, ◌==◌, ◌⊎◌, List, [], ◌∷◌, ◌++◌, map, take, codes, Option, Some, if◌then◌else◌}
+use Rattle.std.specs.Prelude.{◌≡◌, ℕ, ◌==◌, ◌⊎◌, List, [], ◌∷◌, ◌++◌, take, codes, Option, Some, if◌then◌else◌}
 use Rattle.floor_text.specs.Outside.{Rose}
 use Rattle.floor_text.specs.declared.line_reader.ReadEnd.{ReadEnd}
 use Rattle.floor_text.specs.declared.line_reader.ReadEnd.TheVariants.{ReadFault, InputTooLong}

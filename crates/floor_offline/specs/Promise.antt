@@ -1,5 +1,5 @@
 -- What a run in its midst will have written. This project's own.
-use Rattle.std.specs.Prelude.{◌≡◌, ℕ, ◌+◌, ◌<◌, List, ◌++◌, length, Option, Some, None, option_and_then, IfSome, IsSomeAnd}
+use Rattle.std.specs.Prelude.{◌≡◌, ℕ, ◌+◌, ◌<◌, List, ◌++◌, length, Option, Some, option_and_then, IfSome, IsSomeAnd}
 use Rattle.std.specs.Option.{option_map}
 use Rattle.floor_core.specs.State.{State}
 use Rattle.floor_offline.specs.Replay.{items_of_bytes, text_from}

@@ -1,4 +1,4 @@
-use Rattle.std.proofs.Common.{◌≡◌, ◌∙◌, refl, ap, sym, List, [], ◌∷◌}
+use Rattle.std.proofs.Common.{◌≡◌, ◌∙◌, refl, ap, [], ◌∷◌}
 use Rattle.std.specs.Prelude.{Some, None}
 use Rattle.floor_text.specs.declared.refusal.Refusal.TheVariants.{Syntax}
 use Rattle.floor_events.specs.declared.answer.Answer.TheVariants.{No}

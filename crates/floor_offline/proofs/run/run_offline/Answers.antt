@@ -1,5 +1,3 @@
-use Rattle.std.proofs.Common.{[], ◌∷◌}
-use Rattle.std.specs.Prelude.{Contains}
 use Rattle.floor_offline.proofs.Running.{status_of_fault}
 use Rattle.floor_offline.proofs.run.run_offline.Goals as goal
 
