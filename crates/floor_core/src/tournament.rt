@@ -59,11 +59,12 @@ impl Tournament {
     }
 
     /// Answers an event by the first check that holds, and carries it out where none does. A refused event and
-    /// want of memory change nothing.
+    /// want of memory change nothing, and memory is wanted only for an event that meets no check.
     pub fn apply(&mut self, event: &Event) -> Result<Answer, AllocError>
         ensures answer { IfOk result (λ answer. answer ≡ answer_to self.old event.now) }
         ensures state { OnOk result (self.new ≡ state_after self.old event.now) }
         ensures err { OnErr result (self.new ≡ self.old) }
+        ensures lawful { OnErr result (answer_to self.old event.now ≡ answers.Ok) }
     {
         match event {
             Event::Plan(line) => self.plan_line(line),
@@ -79,6 +80,7 @@ impl Tournament {
         ensures answer { IfOk result (λ answer. answer ≡ answer_to self.old (events.Plan line.now)) }
         ensures state { OnOk result (self.new ≡ state_after self.old (events.Plan line.now)) }
         ensures err { OnErr result (self.new ≡ self.old) }
+        ensures lawful { OnErr result (answer_to self.old (events.Plan line.now) ≡ answers.Ok) }
     {
         if self.plan.is_some() {
             return Ok(told(Answer::No(Refusal::PlanLate)));
@@ -98,6 +100,7 @@ impl Tournament {
         ensures answer { IfOk result (λ answer. answer ≡ answer_to self.old events.Go) }
         ensures state { OnOk result (self.new ≡ state_after self.old events.Go) }
         ensures err { OnErr result (self.new ≡ self.old) }
+        ensures lawful { OnErr result (answer_to self.old events.Go ≡ answers.Ok) }
     {
         if self.plan.is_some() {
             return Ok(told(Answer::No(Refusal::PlanLate)));
@@ -162,6 +165,7 @@ impl Tournament {
         ensures answer { IfOk result (λ answer. answer ≡ answer_to self.old (events.Enter name table seat)) }
         ensures state { OnOk result (self.new ≡ state_after self.old (events.Enter name table seat)) }
         ensures err { OnErr result (self.new ≡ self.old) }
+        ensures lawful { OnErr result (answer_to self.old (events.Enter name table seat) ≡ answers.Ok) }
     {
         match self.newcomer(name, table, seat) {
             Ok(player) => {
