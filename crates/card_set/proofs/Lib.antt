@@ -1,0 +1,3 @@
+pub mod CardLaws
+pub mod DeckLaws
+pub mod RowLaws

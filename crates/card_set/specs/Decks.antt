@@ -1,0 +1,13 @@
+-- Decks. This project's own.
+use Rattle.std.specs.Prelude.{◌≡◌, ◌≢◌, ℕ, ◌+◌, ◌/◌, ◌%◌, ◌<◌, List, length}
+use Rattle.std.specs.List.{AllPairs, slice_index_or}
+use Rattle.card_set.specs.declared.card.Card.{Card}
+
+-- a deck is a row of 52 cards in which no card comes twice: each card differs from each later one
+pub record IsDeck (cards : List Card) : Type 0 where
+  pub whole : length cards ≡ 52
+  pub distinct : AllPairs (λ one other. one ≢ other) cards
+
+-- in order, the card at each place, counted from 0, has a rank that is 2 more than the place divided by 4, and the remainder is its suit: from the twos to the aces, and of each rank clubs, diamonds, hearts, spades
+abbrev pub IsInOrder : List Card → Type 0
+IsInOrder cards = (place : ℕ) (other : Card) → place < 52 → ((slice_index_or cards place other).rank ≡ 2 + place / 4) × ((slice_index_or cards place other).suit ≡ place % 4)

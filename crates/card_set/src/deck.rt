@@ -1,0 +1,74 @@
+//! Decks.
+
+ghost use Rattle.std.specs.Prelude.{◌≡◌, ◌<◌, ◌↔◌, IsSome, IfSome, Some, slice_get};
+ghost use Rattle.card_set.specs.Decks.{IsDeck, IsInOrder};
+
+use crate::card::{Card, CardRow};
+use std::marker::Model;
+
+/// A row of 52 cards in which no card comes twice. Contracts see it as the list of its cards.
+#[derive(Clone, Copy, Debug)]
+pub struct Deck {
+    cards: [Card; 52],
+}
+
+impl Model for Deck {
+    ghost use Rattle.std.specs.Prelude.{List};
+    ghost use Rattle.card_set.specs.declared.card.Card.{Card};
+    ghost use Rattle.card_set.specs.Decks.{IsDeck};
+
+    ghost Value = { List Card };
+
+    ghost view = { λ deck. deck.cards };
+
+    ghost invariant = { λ deck. IsDeck deck.cards };
+
+    ghost inverse = { λ cards. record { cards = cards } };
+}
+
+impl Deck {
+    /// The deck of a row. `None` exactly where a card comes twice.
+    pub fn of_row(row: &CardRow) -> Option<Deck>
+        ensures some { IsSome result ↔ IsDeck row.now.cards }
+        ensures row { IfSome result (λ deck. deck ≡ row.now.cards) }
+    {
+        for place in 0..52 {
+            if row.cards[..place].contains(&row.cards[place]) {
+                return None;
+            }
+        }
+        Some(Deck { cards: row.cards })
+    }
+
+    /// The deck in order: from the twos to the aces, and of each rank clubs, diamonds, hearts and spades.
+    pub fn sorted() -> Deck
+        ensures order { IsInOrder result }
+        ensures deck { IsDeck result }
+    {
+        let mut cards = [Card { rank: 2, suit: 0 }; 52];
+        for place in 0u8..52 {
+            cards[place as usize] = Card {
+                rank: 2 + place / 4,
+                suit: place % 4,
+            };
+        }
+        Deck { cards }
+    }
+
+    /// The card at a place, from 0.
+    pub fn card(&self, place: usize) -> Card
+        requires { place < 52 }
+        ensures card { slice_get self.now place ≡ Some result }
+        ensures deck { IsDeck self.now }
+    {
+        self.cards[place]
+    }
+
+    /// The row of the deck's cards.
+    pub fn row(&self) -> CardRow
+        ensures same { result.cards ≡ self.now }
+        ensures deck { IsDeck self.now }
+    {
+        CardRow { cards: self.cards }
+    }
+}

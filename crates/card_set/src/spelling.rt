@@ -1,0 +1,68 @@
+//! The text of cards and of rows.
+
+ghost use Rattle.std.specs.Prelude.{◌≡◌, ◌∷◌, [], ℕ, ◌<◌, ◌≤◌, Some, IfSome, position, ◌==◌};
+ghost use Rattle.card_set.specs.declared.card.Card.{Card};
+ghost use Rattle.card_set.specs.declared.card.CardRow.{CardRow};
+ghost use Rattle.card_set.specs.Cards.{rank_letters, rank_letter, suit_letter, card_text, row_text};
+
+use crate::card::{Card, CardRow};
+
+/// The letters of the ranks, from two to the ace.
+const RANKS: [u8; 13] = *b"23456789TJQKA";
+
+/// The letters of the suits: clubs, diamonds, hearts and spades.
+const SUITS: [u8; 4] = *b"cdhs";
+
+/// The place of a letter among those of the ranks, from 0.
+fn rank_place(letter: u8) -> Option<usize>
+    ensures { result ≡ position (λ known. known == letter) rank_letters }
+{
+    RANKS.iter().position(|known| *known == letter)
+}
+
+fn read_rank(letter: u8) -> Option<u8>
+    ensures found { IfSome result (λ rank. (2 ≤ rank) × (rank ≤ 14) × (rank_letter rank ≡ letter)) }
+    ensures only { (rank : ℕ) → 2 ≤ rank → rank ≤ 14 → rank_letter rank ≡ letter → result ≡ Some rank }
+{
+    Some(rank_place(letter)? as u8 + 2)
+}
+
+fn read_suit(letter: u8) -> Option<u8>
+    ensures found { IfSome result (λ suit. (suit < 4) × (suit_letter suit ≡ letter)) }
+    ensures only { (suit : ℕ) → suit < 4 → suit_letter suit ≡ letter → result ≡ Some suit }
+{
+    let place = SUITS.iter().position(|suit| *suit == letter)?;
+    Some(place as u8)
+}
+
+/// Reads a card: the letter of a rank and the letter of a suit. `None` exactly where the two are no card.
+pub fn read_card(a: u8, b: u8) -> Option<Card>
+    ensures found { IfSome result (λ card. card_text card ≡ a ∷ b ∷ []) }
+    ensures only { (card : Card) → card_text card ≡ a ∷ b ∷ [] → result ≡ Some card }
+{
+    let rank = read_rank(a)?;
+    let suit = read_suit(b)?;
+    Some(Card { rank, suit })
+}
+
+/// The text of a card, as it is read.
+pub fn card_text(card: Card) -> [u8; 2]
+    ensures text { result ≡ card_text card }
+{
+    [RANKS[card.rank as usize - 2], SUITS[card.suit as usize]]
+}
+
+/// Reads a row: the texts of 52 cards without a separator. `None` exactly where the bytes are no such row.
+pub fn read_row(bytes: &[u8]) -> Option<CardRow>
+    ensures found { IfSome result (λ row. row_text row.cards ≡ bytes.now) }
+    ensures only { (row : CardRow) → row_text row.cards ≡ bytes.now → result ≡ Some row }
+{
+    if bytes.len() != 104 {
+        return None;
+    }
+    let mut cards = [Card { rank: 2, suit: 0 }; 52];
+    for place in 0..52 {
+        cards[place] = read_card(bytes[2 * place], bytes[2 * place + 1])?;
+    }
+    Some(CardRow { cards })
+}
