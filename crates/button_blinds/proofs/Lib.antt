@@ -1,0 +1,3 @@
+pub mod PlayersBetween
+pub mod SeatSetLaws
+pub mod WhoPlays

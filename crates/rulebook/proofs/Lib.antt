@@ -1,0 +1,2 @@
+pub mod OccupiedSeats
+pub mod Walks

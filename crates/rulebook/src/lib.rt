@@ -1,0 +1,9 @@
+//! The words of the rule books that several crates speak of: so far the order of the seats at a table.
+//!
+//! It stands on no other crate. Its definitions are plain lists and tests over numbers of seats; the
+//! functions here take one step of them.
+#![tactic(auto)]
+
+mod seat_order;
+
+pub use seat_order::{seat_after, seat_before};
