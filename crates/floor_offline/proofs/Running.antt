@@ -1,6 +1,6 @@
 -- What holds of a run between two lines, and what it comes to at the end.
 use Rattle.std.proofs.Common.{◌≡◌, ℕ, ◌+◌, ◌<◌, ◌≤◌, refl, subst, ◌∙◌, inl, inr, List, [], ◌∷◌, ◌++◌, length, arith}
-use Rattle.std.specs.Prelude.{Option, Some, None, IfSome, IsSomeAnd, Result, Ok, Err, OnOk, Contains}
+use Rattle.std.specs.Prelude.{◌⊎◌, Option, Some, None, IfSome, IsSomeAnd, Result, Ok, Err, OnOk, Contains}
 use Rattle.floor_text.specs.Lines.{lines_of_bytes}
 use Rattle.floor_text.specs.Outside.{Rose}
 use Rattle.floor_core.specs.State.{State, first_state}
@@ -88,3 +88,25 @@ status_of_fault faults.Read = (2, omega arith, refl)
 status_of_fault faults.Write = (3, omega arith, refl)
 status_of_fault faults.NoMemory = (4, omega arith, refl)
 status_of_fault faults.InputTooLong = (5, omega arith, refl)
+
+-- a run that ended well, or for want of memory, needs no more
+pub ended : (status : ℕ) (left : Option (List ℕ)) → (status ≡ 0) ⊎ (status ≡ 5) → IfSome left (λ bytes. length bytes ≤ input_limit → (status ≡ 0) ⊎ (status ≡ 5))
+ended status None how = tt
+ended status (Some bytes) how = λ within. how
+
+too_long_alone : (left rest : Option (List ℕ)) (P : Type 0) → GivesMore input_limit left rest → IfSome left (λ bytes. length bytes ≤ input_limit → P)
+too_long_alone None rest P more = tt
+too_long_alone (Some bytes) None P more = absurd more
+too_long_alone (Some bytes) (Some left) P more = λ within. absurd (omega (arith, more, within))
+
+-- a fault that has its cause can be none but want of memory, where there was no other cause
+pub memory_alone : (fault : Fault) (left rest : Option (List ℕ)) (read write : Type 0)
+    → (fault ≡ faults.Usage → ⊥) → (fault ≡ faults.Read → read) → (fault ≡ faults.Write → write)
+    → (fault ≡ faults.InputTooLong → GivesMore input_limit left rest)
+    → (read → ⊥) → (write → ⊥)
+    → IfSome left (λ bytes. length bytes ≤ input_limit → (fault_status fault ≡ 0) ⊎ (fault_status fault ≡ 5))
+memory_alone faults.Usage left rest read write usage reads writes more no_read no_write = absurd (usage refl)
+memory_alone faults.Read left rest read write usage reads writes more no_read no_write = absurd (no_read (reads refl))
+memory_alone faults.Write left rest read write usage reads writes more no_read no_write = absurd (no_write (writes refl))
+memory_alone faults.NoMemory left rest read write usage reads writes more no_read no_write = ended 5 left (inr refl)
+memory_alone faults.InputTooLong left rest read write usage reads writes more no_read no_write = too_long_alone left rest _ (more refl)

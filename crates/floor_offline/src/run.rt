@@ -1,6 +1,6 @@
 //! The top call.
 
-ghost use Rattle.std.specs.Prelude.{◌≡◌, ◌≢◌, ◌↔◌, ◌≤◌, ◌∷◌, [], ◌++◌, ℕ, length, map, codes, string_bytes, Some, IfSome, IsTrue, Contains};
+ghost use Rattle.std.specs.Prelude.{◌⊎◌, ◌≡◌, ◌≢◌, ◌↔◌, ◌≤◌, ◌∷◌, [], ◌++◌, ℕ, length, map, codes, string_bytes, Some, IfSome, IsTrue, Contains};
 ghost use Rattle.floor_text.specs.Outside.{Rose};
 ghost use Rattle.floor_offline.specs.Endings.{input_limit, status_line, PutsLine};
 ghost use Rattle.floor_offline.specs.Replay.{replay_text};
@@ -57,6 +57,11 @@ pub fn run_offline<I: Source, O: Sink, E: Sink>(
     ensures read_fault { result ≡ 3 → Rose (I.faults input.old) (I.faults input.new) }
     ensures write_fault { result ≡ 4 → Rose (O.faults out.old) (O.faults out.new) }
     ensures input_too_long { result ≡ 8 → GivesMore input_limit (I.left input.old) (I.left input.new) }
+
+    // With the right words, no fault and no more bytes than the limit, only memory can be wanting.
+    ensures complete { map string_bytes words.now.items ≡ codes "replay" ∷ []
+        → ¬ Rose (I.faults input.old) (I.faults input.new) → ¬ Rose (O.faults out.old) (O.faults out.new)
+        → IfSome (I.left input.old) (λ bytes. length bytes ≤ input_limit → (result ≡ 0) ⊎ (result ≡ 5)) }
 
     // Err holds nothing at status 0, and else the status's line.
     ensures quiet { result ≡ 0 → err.new ≡ err.old }
