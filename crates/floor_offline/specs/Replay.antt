@@ -5,6 +5,7 @@ use Rattle.floor_text.specs.declared.refusal.Refusal.TheVariants.{Syntax}
 use Rattle.floor_text.specs.Lines.{lines_of_bytes}
 use Rattle.floor_events.specs.declared.answer.Answer.{Answer}
 use Rattle.floor_events.specs.declared.answer.Answer.TheVariants.{No}
+use Rattle.floor_events.specs.declared.event.Event.{Event as EventOfLine}
 use Rattle.floor_events.specs.declared.event.Item.{Item}
 use Rattle.floor_events.specs.declared.event.Item.TheVariants.{Event}
 use Rattle.floor_events.specs.Reading.{item_of_line}
@@ -52,3 +53,13 @@ text_from state items = flat_map answer_text (answers_to_items state items) ++ f
 -- what a stream is answered from the first state on
 abbrev pub replay_text : List ℕ → List ℕ
 replay_text bytes = text_from first_state (items_of_bytes bytes)
+
+-- the events of items in order, without the lines that hold none
+abbrev pub events_of : List (Option Item) → List EventOfLine
+events_of [] = []
+events_of (None ∷ items) = events_of items
+events_of (Some (Event event) ∷ items) = event ∷ events_of items
+
+-- the item of an event's line
+abbrev pub item_of_event : EventOfLine → Option Item
+item_of_event event = Some (Event event)

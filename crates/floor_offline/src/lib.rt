@@ -5,9 +5,11 @@
 #![tactic(auto)]
 
 mod fault;
+mod laws;
 mod replay;
 mod run;
 
+pub use laws::lines_are_a_run;
 pub use run::run_offline;
 
 #[cfg(test)]

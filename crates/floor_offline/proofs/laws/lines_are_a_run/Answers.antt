@@ -1,0 +1,9 @@
+use Rattle.floor_core.specs.State.{first_state}
+use Rattle.floor_offline.proofs.Runs.{state_after_items_is_run, answers_to_events}
+use Rattle.floor_offline.proofs.laws.lines_are_a_run.Goals as goal
+
+pub returns-clause-state : goal.returns-clause-state
+returns-clause-state c = state_after_items_is_run first_state
+
+pub returns-clause-answers : goal.returns-clause-answers
+returns-clause-answers c = answers_to_events first_state
