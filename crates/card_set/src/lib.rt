@@ -1,4 +1,4 @@
-//! Cards, rows of cards and decks.
+//! Games, cards, rows of cards and decks.
 //!
 //! It stands on no other crate. A `Card` has a rank and a suit that a card has, by its type. `read_card` and
 //! `read_row` read exactly the texts of cards and of rows of 52 cards, where a card may come twice. A `Deck` is
@@ -7,10 +7,12 @@
 
 mod card;
 mod deck;
+mod game;
 mod spelling;
 #[cfg(test)]
 mod tests;
 
 pub use card::{Card, CardRow};
 pub use deck::Deck;
+pub use game::Game;
 pub use spelling::{card_text, read_card, read_row};

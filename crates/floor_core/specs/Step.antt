@@ -2,7 +2,7 @@
 use Rattle.std.specs.Prelude.{ℕ, Bool, true, false, not, nat_le, nat_lt, List, [], ◌∷◌, ◌++◌, length, Option, Some, None, is_some, if◌then◌else◌}
 use Rattle.std.specs.Option.{option_map_or}
 use Rattle.floor_text.specs.declared.refusal.Refusal.TheVariants.{NoPlan, PlanLate, Stopped, NameKnown, NoTable, NoSeat, SeatTaken, LateClosed, ListFull, NotBuilt}
-use Rattle.level_plan.specs.declared.line.Game.TheVariants.{Holdem, Omaha, Hilo}
+use Rattle.card_set.specs.declared.game.Game.TheVariants.{Holdem, Omaha, Hilo}
 use Rattle.level_plan.specs.declared.line.PlanItem.{PlanItem}
 use Rattle.level_plan.specs.declared.line.PlanLine.{PlanLine}
 use Rattle.level_plan.specs.declared.line.PlanLine.TheVariants as lines

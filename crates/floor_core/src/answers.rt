@@ -4,9 +4,10 @@ ghost use Rattle.std.specs.Prelude.{◌≡◌, ◌≤◌, true, nat_lt};
 ghost use Rattle.level_plan.specs.Items.{is_between};
 ghost use Rattle.floor_core.specs.Step.{told, is_not_built};
 
+use card_set::Game;
 use floor_events::Answer;
 use floor_text::Refusal;
-use level_plan::{Game, Plan, PlanLine};
+use level_plan::{Plan, PlanLine};
 
 /// An answer as it is told: so far two refusals have their own number, and the others are told as not built.
 pub fn told(answer: Answer) -> Answer

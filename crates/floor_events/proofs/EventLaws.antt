@@ -9,7 +9,7 @@ use Rattle.std.proofs.lemmas.List.Splits.{join_with_byte-slice_split}
 use Rattle.std.proofs.lemmas.Option.{same_Some}
 use Rattle.floor_text.specs.Numbers.{IsLineNumber, number_of}
 use Rattle.floor_text.proofs.NumberLaws.{number_found, number_of-decimal}
-use Rattle.level_plan.specs.declared.line.Game.TheVariants.{Holdem, Omaha, Hilo}
+use Rattle.card_set.specs.declared.game.Game.TheVariants.{Holdem, Omaha, Hilo}
 use Rattle.level_plan.specs.declared.line.PlanLine.{PlanLine}
 use Rattle.level_plan.specs.declared.line.PlanLine.TheVariants as lines
 use Rattle.floor_events.specs.declared.event.Event.{Event}

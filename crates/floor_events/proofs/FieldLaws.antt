@@ -8,8 +8,8 @@ use Rattle.std.proofs.lemmas.Slice.Eq.{bytes_eq-Decides}
 use Rattle.floor_text.specs.Names.{is_name}
 use Rattle.floor_text.specs.Numbers.{IsLineNumber, number_of}
 use Rattle.floor_text.proofs.NumberLaws.{number_found, number_of-decimal}
-use Rattle.level_plan.specs.declared.line.Game.{Game}
-use Rattle.level_plan.specs.declared.line.Game.TheVariants.{Holdem, Omaha, Hilo}
+use Rattle.card_set.specs.declared.game.Game.{Game}
+use Rattle.card_set.specs.declared.game.Game.TheVariants.{Holdem, Omaha, Hilo}
 use Rattle.floor_events.specs.Spelling.{game_word}
 use Rattle.floor_events.specs.Reading.{◌>>=◌, meaning, game_list, game_of, name_of, one_word, three_words, numbers_of, one_number, one_game}
 

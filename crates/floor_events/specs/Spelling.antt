@@ -5,8 +5,8 @@ use Rattle.std.specs.Fmt.{decimal}
 use Rattle.floor_text.specs.Names.{is_name}
 use Rattle.floor_text.specs.Numbers.{IsLineNumber}
 use Rattle.floor_text.specs.Refusals.{refusal_number, refusal_name}
-use Rattle.level_plan.specs.declared.line.Game.{Game}
-use Rattle.level_plan.specs.declared.line.Game.TheVariants.{Holdem, Omaha, Hilo}
+use Rattle.card_set.specs.declared.game.Game.{Game}
+use Rattle.card_set.specs.declared.game.Game.TheVariants.{Holdem, Omaha, Hilo}
 use Rattle.level_plan.specs.declared.line.PlanItem.{PlanItem}
 use Rattle.level_plan.specs.declared.line.PlanItem.TheVariants as items
 use Rattle.level_plan.specs.declared.line.PlanLine.{PlanLine}

@@ -6,8 +6,9 @@ ghost use Rattle.floor_events.specs.Reading.{name_of, game_of, one_number, one_g
 use crate::event::Event;
 use crate::keyword::Keyword;
 use crate::words::Words;
+use card_set::Game;
 use floor_text::{List, Name, read_number};
-use level_plan::{Game, PlanLine};
+use level_plan::PlanLine;
 use std::alloc::{AllocError, Global};
 
 /// The most shares that one line may hold.

@@ -1,6 +1,7 @@
 use super::*;
+use card_set::Game;
 use floor_text::{List, Name, Refusal};
-use level_plan::{Game, PlanItem, PlanLine};
+use level_plan::{PlanItem, PlanLine};
 use std::test::Fail;
 
 /// Lines that are not in the grammar.

@@ -1,8 +1,8 @@
 -- What has been given of a plan, and what is wrong with a line or with the whole. This project's own.
 use Rattle.std.specs.Prelude.{◌≡◌, ℕ, ◌%◌, Bool, true, ◌==◌, ◌&&◌, ◌||◌, not, nat_le, nat_lt, List, [], ◌∷◌, ◌++◌, length, Option, None, Some, is_some, is_none, unwrap_or, if◌then◌else◌}
 use Rattle.std.specs.Option.{option_map_or}
-use Rattle.level_plan.specs.declared.line.Game.{Game}
-use Rattle.level_plan.specs.declared.line.Game.TheVariants.{Holdem}
+use Rattle.card_set.specs.declared.game.Game.{Game}
+use Rattle.card_set.specs.declared.game.Game.TheVariants.{Holdem}
 use Rattle.level_plan.specs.declared.line.PlanItem.{PlanItem}
 use Rattle.level_plan.specs.declared.line.PlanItem.TheVariants as items
 use Rattle.level_plan.specs.declared.line.PlanLine.{PlanLine}

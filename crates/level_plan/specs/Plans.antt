@@ -1,7 +1,7 @@
 -- A whole plan. This project's own.
 use Rattle.std.specs.Prelude.{ℕ, ◌-◌, ◌%◌, Bool, ◌==◌, ◌&&◌, nat_le, List, length, slice_get}
 use Rattle.std.specs.Option.{option_map_or}
-use Rattle.level_plan.specs.declared.line.Game.{Game}
+use Rattle.card_set.specs.declared.game.Game.{Game}
 use Rattle.level_plan.specs.declared.plan.Blind.{Blind}
 use Rattle.level_plan.specs.Items.{is_between, greatest_amount, are_levels, are_shares}
 

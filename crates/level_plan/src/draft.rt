@@ -8,8 +8,9 @@ ghost use Rattle.level_plan.specs.Plans.{is_right};
 use crate::checks::{
     GREATEST_AMOUNT, MOST_LEVELS, are_shares, is_between, is_blind, may_follow, unit_of_level,
 };
-use crate::line::{Game, PlanFault, PlanItem, PlanLine};
+use crate::line::{PlanFault, PlanItem, PlanLine};
 use crate::plan::{Blind, Plan};
+use card_set::Game;
 use floor_text::List;
 use std::alloc::{AllocError, Global};
 use std::marker::Model;

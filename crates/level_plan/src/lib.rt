@@ -1,6 +1,6 @@
 //! Plans of a tournament, given line by line.
 //!
-//! It stands on floor_text. `PlanDraft::line` takes a plan line, or names its item where the line is wrong and
+//! It stands on floor_text and card_set. `PlanDraft::line` takes a plan line, or names its item where the line is wrong and
 //! changes nothing. `PlanDraft::go` names the first item that is missing or wrong, else gives the `Plan`, which
 //! is right by its type.
 #![tactic(auto)]
@@ -13,5 +13,5 @@ mod plan;
 mod tests;
 
 pub use draft::PlanDraft;
-pub use line::{Game, PlanFault, PlanItem, PlanLine};
+pub use line::{PlanFault, PlanItem, PlanLine};
 pub use plan::{Blind, Plan};

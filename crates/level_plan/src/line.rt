@@ -3,19 +3,9 @@
 ghost use Rattle.std.specs.Prelude.{◌≡◌};
 ghost use Rattle.level_plan.specs.declared.line.PlanFault.TheVariants.{NoMemory};
 
+use card_set::Game;
 use floor_text::List;
 use std::alloc::{AllocError, AllocFailed};
-
-/// Which game is played.
-#[derive(Clone, Copy, Debug, PartialEq, Eq)]
-pub enum Game {
-    /// No-limit hold'em.
-    Holdem,
-    /// Pot-limit Omaha.
-    Omaha,
-    /// Pot-limit Omaha, high and low with eight or better.
-    Hilo,
-}
 
 /// What a plan consists of, as a wrong plan names it.
 #[derive(Clone, Copy, Debug, PartialEq, Eq)]

@@ -1,6 +1,6 @@
 //! A right plan.
 
-use crate::line::Game;
+use card_set::Game;
 use floor_text::List;
 use std::marker::Model;
 

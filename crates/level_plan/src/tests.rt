@@ -1,4 +1,5 @@
-use crate::{Blind, Game, PlanDraft, PlanFault, PlanItem, PlanLine};
+use crate::{Blind, PlanDraft, PlanFault, PlanItem, PlanLine};
+use card_set::Game;
 use floor_text::List;
 use std::alloc::{AllocError, Global};
 use std::test::Fail;

@@ -1,5 +1,5 @@
 -- The seats of a table and their order. Robert's Rules of Poker: the button, the blinds and the deal go clockwise.
-use Rattle.std.specs.Prelude.{ℕ, zero, suc, ◌+◌, ◌-◌, Bool, if◌then◌else◌, nat_lt, List, [], ◌∷◌, filter, find, unwrap_or}
+use Rattle.std.specs.Prelude.{ℕ, zero, suc, ◌+◌, ◌-◌, Bool, if◌then◌else◌, nat_lt, not, List, [], ◌∷◌, ◌++◌, filter, find, unwrap_or}
 
 -- Clockwise is rising number, and 1 follows the last.
 abbrev pub seat_after : ℕ → ℕ → ℕ
@@ -37,3 +37,8 @@ nearest_occupied_before seats occupied seat = unwrap_or (find occupied (counter_
 -- The lowest occupied seat: clockwise the first after the last seat.
 abbrev pub lowest_occupied : ℕ → (ℕ → Bool) → ℕ
 lowest_occupied seats occupied = next_occupied_after seats occupied seats
+
+-- People who are listed in rising seat, clockwise from the seat after this one: those at higher seats, and then the others.
+abbrev pub people_clockwise_after : {A : Type 0} → (A → ℕ) → List A → ℕ → List A
+people_clockwise_after seat_of people seat =
+    filter (λ person. nat_lt seat (seat_of person)) people ++ filter (λ person. not (nat_lt seat (seat_of person))) people

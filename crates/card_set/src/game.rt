@@ -1,0 +1,12 @@
+//! Games.
+
+/// Which game is played.
+#[derive(Clone, Copy, Debug, PartialEq, Eq)]
+pub enum Game {
+    /// No-limit hold'em.
+    Holdem,
+    /// Pot-limit Omaha.
+    Omaha,
+    /// Pot-limit Omaha, high and low with eight or better.
+    Hilo,
+}

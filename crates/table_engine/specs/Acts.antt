@@ -1,0 +1,49 @@
+-- What becomes of an act. The Poker TDA Rules: a player acts in turn.
+use Rattle.std.specs.Prelude.{◌≡◌, ℕ, Bool, false, not, List, [], ◌∷◌, ◌++◌, Option, Some, None, is_none, if◌then◌else◌}
+use Rattle.std.specs.List.{list_any}
+use Rattle.std.specs.Option.{option_map_or}
+use Rattle.std.specs.Str.{bytes_eq}
+use Rattle.floor_text.specs.declared.refusal.Refusal.{Refusal}
+use Rattle.floor_text.specs.declared.refusal.Refusal.TheVariants.{NotDealt, NotTurn, HandOver}
+use Rattle.betting_round.specs.declared.act.Act.{Act}
+use Rattle.betting_round.specs.declared.act.Act.TheVariants.{Fold}
+use Rattle.betting_round.specs.declared.act.Done.{Done}
+use Rattle.betting_round.specs.declared.act.Done.TheVariants.{Folded}
+use Rattle.table_engine.specs.declared.start.HandStart.{HandStart}
+use Rattle.table_engine.specs.declared.record.ActOf.{ActOf}
+use Rattle.table_engine.specs.declared.record.ActFault.{ActFault}
+use Rattle.table_engine.specs.declared.record.ActFault.TheVariants as faults
+use Rattle.table_engine.specs.Hands.{HandTerms, due_name}
+
+-- Whether a player of this name is dealt in.
+abbrev pub is_dealt : HandStart → List ℕ → Bool
+is_dealt start name = list_any (λ player. bytes_eq player.name name) start.seats
+
+-- The refusals of an act, lowest number first: the player is not dealt in, another player is due, nobody is due.
+abbrev pub act_checks : HandTerms → List ℕ → List (Refusal × Bool)
+act_checks hand name =
+    (NotDealt, not (is_dealt hand.start name)) ∷
+    (NotTurn, option_map_or (λ due. not (bytes_eq due name)) (due_name hand) false) ∷
+    (HandOver, is_none (due_name hand)) ∷ []
+
+-- The first refusal whose test holds.
+abbrev pub first_refusal : List (Refusal × Bool) → Option Refusal
+first_refusal [] = None
+first_refusal (row ∷ rows) = if row.1 then Some row.0 else first_refusal rows
+
+-- The lowest refusal of an act that holds, if one does.
+abbrev pub refusal_of_act : HandTerms → List ℕ → Option Refusal
+refusal_of_act hand name = first_refusal (act_checks hand name)
+
+-- What an act that is not refused comes to.
+abbrev pub done_by : Act → Done
+done_by Fold = Folded
+
+-- The hand after an act of a player: one more act.
+abbrev pub hand_after : HandTerms → List ℕ → Act → Bool → HandTerms
+hand_after hand name act by_time = record hand { acts = hand.acts ++ (record { name = name; act = act; by_time = by_time }) ∷ [] }
+
+-- A fault is the lowest refusal that holds; memory runs out only where none does.
+abbrev pub IsActFault : Option Refusal → ActFault → Type 0
+IsActFault found (faults.No refusal) = found ≡ Some refusal
+IsActFault found faults.NoMemory = found ≡ None

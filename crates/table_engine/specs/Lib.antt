@@ -1,0 +1,4 @@
+pub mod Hands
+pub mod Acts
+pub mod Results
+pub mod Kept

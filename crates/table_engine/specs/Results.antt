@@ -1,0 +1,25 @@
+-- What a hand that is over comes to. The Poker TDA Rules: where one player alone is live, he gets everything.
+use Rattle.std.specs.Prelude.{ℕ, ◌+◌, Bool, not, List, map, sum_by, if◌then◌else◌}
+use Rattle.betting_round.specs.Streets.{is_one_live}
+use Rattle.table_engine.specs.declared.start.StartSeat.{StartSeat}
+use Rattle.table_engine.specs.Hands.{HandTerms, put_in_hand, behind, has_folded, players_on_street}
+
+-- All that was put in during the hand.
+abbrev pub pot : HandTerms → ℕ
+pot hand = sum_by (put_in_hand hand.start hand.acts) hand.start.seats
+
+-- One player alone is live, so the hand is won without a showdown.
+abbrev pub is_won_by_folds : HandTerms → Bool
+is_won_by_folds hand = is_one_live (players_on_street hand)
+
+-- What a player gets of the pot where one player alone is live: that one gets everything.
+abbrev pub award : HandTerms → StartSeat → ℕ
+award hand player = if not (has_folded hand.acts player.name) then pot hand else 0
+
+-- The stacks after a hand that is won without a showdown, in the order of its players: what each has behind, and what he gets of the pot.
+abbrev pub stacks_after_hand : HandTerms → List ℕ
+stacks_after_hand hand = map (λ player. behind hand.start hand.acts player + award hand player) hand.start.seats
+
+-- The stacks with which the players of a hand began.
+abbrev pub starting_stacks : HandTerms → List ℕ
+starting_stacks hand = map (λ player. player.stack) hand.start.seats

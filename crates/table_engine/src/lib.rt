@@ -1,0 +1,19 @@
+//! One hand: its start and its acts, and what they come to.
+//!
+//! It stands on floor_text, card_set, button_blinds and betting_round. A `Hand` is made of a `HandStart`, takes
+//! acts from the players who are due, and ends by `finish`, with the stacks after it, or by `void`, which gives its
+//! start back. So far folding is the only act. `chips_of_a_hand` is a law of every hand at each moment.
+#![tactic(auto)]
+
+mod hand;
+mod laws;
+mod record;
+mod start;
+
+pub use hand::Hand;
+pub use laws::chips_of_a_hand;
+pub use record::{ActFault, ActOf, HandRecord};
+pub use start::{HandStart, StartSeat};
+
+#[cfg(test)]
+mod tests;

@@ -1,0 +1,56 @@
+//! What is kept of a hand, and why an act was not taken.
+
+ghost use Rattle.std.specs.Prelude.{◌≡◌};
+ghost use Rattle.table_engine.specs.declared.record.ActFault.TheVariants.{NoMemory};
+
+use crate::start::HandStart;
+use betting_round::Act;
+use floor_text::{List, Name, Refusal};
+use std::alloc::{AllocError, AllocFailed};
+
+/// An act of a player.
+#[derive(Clone, Copy, Debug)]
+pub struct ActOf {
+    /// Who acted.
+    pub name: Name,
+    /// What he did.
+    pub act: Act,
+    /// Whether the act was made for him because time was called. So far no time is called.
+    pub by_time: bool,
+}
+
+/// A hand that is over.
+#[derive(Debug, Drop)]
+pub struct HandRecord {
+    /// How it started.
+    pub start: HandStart,
+    /// Its acts, in order.
+    pub acts: List<ActOf>,
+    /// The stacks after it, in chips, in the order of the start's players.
+    pub stacks: List<u64>,
+}
+
+/// Why an act was not taken.
+#[derive(Clone, Copy, Debug, PartialEq, Eq)]
+pub enum ActFault {
+    /// The act is refused.
+    No(Refusal),
+    /// Memory ran out.
+    NoMemory,
+}
+
+impl<T: Drop> From<AllocFailed<T>> for ActFault {
+    ghost from_gives = { λ _ fault. fault ≡ NoMemory };
+
+    fn from(_: AllocFailed<T>) -> ActFault {
+        ActFault::NoMemory
+    }
+}
+
+impl From<AllocError> for ActFault {
+    ghost from_gives = { λ _ fault. fault ≡ NoMemory };
+
+    fn from(_: AllocError) -> ActFault {
+        ActFault::NoMemory
+    }
+}
