@@ -1,5 +1,6 @@
 pub mod Places
 pub mod State
+pub mod Dealing
 pub mod Step
 pub mod Run
 pub mod Report

@@ -1,8 +1,11 @@
 -- What is reported of a state. This project's own.
-use Rattle.std.specs.Prelude.{ℕ, ◌*◌, [], length, map, sum_by, Some}
+use Rattle.std.specs.Prelude.{ℕ, ◌*◌, Bool, List, [], length, map, sum, sum_by, Option, Some, None, if◌then◌else◌}
 use Rattle.floor_events.specs.declared.report.Report.{Report}
 use Rattle.floor_events.specs.declared.report.ReportSeat.{ReportSeat}
 use Rattle.floor_core.specs.declared.seated.Seated.{Seated}
+use Rattle.std.specs.Option.{option_map_or}
+use Rattle.table_engine.specs.Results.{starting_stacks}
+use Rattle.floor_core.specs.declared.table.Table.{Table}
 use Rattle.floor_core.specs.State.{State}
 use Rattle.floor_core.specs.Step.{starting_stack}
 
@@ -14,11 +17,19 @@ sold state = length state.entries * starting_stack state
 abbrev pub rest : State → ℕ
 rest state = sum_by (λ player. player.stack) state.seats
 
--- a player who is in, as he is reported
-abbrev pub reported : Seated → ReportSeat
-reported player = record { place = player.place; name = player.name; stack = Some player.stack }
+-- the chips that are in play at a table: the stacks with which the players of its hand began
+abbrev pub play_at : Table → ℕ
+play_at table = option_map_or (λ hand. sum (starting_stacks hand)) table.hand 0
 
--- The report of a state. There are no races and no hands yet, so nothing is removed or added and nobody is in play
--- or out.
+-- the chips in play: the stacks with which the players of started hands began
+abbrev pub play : State → ℕ
+play state = sum_by play_at state.tables
+
+-- a player who is in, as he is reported: with his stack at rest, or in play
+abbrev pub reported : Seated → ReportSeat
+reported player = record { place = player.place; name = player.name; stack = if player.in_hand then None else Some player.stack }
+
+-- The report of a state. There are no races yet, so nothing is removed or added; and a hand that ends by folds takes
+-- all chips from nobody, so nobody is out.
 abbrev pub report_of : State → Report
-report_of state = record { level = state.level; sold = sold state; removed = 0; added = 0; rest = rest state; play = 0; seats = map reported state.seats; outs = [] }
+report_of state = record { level = state.level; sold = sold state; removed = 0; added = 0; rest = rest state; play = play state; seats = map reported state.seats; outs = [] }
