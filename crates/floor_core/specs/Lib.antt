@@ -5,3 +5,4 @@ pub mod Step
 pub mod Run
 pub mod Report
 pub mod Valid
+pub mod Fields

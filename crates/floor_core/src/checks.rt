@@ -1,23 +1,11 @@
-//! Answers as they are told so far.
+//! What a plan has, and what of it is not carried out yet.
 
 ghost use Rattle.std.specs.Prelude.{◌≡◌, ◌≤◌, true, nat_lt};
 ghost use Rattle.level_plan.specs.Items.{is_between};
-ghost use Rattle.floor_core.specs.Step.{told, is_not_built};
+ghost use Rattle.floor_core.specs.Step.{is_not_built};
 
 use card_set::Game;
-use floor_events::Answer;
-use floor_text::Refusal;
 use level_plan::{Plan, PlanLine};
-
-/// An answer as it is told: so far two refusals have their own number, and the others are told as not built.
-pub fn told(answer: Answer) -> Answer
-    ensures { result ≡ told answer }
-{
-    match answer {
-        Answer::Ok | Answer::No(Refusal::NameKnown | Refusal::SeatTaken) => answer,
-        Answer::No(_) | Answer::PlanWrong(_) => Answer::No(Refusal::NotBuilt),
-    }
-}
 
 /// Whether a plan line gives what is not carried out yet: a game other than hold'em, or more tables than one.
 pub fn is_not_built(line: &PlanLine) -> bool
