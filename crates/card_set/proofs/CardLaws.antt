@@ -1,10 +1,11 @@
 -- Cards by their ranks and suits. This project's own.
 use mathlib.Core.HLevel.{is_prop→PathP}
-use Rattle.std.proofs.Common.{◌≡◌, ◌≢◌, ℕ, ◌<◌, ◌≤◌, List, length, Bool, true, false, ◌==◌, ◌&&◌, arith, ap}
+use Rattle.std.proofs.Common.{◌≡◌, ◌≢◌, ℕ, ◌<◌, ◌≤◌, List, length, Bool, true, false, ◌==◌, ◌&&◌, arith, refl, ap}
 use Rattle.std.proofs.Props.{props}
 use Rattle.std.proofs.lemmas.Bool.Decides.{nat_tests}
 use Rattle.card_set.specs.declared.card.Card.{Card}
 use Rattle.card_set.specs.declared.card.CardRow.{CardRow}
+use Rattle.card_set.specs.Decks.{is_same_card}
 
 le_prop : (n m : ℕ) → IsProp (n ≤ m)
 le_prop n m = hlevel props
@@ -32,22 +33,31 @@ same_row one other cards = λ i. record {
   whole = is_prop→PathP (λ j. length (cards j) ≡ 52) (λ j. whole_prop (cards j)) one.whole other.whole i;
 }
 
--- what the program's test of two cards says
-abbrev pub is_same : Card → Card → Bool
-is_same one other = (one.rank == other.rank) && (one.suit == other.suit)
-
 same_numbers : (a b c d : ℕ) → ((a == b) && (c == d)) ≡ true → (a ≡ b) × (c ≡ d)
 same_numbers a b c d test = grind (arith, nat_tests)
 
 passes_same : (a b c d : ℕ) → a ≡ b → c ≡ d → ((a == b) && (c == d)) ≡ true
 passes_same a b c d ranks suits = grind (arith, nat_tests)
 
-pub card-is_same : (one other : Card) → is_same one other ≡ true → one ≡ other
-card-is_same one other test =
+-- a test that cannot pass fails
+pub test_fails : (test : Bool) → (test ≡ true → ⊥) → test ≡ false
+test_fails true never = absurd (never refl)
+test_fails false never = refl
+
+-- a test that cannot fail passes
+pub test_passes : (test : Bool) → (test ≡ false → ⊥) → test ≡ true
+test_passes true never = refl
+test_passes false never = absurd (never refl)
+
+pub same-from_is_same_card : (one other : Card) → is_same_card one other ≡ true → one ≡ other
+same-from_is_same_card one other test =
     let both : (one.rank ≡ other.rank) × (one.suit ≡ other.suit) = same_numbers one.rank other.rank one.suit other.suit test in
     same_card one other both.0 both.1
 
-pub card-is_not_same : (one other : Card) → is_same one other ≡ false → one ≢ other
-card-is_not_same one other test = λ same.
-    let passed : is_same one other ≡ true = passes_same one.rank other.rank one.suit other.suit (ap (λ (card : Card). card.rank) same) (ap (λ (card : Card). card.suit) same) in
+pub differ-from_is_same_card : (one other : Card) → is_same_card one other ≡ false → one ≢ other
+differ-from_is_same_card one other test = λ same.
+    let passed : is_same_card one other ≡ true = passes_same one.rank other.rank one.suit other.suit (ap (λ (card : Card). card.rank) same) (ap (λ (card : Card). card.suit) same) in
     cc
+
+pub is_same_card-from_differ : (one other : Card) → one ≢ other → is_same_card one other ≡ false
+is_same_card-from_differ one other differ = test_fails (is_same_card one other) (λ passed. differ (same-from_is_same_card one other passed))

@@ -1,12 +1,21 @@
 -- Decks. This project's own.
-use Rattle.std.specs.Prelude.{◌≡◌, ◌≢◌, ℕ, ◌+◌, ◌/◌, ◌%◌, ◌<◌, List, length}
-use Rattle.std.specs.List.{AllPairs, slice_index_or}
+use Rattle.std.specs.Prelude.{◌≡◌, ◌≢◌, ℕ, ◌+◌, ◌/◌, ◌%◌, ◌<◌, Bool, false, ◌==◌, ◌&&◌, ◌||◌, List, [], ◌∷◌, length}
+use Rattle.std.specs.List.{AllPairs, slice_index_or, list_any}
 use Rattle.card_set.specs.declared.card.Card.{Card}
 
 -- a deck is a row of 52 cards in which no card comes twice: each card differs from each later one
 pub record IsDeck (cards : List Card) : Type 0 where
   pub whole : length cards ≡ 52
   pub distinct : AllPairs (λ one other. one ≢ other) cards
+
+-- whether two cards are the same card: their ranks are equal, and so are their suits
+abbrev pub is_same_card : Card → Card → Bool
+is_same_card one other = one.rank == other.rank && one.suit == other.suit
+
+-- whether a card comes twice in a list of cards: the first card is the same as a later one, or a card comes twice in the rest
+abbrev pub repeats_a_card : List Card → Bool
+repeats_a_card [] = false
+repeats_a_card (card ∷ cards) = list_any (is_same_card card) cards || repeats_a_card cards
 
 -- in order, the card at each place, counted from 0, has a rank that is 2 more than the place divided by 4, and the remainder is its suit: from the twos to the aces, and of each rank clubs, diamonds, hearts, spades
 abbrev pub IsInOrder : List Card → Type 0

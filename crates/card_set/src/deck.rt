@@ -1,7 +1,7 @@
 //! Decks.
 
-ghost use Rattle.std.specs.Prelude.{◌≡◌, ◌<◌, ◌↔◌, IsSome, IfSome, Some, slice_get};
-ghost use Rattle.card_set.specs.Decks.{IsDeck, IsInOrder};
+ghost use Rattle.std.specs.Prelude.{◌≡◌, ◌<◌, ◌↔◌, IsSome, IfSome, Some, is_none, slice_get};
+ghost use Rattle.card_set.specs.Decks.{IsDeck, IsInOrder, repeats_a_card};
 
 use crate::card::{Card, CardRow};
 use std::marker::Model;
@@ -30,6 +30,7 @@ impl Deck {
     /// The deck of a row. `None` exactly where a card comes twice.
     pub fn of_row(row: &CardRow) -> Option<Deck>
         ensures some { IsSome result ↔ IsDeck row.now.cards }
+        ensures none { is_none result ≡ repeats_a_card row.now.cards }
         ensures row { IfSome result (λ deck. deck ≡ row.now.cards) }
     {
         for place in 0..52 {
