@@ -1,5 +1,5 @@
 -- The search clockwise, by the lowest seat above and by the lowest of all.
-use Rattle.std.proofs.Common.{◌≡◌, ◌∙◌, ℕ, List, [], ◌∷◌, ◌++◌, Bool, true, false, Some, None, refl, ap, sym}
+use Rattle.std.proofs.Common.{◌≡◌, ◌∙◌, ℕ, List, [], ◌∷◌, Bool, true, false, Some, None, refl, ap, sym}
 use Rattle.std.specs.Prelude.{◌&&◌, not, nat_lt, cond, find, filter, Option}
 use Rattle.std.specs.Option.{option_or}
 use Rattle.std.proofs.lemmas.List.Folds.{find-append}
@@ -53,3 +53,31 @@ pub find-clockwise_of_all : {A : Type 0} (wanted : A → Bool) (seat_of : A → 
     → find wanted (people_clockwise_after seat_of people seat) ≡ find wanted people
 find-clockwise_of_all wanted seat_of people seat above =
     rw (find-clockwise wanted seat_of people seat, above) (find-others wanted (λ person. nat_lt seat (seat_of person)) people above)
+
+-- Where the search clockwise finds nobody, nobody is found among all.
+pub find-all_none : {A : Type 0} (wanted : A → Bool) (seat_of : A → ℕ) (people : List A) (seat : ℕ)
+    → find wanted (people_clockwise_after seat_of people seat) ≡ None → find wanted people ≡ None
+find-all_none {A} wanted seat_of people seat none = by_above (find (λ other. nat_lt seat (seat_of other) && wanted other) people) refl
+  where
+    by_above : (above : Option A) → find (λ other. nat_lt seat (seat_of other) && wanted other) people ≡ above → find wanted people ≡ None
+    by_above None same = sym (find-clockwise_of_all wanted seat_of people seat same) ∙ none
+    by_above (Some person) same = let found = find-clockwise_above wanted seat_of people seat person same in cc
+
+-- Where nobody is found among all, nobody is found among some of them.
+find-filter_none_step : {A : Type 0} (person : A) (keeps wants : Bool) (found left : Option A)
+    → cond wants (Some person) found ≡ None → (found ≡ None → left ≡ None) → cond (keeps && wants) (Some person) left ≡ None
+find-filter_none_step person true true found left none more = none
+find-filter_none_step person true false found left none more = more none
+find-filter_none_step person false true found left none more = cc
+find-filter_none_step person false false found left none more = more none
+
+find-filter_none : {A : Type 0} (wanted kept : A → Bool) (people : List A) → find wanted people ≡ None → find (λ person. kept person && wanted person) people ≡ None
+find-filter_none wanted kept [] none = refl
+find-filter_none wanted kept (person ∷ people) none =
+    find-filter_none_step person (kept person) (wanted person) _ _ none (find-filter_none wanted kept people)
+
+-- Where nobody is found among all, the search clockwise finds nobody.
+pub find-clockwise_none : {A : Type 0} (wanted : A → Bool) (seat_of : A → ℕ) (people : List A) (seat : ℕ)
+    → find wanted people ≡ None → find wanted (people_clockwise_after seat_of people seat) ≡ None
+find-clockwise_none wanted seat_of people seat none =
+    find-clockwise_of_all wanted seat_of people seat (find-filter_none wanted (λ person. nat_lt seat (seat_of person)) people none) ∙ none

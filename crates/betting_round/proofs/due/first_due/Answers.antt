@@ -1,4 +1,4 @@
-use Rattle.std.proofs.Common.{◌≡◌, ◌∙◌, sym}
+use Rattle.std.proofs.Common.{◌∙◌, sym}
 use Rattle.betting_round.specs.Streets.{may_be_due}
 use Rattle.betting_round.proofs.Clockwise.{find-clockwise_above, find-clockwise_of_all}
 use Rattle.betting_round.proofs.due.first_due.Goals as goal
