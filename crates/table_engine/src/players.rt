@@ -1,7 +1,7 @@
 //! The players of a hand: what they post, who they are, and what an act and the end do to them.
 
 ghost use Rattle.std.specs.Prelude.{◌≡◌, ◌+◌, ◌<◌, ◌≤◌, ◌^◌, [], if◌then◌else◌, map, sum_by, length, IfOk};
-ghost use Rattle.table_engine.specs.Hands.{posted, on_street, level, seat_of_name, name_in_seat, folded};
+ghost use Rattle.table_engine.specs.Hands.{posted, on_street, level, seat_of_name, name_in_seat, folded, folded_player};
 ghost use Rattle.table_engine.specs.Results.{stack_after};
 
 use crate::start::{HandStart, StartSeat};
@@ -42,11 +42,11 @@ fn seated(start: &HandStart, player: &StartSeat) -> OnStreet
 pub(crate) fn all_seated(alloc: Global, start: &HandStart) -> Result<Vec<OnStreet>, AllocError>
     ensures { IfOk result (λ players. players.items ≡ map (on_street start.now []) start.now.seats) }
 {
-    let mut players = Vec::new(alloc);
-    for player in start.seats.items() {
-        players.push(seated(start, player))?;
-    }
-    Ok(players)
+    let seats = start.seats.items();
+    seats
+        .iter()
+        .map(|player| seated(start, player))
+        .collect(alloc)
 }
 
 /// The level before the flop, in chips: the big blind, even where it was posted short.
@@ -88,16 +88,28 @@ pub(crate) fn pot_of(players: &[OnStreet]) -> u64
     players.iter().map(|player| player.put).sum()
 }
 
-/// The players of this name are no longer live, and have acted.
+/// A player of the street after the player of this name has folded: if it is he, he is no longer live, and has acted.
+fn folded_player(seat: &StartSeat, player: OnStreet, name: Name) -> OnStreet
+    ensures { result ≡ folded_player seat.now player name }
+{
+    if name == seat.name {
+        OnStreet {
+            live: false,
+            acted: true,
+            ..player
+        }
+    } else {
+        player
+    }
+}
+
+/// The player of this name has folded: he is no longer live, and has acted.
 pub(crate) fn fold(players: &mut [OnStreet], seats: &[StartSeat], name: Name)
     requires { length players.old ≡ length seats.now }
     ensures { players.new ≡ folded seats.now players.old name }
 {
     for place in 0..players.len() {
-        if seats[place].name == name {
-            players[place].live = false;
-            players[place].acted = true;
-        }
+        players[place] = folded_player(&seats[place], players[place], name);
     }
 }
 
