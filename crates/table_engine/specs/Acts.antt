@@ -19,12 +19,15 @@ use Rattle.table_engine.specs.Hands.{HandTerms, due_name}
 abbrev pub is_dealt : HandStart → List ℕ → Bool
 is_dealt start name = list_any (λ player. bytes_eq player.name name) start.seats
 
--- The refusals of an act, lowest number first: the player is not dealt in, another player is due, nobody is due.
-abbrev pub act_checks : HandTerms → List ℕ → List (Refusal × Bool)
-act_checks hand name =
-    (NotDealt, not (is_dealt hand.start name)) ∷
+-- The refusals of an act of a player who is dealt in, lowest number first: another player is due, nobody is due.
+abbrev pub turn_checks : HandTerms → List ℕ → List (Refusal × Bool)
+turn_checks hand name =
     (NotTurn, option_map_or (λ due. not (bytes_eq due name)) (due_name hand) false) ∷
     (HandOver, is_none (due_name hand)) ∷ []
+
+-- The refusals of an act, lowest number first: the player is not dealt in, another player is due, nobody is due.
+abbrev pub act_checks : HandTerms → List ℕ → List (Refusal × Bool)
+act_checks hand name = (NotDealt, not (is_dealt hand.start name)) ∷ turn_checks hand name
 
 -- The first refusal whose test holds.
 abbrev pub first_refusal : List (Refusal × Bool) → Option Refusal
@@ -34,6 +37,10 @@ first_refusal (row ∷ rows) = if row.1 then Some row.0 else first_refusal rows
 -- The lowest refusal of an act that holds, if one does.
 abbrev pub refusal_of_act : HandTerms → List ℕ → Option Refusal
 refusal_of_act hand name = first_refusal (act_checks hand name)
+
+-- The lowest refusal that holds of an act of a player who is dealt in, if one does.
+abbrev pub refusal_of_turn : HandTerms → List ℕ → Option Refusal
+refusal_of_turn hand name = first_refusal (turn_checks hand name)
 
 -- What an act that is not refused comes to.
 abbrev pub done_by : Act → Done

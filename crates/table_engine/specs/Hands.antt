@@ -94,7 +94,10 @@ due_later hand = due_seat (map at_next_street (players_on_street hand)) hand.sta
 abbrev pub is_over : HandTerms → Bool
 is_over hand = is_none (due_in_hand hand) && is_none (due_later hand)
 
--- The players of this name have folded: they are no longer live, and have acted.
+-- A player of the street after the player of this name has folded: if it is he, he is no longer live, and has acted.
+abbrev pub folded_player : StartSeat → OnStreet → List ℕ → OnStreet
+folded_player seat player name = if bytes_eq name seat.name then record player { live = false; acted = true } else player
+
+-- The players of the street after the player of this name has folded.
 abbrev pub folded : List StartSeat → List OnStreet → List ℕ → List OnStreet
-folded seats players name =
-    map (λ pair. if bytes_eq pair.0.name name then record pair.1 { live = false; acted = true } else pair.1) (zip seats players)
+folded seats players name = map (λ pair. folded_player pair.0 pair.1 name) (zip seats players)

@@ -1,15 +1,14 @@
 -- What holds of a hand's running fields at every moment.
-use Rattle.std.specs.Prelude.{◌≡◌, ℕ, ◌<◌, ◌^◌, List, length, sum}
+use Rattle.std.specs.Prelude.{◌≡◌, ℕ, ◌<◌, ◌^◌, List, length, sum_by}
 use Rattle.betting_round.specs.declared.on_street.OnStreet.{OnStreet}
 use Rattle.table_engine.specs.Hands.{HandTerms, players_on_street, search_after}
-use Rattle.table_engine.specs.Results.{starting_stacks}
 
 pub record IsHandKept (hand : HandTerms) (players : List OnStreet) (after : ℕ) (stacks : List ℕ) : Type 0 where
   -- the players are those of the start, after the acts
-  pub players : players ≡ players_on_street hand
+  pub seated : players ≡ players_on_street hand
   -- the search starts after the last actor's seat, and before any act after the big mark's
   pub search : after ≡ search_after hand
   -- there is room for a stack of each player
   pub room : length stacks ≡ length hand.start.seats
   -- the chips of a hand are far from the end of their type
-  pub small : sum (starting_stacks hand) < 2 ^ 53
+  pub small : sum_by (λ player. player.stack) hand.start.seats < 2 ^ 53

@@ -1,5 +1,6 @@
 -- What a hand that is over comes to. The Poker TDA Rules: where one player alone is live, he gets everything.
 use Rattle.std.specs.Prelude.{ℕ, ◌+◌, Bool, not, List, map, sum_by, if◌then◌else◌}
+use Rattle.betting_round.specs.declared.on_street.OnStreet.{OnStreet}
 use Rattle.betting_round.specs.Streets.{is_one_live}
 use Rattle.table_engine.specs.declared.start.StartSeat.{StartSeat}
 use Rattle.table_engine.specs.Hands.{HandTerms, put_in_hand, behind, has_folded, players_on_street}
@@ -19,6 +20,10 @@ award hand player = if not (has_folded hand.acts player.name) then pot hand else
 -- The stacks after a hand that is won without a showdown, in the order of its players: what each has behind, and what he gets of the pot.
 abbrev pub stacks_after_hand : HandTerms → List ℕ
 stacks_after_hand hand = map (λ player. behind hand.start hand.acts player + award hand player) hand.start.seats
+
+-- What a player of the street has after a hand with this pot that is won without a showdown.
+abbrev pub stack_after : ℕ → OnStreet → ℕ
+stack_after pot player = player.behind + (if player.live then pot else 0)
 
 -- The stacks with which the players of a hand began.
 abbrev pub starting_stacks : HandTerms → List ℕ

@@ -1,16 +1,17 @@
 //! A hand that is played.
 
-ghost use Rattle.std.specs.Prelude.{◌≡◌, ◌<◌, ◌^◌, ◌++◌, ◌∷◌, [], Some, None, IsTrue, true, sum, map, IfOk, IfErr, OnOk, OnErr, option_copied};
-ghost use Rattle.table_engine.specs.declared.start.StartSeat.{StartSeat};
-ghost use Rattle.table_engine.specs.Hands.{posted, on_street, players_on_street, due_in_hand, due_name, is_over};
-ghost use Rattle.table_engine.specs.Acts.{is_dealt, refusal_of_act, done_by, hand_after};
+ghost use Rattle.std.specs.Prelude.{◌≡◌, ◌<◌, ◌≤◌, ◌^◌, ◌++◌, ◌∷◌, [], Some, None, IsTrue, true, false, not, sum, sum_by, map, length, is_none, IfOk, IfErr, OnOk, OnErr};
+ghost use Rattle.std.specs.Option.{option_map_or};
+ghost use Rattle.table_engine.specs.Hands.{on_street, players_on_street, due_in_hand, due_name, is_over};
+ghost use Rattle.table_engine.specs.Acts.{refusal_of_act, refusal_of_turn, done_by, hand_after, IsActFault};
 ghost use Rattle.table_engine.specs.Results.{is_won_by_folds, stacks_after_hand, starting_stacks};
 
+use crate::players::{all_seated, fold, level, name_in_seat, pay, pot_of, seat_of_name};
 use crate::record::{ActFault, ActOf, HandRecord};
-use crate::start::{HandStart, StartSeat};
+use crate::start::HandStart;
 use betting_round::{Act, Done, OnStreet, due_seat, is_one_live};
 use floor_text::{List, Name, Refusal};
-use std::alloc::{AllocError, Global};
+use std::alloc::Global;
 use std::marker::Model;
 
 /// A hand that is played. It cannot be cloned: who has it plays it to its end, by `finish`, or gives its start
@@ -37,89 +38,6 @@ impl Model for Hand {
     ghost view = { λ h. record { start = h.start; acts = h.acts } };
 
     ghost invariant = { λ h. IsHandKept (record { start = h.start; acts = h.acts }) h.players.items h.after h.stacks.items };
-}
-
-/// What a player posts: in the big mark's seat the big blind, in the small mark's seat the small blind, each as far
-/// as his stack reaches.
-fn posted(start: &HandStart, player: &StartSeat) -> u64
-    ensures { result ≡ posted start.now player.now }
-{
-    if player.seat == start.marks.big {
-        player.stack.min(start.big)
-    } else if player.seat == start.marks.small {
-        player.stack.min(start.small)
-    } else {
-        0
-    }
-}
-
-/// A player before any act.
-fn seated(start: &HandStart, player: &StartSeat) -> OnStreet
-    ensures { result ≡ on_street start.now [] player.now }
-{
-    let put = posted(start, player);
-    OnStreet {
-        seat: player.seat,
-        put,
-        behind: player.stack - put,
-        live: true,
-        acted: false,
-    }
-}
-
-/// All players before any act.
-fn all_seated(alloc: Global, start: &HandStart) -> Result<Vec<OnStreet>, AllocError>
-    ensures { IfOk result (λ players. players.items ≡ map (on_street start.now []) start.now.seats) }
-{
-    let mut players = Vec::new(alloc);
-    for player in start.seats.items() {
-        players.push(seated(start, player))?;
-    }
-    Ok(players)
-}
-
-/// The level before the flop: the big blind, even where it was posted short.
-fn level(start: &HandStart) -> u64
-    ensures { result ≡ level start.now }
-{
-    start.big
-}
-
-/// The seat of the player of this name.
-fn seat_of_name(start: &HandStart, name: Name) -> Option<u8>
-    ensures { result ≡ seat_of_name start.now name }
-{
-    let player = start.seats.items().iter().find(|player| player.name == name)?;
-    Some(player.seat)
-}
-
-/// The name of the player in this seat.
-fn name_in_seat(start: &HandStart, seat: u8) -> Option<Name>
-    ensures { result ≡ name_in_seat start.now seat }
-{
-    let player = start.seats.items().iter().find(|player| player.seat == seat)?;
-    Some(player.name)
-}
-
-/// All that the players have put in, in chips.
-fn pot_of(players: &[OnStreet]) -> u64
-    requires { sum_by (λ player. player.put) players.now < 2 ^ 53 }
-    ensures { result ≡ sum_by (λ player. player.put) players.now }
-{
-    players.iter().map(|player| player.put).sum()
-}
-
-/// The players of this name are no longer live, and have acted.
-fn fold(players: &mut [OnStreet], seats: &[StartSeat], name: Name)
-    requires { length seats.now ≡ length players.old }
-    ensures { players.new ≡ folded seats.now players.old name }
-{
-    for place in 0..players.len() {
-        if seats[place].name == name {
-            players[place].live = false;
-            players[place].acted = true;
-        }
-    }
 }
 
 impl Hand {
@@ -163,7 +81,8 @@ impl Hand {
     pub fn due(&self) -> Option<Name>
         ensures { result ≡ due_name self.now }
     {
-        name_in_seat(&self.start, self.due_seat()?)
+        let seat = self.due_seat()?;
+        name_in_seat(&self.start, seat)
     }
 
     /// Whether the hand is over: nobody is due on the street and on no later one.
@@ -180,17 +99,17 @@ impl Hand {
         is_one_live(&self.players)
     }
 
-    /// The lowest refusal of an act of this player that holds, if one does.
-    fn refusal(&self, name: Name) -> Option<Refusal>
-        ensures { result ≡ refusal_of_act self.now name }
+    /// Why an act of a player who is dealt in is refused, if it is: another is due, or nobody.
+    fn turn_refusal(&self, name: Name) -> Option<Refusal>
+        ensures { result ≡ refusal_of_turn self.now name }
     {
-        if seat_of_name(&self.start, name).is_none() {
-            return Some(Refusal::NotDealt);
-        }
-        match self.due() {
-            Some(due) if due == name => None,
-            Some(_) => Some(Refusal::NotTurn),
-            None => Some(Refusal::HandOver),
+        let Some(due) = self.due() else {
+            return Some(Refusal::HandOver);
+        };
+        if due == name {
+            None
+        } else {
+            Some(Refusal::NotTurn)
         }
     }
 
@@ -204,12 +123,12 @@ impl Hand {
         ensures fault { IfErr result (IsActFault (refusal_of_act self.old name)) }
         ensures kept { OnErr result (self.new ≡ self.old) }
     {
-        if let Some(refusal) = self.refusal(name) {
-            return Err(ActFault::No(refusal));
-        }
         let Some(seat) = seat_of_name(&self.start, name) else {
             return Err(ActFault::No(Refusal::NotDealt));
         };
+        if let Some(refusal) = self.turn_refusal(name) {
+            return Err(ActFault::No(refusal));
+        }
         self.acts.push(ActOf {
             name,
             act,
@@ -235,10 +154,7 @@ impl Hand {
     {
         let pot = pot_of(&self.players);
         let mut stacks = self.stacks;
-        for place in 0..stacks.len() {
-            let player = self.players[place];
-            stacks[place] = player.behind + if player.live { pot } else { 0 };
-        }
+        pay(&mut stacks, &self.players, pot);
         HandRecord {
             start: self.start,
             acts: self.acts,

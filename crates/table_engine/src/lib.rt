@@ -7,6 +7,7 @@
 
 mod hand;
 mod laws;
+mod players;
 mod record;
 mod start;
 

@@ -1,0 +1,5 @@
+pub mod Rewrites
+pub mod Folds
+pub mod Chips
+pub mod Later
+pub mod Refusals

@@ -1,0 +1,138 @@
+//! The players of a hand: what they post, who they are, and what an act and the end do to them.
+
+ghost use Rattle.std.specs.Prelude.{◌≡◌, ◌+◌, ◌<◌, ◌≤◌, ◌^◌, [], if◌then◌else◌, map, sum_by, length, IfOk};
+ghost use Rattle.table_engine.specs.Hands.{posted, on_street, level, seat_of_name, name_in_seat, folded, folded_player};
+ghost use Rattle.table_engine.specs.Results.{stack_after};
+
+use crate::start::{HandStart, StartSeat};
+use betting_round::OnStreet;
+use floor_text::Name;
+use std::alloc::{AllocError, Global};
+
+/// What a player posts: in the big mark's seat the big blind, in the small mark's seat the small blind, each as far
+/// as his stack reaches.
+fn posted(start: &HandStart, player: &StartSeat) -> u64
+    ensures posted { result ≡ posted start.now player.now }
+    ensures covered { result ≤ player.now.stack }
+{
+    if player.seat == start.marks.big {
+        player.stack.min(start.big)
+    } else if player.seat == start.marks.small {
+        player.stack.min(start.small)
+    } else {
+        0
+    }
+}
+
+/// A player before any act.
+fn seated(start: &HandStart, player: &StartSeat) -> OnStreet
+    ensures { result ≡ on_street start.now [] player.now }
+{
+    let put = posted(start, player);
+    OnStreet {
+        seat: player.seat,
+        put,
+        behind: player.stack - put,
+        live: true,
+        acted: false,
+    }
+}
+
+/// All players before any act.
+pub(crate) fn all_seated(alloc: Global, start: &HandStart) -> Result<Vec<OnStreet>, AllocError>
+    ensures { IfOk result (λ players. players.items ≡ map (on_street start.now []) start.now.seats) }
+{
+    let seats = start.seats.items();
+    seats
+        .iter()
+        .map(|player| seated(start, player))
+        .collect(alloc)
+}
+
+/// The level before the flop, in chips: the big blind, even where it was posted short.
+pub(crate) fn level(start: &HandStart) -> u64
+    ensures { result ≡ level start.now }
+{
+    start.big
+}
+
+/// The seat of the player of this name.
+pub(crate) fn seat_of_name(start: &HandStart, name: Name) -> Option<u8>
+    ensures { result ≡ seat_of_name start.now name }
+{
+    start
+        .seats
+        .items()
+        .iter()
+        .find(|player| player.name == name)
+        .map(|player| player.seat)
+}
+
+/// The name of the player in this seat.
+pub(crate) fn name_in_seat(start: &HandStart, seat: u8) -> Option<Name>
+    ensures { result ≡ name_in_seat start.now seat }
+{
+    start
+        .seats
+        .items()
+        .iter()
+        .find(|player| player.seat == seat)
+        .map(|player| player.name)
+}
+
+/// All that the players have put in, in chips.
+pub(crate) fn pot_of(players: &[OnStreet]) -> u64
+    requires { sum_by (λ player. player.put) players.now < 2 ^ 64 }
+    ensures { result ≡ sum_by (λ player. player.put) players.now }
+{
+    players.iter().map(|player| player.put).sum()
+}
+
+/// A player of the street after the player of this name has folded: if it is he, he is no longer live, and has acted.
+fn folded_player(seat: &StartSeat, player: OnStreet, name: Name) -> OnStreet
+    ensures { result ≡ folded_player seat.now player name }
+{
+    if name == seat.name {
+        OnStreet {
+            live: false,
+            acted: true,
+            ..player
+        }
+    } else {
+        player
+    }
+}
+
+/// The player of this name has folded: he is no longer live, and has acted.
+pub(crate) fn fold(players: &mut [OnStreet], seats: &[StartSeat], name: Name)
+    requires { length players.old ≡ length seats.now }
+    ensures { players.new ≡ folded seats.now players.old name }
+{
+    for place in 0..players.len() {
+        players[place] = folded_player(&seats[place], players[place], name);
+    }
+}
+
+/// What a player has after a hand in which one player alone is live, in chips: what he has behind, and the pot if
+/// he is live.
+fn stack_after(player: &OnStreet, pot: u64) -> u64
+    requires { player.now.behind + pot < 2 ^ 64 }
+    ensures { result ≡ stack_after pot player.now }
+{
+    if player.live {
+        player.behind + pot
+    } else {
+        player.behind
+    }
+}
+
+/// Puts the players' stacks after the hand into the room for them.
+pub(crate) fn pay(stacks: &mut [u64], players: &[OnStreet], pot: u64)
+    requires room { length stacks.old ≡ length players.now }
+    requires small { sum_by (λ player. player.behind) players.now + pot < 2 ^ 64 }
+    ensures { stacks.new ≡ map (stack_after pot) players.now }
+{
+    for place in 0..stacks.len() {
+        stacks[place] = stack_after(&players[place], pot);
+    }
+}
