@@ -1,5 +1,4 @@
-use Rattle.std.proofs.Common.{◌≡◌, Some, None, length, arith, ap, take, slice_index_or, length-set}
-use Rattle.std.proofs.lemmas.Grind.{common_steps}
+use Rattle.std.proofs.Common.{◌*◌, ◌∙◌, sym, ◌≡◌, Some, None, length, arith, ap, take, slice_index_or, length-set}
 use Rattle.std.proofs.lemmas.List.{take_all}
 use Rattle.card_set.specs.declared.card.Card.{Card}
 use Rattle.card_set.specs.Cards.{row_text}
@@ -49,4 +48,8 @@ pub returns-in_err-cards-clause-exact : goal.returns-in_err-cards-clause-exact
 returns-in_err-cards-clause-exact c = reads_row c.args.bytes.now c.from_residual.result (rw c.from_residual.ensures tt) (returns-in_err-cards-clause-only c)
 
 pub returns-clause-exact : goal.returns-clause-exact
-returns-clause-exact c = reads_row c.args.bytes.now _ (grind (arith, common_steps)) (returns-clause-only c)
+returns-clause-exact c =
+    let size : length c.loop-place.cards ≡ 52 = c.loop-place.invariant.size in
+    let ours : take c.loop-place.place c.loop-place.cards ≡ c.loop-place.cards = take_all c.loop-place.place c.loop-place.cards (omega arith) in
+    let whole : take (2 * c.loop-place.place) c.args.bytes.now ≡ c.args.bytes.now = take_all (2 * c.loop-place.place) c.args.bytes.now (omega arith) in
+    reads_row c.args.bytes.now _ (ap row_text (sym ours) ∙ c.loop-place.invariant.read ∙ whole) (returns-clause-only c)
