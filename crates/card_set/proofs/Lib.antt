@@ -1,3 +1,4 @@
 pub mod CardLaws
 pub mod DeckLaws
 pub mod RowLaws
+pub mod RowReading

@@ -3,7 +3,7 @@
 ghost use Rattle.std.specs.Prelude.{◌≡◌, ◌∷◌, [], ℕ, ◌<◌, ◌≤◌, Some, IfSome, position, ◌==◌};
 ghost use Rattle.card_set.specs.declared.card.Card.{Card};
 ghost use Rattle.card_set.specs.declared.card.CardRow.{CardRow};
-ghost use Rattle.card_set.specs.Cards.{rank_letters, rank_letter, suit_letter, card_text, row_text};
+ghost use Rattle.card_set.specs.Cards.{rank_letters, rank_letter, suit_letter, card_text, row_text, card_of, row_of};
 
 use crate::card::{Card, CardRow};
 
@@ -39,6 +39,7 @@ fn read_suit(letter: u8) -> Option<u8>
 pub fn read_card(a: u8, b: u8) -> Option<Card>
     ensures found { IfSome result (λ card. card_text card ≡ a ∷ b ∷ []) }
     ensures only { (card : Card) → card_text card ≡ a ∷ b ∷ [] → result ≡ Some card }
+    ensures exact { result ≡ card_of a b }
 {
     let rank = read_rank(a)?;
     let suit = read_suit(b)?;
@@ -56,6 +57,7 @@ pub fn card_text(card: Card) -> [u8; 2]
 pub fn read_row(bytes: &[u8]) -> Option<CardRow>
     ensures found { IfSome result (λ row. row_text row.cards ≡ bytes.now) }
     ensures only { (row : CardRow) → row_text row.cards ≡ bytes.now → result ≡ Some row }
+    ensures exact { result ≡ row_of bytes.now }
 {
     if bytes.len() != 104 {
         return None;

@@ -10,8 +10,11 @@ use Rattle.std.proofs.lemmas.Option.{same_Some}
 use Rattle.floor_text.specs.Numbers.{IsLineNumber, number_of}
 use Rattle.floor_text.proofs.NumberLaws.{number_found, number_of-decimal}
 use Rattle.card_set.specs.declared.game.Game.TheVariants.{Holdem, Omaha, Hilo}
+use Rattle.card_set.specs.Cards.{row_text, row_of}
+use Rattle.card_set.proofs.RowReading.{row_found, row_again}
 use Rattle.level_plan.specs.declared.line.PlanLine.{PlanLine}
 use Rattle.level_plan.specs.declared.line.PlanLine.TheVariants as lines
+use Rattle.betting_round.specs.declared.act.Act.TheVariants.{Fold}
 use Rattle.floor_events.specs.declared.event.Event.{Event}
 use Rattle.floor_events.specs.declared.event.Event.TheVariants as events
 use Rattle.floor_events.specs.declared.event.Item.{Item}
@@ -19,10 +22,10 @@ use Rattle.floor_events.specs.declared.event.Item.TheVariants as found
 use Rattle.floor_events.specs.declared.keyword.Keyword.{Keyword}
 use Rattle.floor_events.specs.declared.keyword.Keyword.TheVariants as keywords
 use Rattle.floor_events.specs.Words.{words_of_line}
-use Rattle.floor_events.specs.Spelling.{event_words, event_text, item_text, HasLineNumbers, HasLineParts, IsWritable}
-use Rattle.floor_events.specs.Reading.{◌>>=◌, keyword_list, keyword_of, name_of, no_word, three_words, numbers_of, one_number, one_game, blinds_of, share_numbers, shares_of, enter_of, numbered, event_of, item_of_words, item_of_line}
-use Rattle.floor_events.proofs.FieldLaws.{bind_found, map_found, test_found, meaning_found, name_found, name_again, three_words_found, one_number_found, one_number_again, one_game_found, one_game_again, numbers_found, numbers_again}
-use Rattle.floor_events.proofs.Spaces.{and_parts, words_again, decimal_spaceless, decimals_spaceless, name_spaceless}
+use Rattle.floor_events.specs.Spelling.{event_words, event_text, item_text, act_words, HasLineNumbers, HasLineParts, IsWritable}
+use Rattle.floor_events.specs.Reading.{◌>>=◌, keyword_list, keyword_of, name_of, no_word, two_words, three_words, act_of_word, numbers_of, one_number, one_game, blinds_of, share_numbers, shares_of, enter_of, begin_of, act_of, settle_of, numbered, event_of, item_of_words, item_of_line}
+use Rattle.floor_events.proofs.FieldLaws.{bind_found, map_found, test_found, meaning_found, act_word_found, name_found, name_again, two_words_found, three_words_found, one_number_found, one_number_again, one_game_found, one_game_again, numbers_found, numbers_again}
+use Rattle.floor_events.proofs.Spaces.{and_parts, words_again, decimal_spaceless, decimals_spaceless, name_spaceless, row_spaceless}
 
 abbrev keyword_text : Keyword → List ℕ
 keyword_text keywords.Game = codes "game"
@@ -35,10 +38,13 @@ keyword_text keywords.Blinds = codes "blinds"
 keyword_text keywords.Shares = codes "shares"
 keyword_text keywords.Go = codes "go"
 keyword_text keywords.Enter = codes "enter"
+keyword_text keywords.Begin = codes "begin"
+keyword_text keywords.Act = codes "act"
+keyword_text keywords.Settle = codes "settle"
 keyword_text keywords.Stop = codes "stop"
 
 keyword_found : (word : List ℕ) (keyword : Keyword) → keyword_of word ≡ Some keyword → word ≡ keyword_text keyword
-keyword_found word keyword h = meaning_found keyword_text keyword_list word keyword (refl, (refl, (refl, (refl, (refl, (refl, (refl, (refl, (refl, (refl, (refl, tt))))))))))) h
+keyword_found word keyword h = meaning_found keyword_text keyword_list word keyword (refl, (refl, (refl, (refl, (refl, (refl, (refl, (refl, (refl, (refl, (refl, (refl, (refl, (refl, tt)))))))))))))) h
 
 -- a line whose words are these spells the event
 record Spells (words : List (List ℕ)) (event : Event) : Type 0 where
@@ -92,6 +98,43 @@ enter_found fields event h =
     let whole : codes "enter" ∷ fields ≡ codes "enter" ∷ name.0 ∷ decimal table.0 ∷ decimal seat.0 ∷ [] = cc (three, first.0, second.1, third.1) in
     respelled (codes "enter" ∷ fields) (events.Enter name.0 table.0 seat.0) event (same_Some (events.Enter name.0 table.0 seat.0) event seat.2) (record { spelling = whole; parts = (first.1, second.0, third.0) })
 
+two_spelled : (word first second table row : List ℕ) (fields : List (List ℕ)) → fields ≡ first ∷ second ∷ [] → first ≡ table → second ≡ row → word ∷ fields ≡ word ∷ table ∷ row ∷ []
+two_spelled word first second table row fields two tables rows = cc
+
+begin_found : (fields : List (List ℕ)) (event : Event) → begin_of fields ≡ Some event → Spells (codes "begin" ∷ fields) event
+unfolding begin_of
+begin_found fields event h =
+    let words = bind_found (two_words fields) (λ w. number_of w.0 >>= λ t. row_of w.1 >>= λ r. Some (events.Begin t r)) event h in
+    let table = bind_found (number_of words.0.0) (λ t. row_of words.0.1 >>= λ r. Some (events.Begin t r)) event words.2 in
+    let row = bind_found (row_of words.0.1) (λ r. Some (events.Begin table.0 r)) event table.2 in
+    let first = number_found words.0.0 table.0 table.1 in
+    let second = row_found words.0.1 row.0 row.1 in
+    let whole = two_spelled (codes "begin") words.0.0 words.0.1 (decimal table.0) (row_text row.0.cards) fields (two_words_found fields words.0 words.1) first.1 (sym second) in
+    respelled (codes "begin" ∷ fields) (events.Begin table.0 row.0) event (same_Some (events.Begin table.0 row.0) event row.2) (record { spelling = whole; parts = first.0 })
+
+three_spelled : (word first second third table name : List ℕ) (act fields : List (List ℕ)) → fields ≡ first ∷ second ∷ third ∷ [] → first ≡ table → second ≡ name → third ∷ [] ≡ act → word ∷ fields ≡ word ∷ table ∷ name ∷ act
+three_spelled word first second third table name act fields three tables names acts = cc
+
+act_found : (fields : List (List ℕ)) (event : Event) → act_of fields ≡ Some event → Spells (codes "act" ∷ fields) event
+unfolding act_of
+act_found fields event h =
+    let words = bind_found (three_words fields) (λ w. number_of w.0 >>= λ t. name_of w.1 >>= λ n. act_of_word w.2 >>= λ a. Some (events.Act t n a)) event h in
+    let table = bind_found (number_of words.0.0) (λ t. name_of words.0.1 >>= λ n. act_of_word words.0.2 >>= λ a. Some (events.Act t n a)) event words.2 in
+    let name = bind_found (name_of words.0.1) (λ n. act_of_word words.0.2 >>= λ a. Some (events.Act table.0 n a)) event table.2 in
+    let act = bind_found (act_of_word words.0.2) (λ a. Some (events.Act table.0 name.0 a)) event name.2 in
+    let first = number_found words.0.0 table.0 table.1 in
+    let second = name_found words.0.1 name.0 name.1 in
+    let third = act_word_found words.0.2 act.0 act.1 in
+    let whole = three_spelled (codes "act") words.0.0 words.0.1 words.0.2 (decimal table.0) name.0 (act_words act.0) fields (three_words_found fields words.0 words.1) first.1 second.0 third in
+    respelled (codes "act" ∷ fields) (events.Act table.0 name.0 act.0) event (same_Some (events.Act table.0 name.0 act.0) event act.2) (record { spelling = whole; parts = (second.1, first.0) })
+
+settle_found : (fields : List (List ℕ)) (event : Event) → settle_of fields ≡ Some event → Spells (codes "settle" ∷ fields) event
+unfolding settle_of
+settle_found fields event h =
+    let table = bind_found (one_number fields) (λ t. Some (events.Settle t)) event h in
+    let field = one_number_found fields table.0 table.1 in
+    respelled (codes "settle" ∷ fields) (events.Settle table.0) event (same_Some (events.Settle table.0) event table.2) (record { spelling = ap (λ (ws : List (List ℕ)). codes "settle" ∷ ws) field.0; parts = field.1 })
+
 no_word_found : (fields : List (List ℕ)) → no_word fields ≡ true → fields ≡ []
 no_word_found [] h = refl
 no_word_found (word ∷ words) h = absurd cc
@@ -130,6 +173,9 @@ event_found keywords.Blinds fields event h = blinds_line_found fields event h
 event_found keywords.Shares fields event h = shares_found fields event h
 event_found keywords.Go fields event h = bare_found (codes "go") events.Go fields event (record { spelling = refl; parts = tt }) h
 event_found keywords.Enter fields event h = enter_found fields event h
+event_found keywords.Begin fields event h = begin_found fields event h
+event_found keywords.Act fields event h = act_found fields event h
+event_found keywords.Settle fields event h = settle_found fields event h
 event_found keywords.Stop fields event h = bare_found (codes "stop") events.Stop fields event (record { spelling = refl; parts = tt }) h
 
 -- the item of words is an event that they spell
@@ -170,7 +216,7 @@ shares_again shares parts =
     rw (numbers_again shares parts.2, least, most) refl
 
 words_again_of : (event : Event) → HasLineParts event → item_of_words (event_words event) ≡ Some (found.Event event)
-unfolding item_of_words blinds_of enter_of
+unfolding item_of_words blinds_of enter_of begin_of act_of settle_of
 words_again_of (events.Plan (lines.Game game)) parts = rw (one_game_again game) refl
 words_again_of (events.Plan (lines.Tables n)) parts = rw (one_number_again n parts) refl
 words_again_of (events.Plan (lines.Seats n)) parts = rw (one_number_again n parts) refl
@@ -181,6 +227,9 @@ words_again_of (events.Plan (lines.Blinds small big unit)) parts = rw (number_of
 words_again_of (events.Plan (lines.Shares shares)) parts = rw (shares_again shares parts) refl
 words_again_of events.Go parts = refl
 words_again_of (events.Enter name table seat) parts = rw (name_again name parts.0, number_of-decimal table parts.1, number_of-decimal seat parts.2) refl
+words_again_of (events.Begin table row) parts = rw (number_of-decimal table parts, row_again row) refl
+words_again_of (events.Act table name Fold) parts = rw (number_of-decimal table parts.1, name_again name parts.0) refl
+words_again_of (events.Settle table) parts = rw (one_number_again table parts) refl
 words_again_of events.Stop parts = refl
 
 words_of_text : (event : Event) → HasLineParts event → words_of_line (event_text event) ≡ event_words event
@@ -198,6 +247,11 @@ words_of_text (events.Plan (lines.Shares shares)) parts = words_again (codes "sh
 words_of_text events.Go parts = refl
 words_of_text (events.Enter name table seat) parts =
     words_again (codes "enter") (name ∷ decimal table ∷ decimal seat ∷ []) (rw (name_spaceless name parts.0, decimal_spaceless table parts.1, decimal_spaceless seat parts.2) refl)
+words_of_text (events.Begin table row) parts =
+    words_again (codes "begin") (decimal table ∷ row_text row.cards ∷ []) (rw (decimal_spaceless table parts, row_spaceless row.cards) refl)
+words_of_text (events.Act table name Fold) parts =
+    words_again (codes "act") (decimal table ∷ name ∷ codes "fold" ∷ []) (rw (decimal_spaceless table parts.1, name_spaceless name parts.0) refl)
+words_of_text (events.Settle table) parts = words_again (codes "settle") (decimal table ∷ []) (rw (decimal_spaceless table parts) refl)
 words_of_text events.Stop parts = refl
 
 -- what is writable is read from its text

@@ -1,5 +1,6 @@
 -- A field that is read is spelled so, and a field that is spelled so is read.
 use Rattle.std.proofs.Common.{◌≡◌, ℕ, Bool, true, false, cond, List, [], ◌∷◌, map, Option, Some, None, option_map, IsTrue, refl, sym, ap, ◌∙◌, subst}
+use Rattle.std.specs.Prelude.{codes}
 use Rattle.std.specs.Fmt.{decimal}
 use Rattle.std.specs.List.{AllByRecursion}
 use Rattle.std.specs.Str.{bytes_eq}
@@ -10,8 +11,10 @@ use Rattle.floor_text.specs.Numbers.{IsLineNumber, number_of}
 use Rattle.floor_text.proofs.NumberLaws.{number_found, number_of-decimal}
 use Rattle.card_set.specs.declared.game.Game.{Game}
 use Rattle.card_set.specs.declared.game.Game.TheVariants.{Holdem, Omaha, Hilo}
-use Rattle.floor_events.specs.Spelling.{game_word}
-use Rattle.floor_events.specs.Reading.{◌>>=◌, meaning, game_list, game_of, name_of, one_word, three_words, numbers_of, one_number, one_game}
+use Rattle.betting_round.specs.declared.act.Act.{Act}
+use Rattle.betting_round.specs.declared.act.Act.TheVariants.{Fold}
+use Rattle.floor_events.specs.Spelling.{game_word, act_words}
+use Rattle.floor_events.specs.Reading.{◌>>=◌, meaning, game_list, game_of, act_list, act_of_word, name_of, one_word, two_words, three_words, numbers_of, one_number, one_game}
 
 -- the value of a step that found something
 pub bind_found : {A B : Type 0} (o : Option A) (f : A → Option B) (y : B) → (o >>= f) ≡ Some y → (x : A) × (o ≡ Some x) × (f x ≡ Some y)
@@ -45,6 +48,12 @@ game_again Holdem = refl
 game_again Omaha = refl
 game_again Hilo = refl
 
+abbrev act_word : Act → List ℕ
+act_word Fold = codes "fold"
+
+pub act_word_found : (word : List ℕ) (act : Act) → act_of_word word ≡ Some act → word ∷ [] ≡ act_words act
+act_word_found word Fold h = ap (λ (w : List ℕ). w ∷ []) (meaning_found act_word act_list word Fold (refl, tt) h)
+
 pub name_found : (word name : List ℕ) → name_of word ≡ Some name → (word ≡ name) × IsTrue (is_name name)
 name_found word name h =
     let both = cond_some (is_name word) word name h in
@@ -57,6 +66,12 @@ pub one_word_found : (fields : List (List ℕ)) (word : List ℕ) → one_word f
 one_word_found [] word h = absurd cc
 one_word_found (first ∷ []) word h = ap (λ (w : List ℕ). w ∷ []) (same_Some first word h)
 one_word_found (first ∷ second ∷ others) word h = absurd cc
+
+pub two_words_found : (fields : List (List ℕ)) (words : List ℕ × List ℕ) → two_words fields ≡ Some words → fields ≡ words.0 ∷ words.1 ∷ []
+two_words_found [] words h = absurd cc
+two_words_found (first ∷ []) words h = absurd cc
+two_words_found (first ∷ second ∷ []) words h = ap (λ (w : List ℕ × List ℕ). w.0 ∷ w.1 ∷ []) (same_Some (first, second) words h)
+two_words_found (first ∷ second ∷ third ∷ others) words h = absurd cc
 
 pub three_words_found : (fields : List (List ℕ)) (words : List ℕ × List ℕ × List ℕ) → three_words fields ≡ Some words → fields ≡ words.0 ∷ words.1 ∷ words.2 ∷ []
 three_words_found [] words h = absurd cc

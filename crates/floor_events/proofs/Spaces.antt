@@ -1,6 +1,7 @@
 -- The words of a line that is spelled from words without a space are those words.
-use Rattle.std.proofs.Common.{◌≡◌, ℕ, Bool, true, false, ◌&&◌, not, All, List, [], ◌∷◌, map, IsTrue, refl, ap, ◌∙◌, arith}
+use Rattle.std.proofs.Common.{◌≡◌, ℕ, ◌-◌, Bool, true, false, ◌&&◌, not, All, List, [], ◌∷◌, map, IsTrue, refl, ap, ◌∙◌, arith}
 use Rattle.std.specs.Char.{is_ascii_digit}
+use Rattle.std.specs.Prelude.{zero, suc, slice_index, codes}
 use Rattle.std.specs.Fmt.{decimal}
 use Rattle.std.specs.List.{list_all, AllByRecursion, join_with_byte}
 use Rattle.std.specs.Str.{all_ascii_digits}
@@ -12,6 +13,8 @@ use Rattle.std.proofs.lemmas.Str.Parse.{IsNumeralModel, numerals_by_value, tells
 use Rattle.std.specs.Str.Parse.{digits_value}
 use Rattle.floor_text.specs.Names.{is_name, is_name_byte}
 use Rattle.floor_text.specs.Numbers.{IsLineNumber}
+use Rattle.card_set.specs.declared.card.Card.{Card}
+use Rattle.card_set.specs.Cards.{rank_letters, row_text}
 use Rattle.floor_events.specs.Words.{words_of_line}
 use Rattle.floor_events.proofs.WordSplits.{is_space}
 
@@ -62,3 +65,15 @@ name_bytes_spaceless (byte ∷ bytes) h =
 
 pub name_spaceless : (name : List ℕ) → IsTrue (is_name name) → has_no_space name ≡ true
 name_spaceless name right = name_bytes_spaceless name (grind (arith, nat_tests))
+
+letter_spaceless : (letters : List ℕ) (place : ℕ) → has_no_space letters ≡ true → not (is_space (slice_index letters place)) ≡ true
+letter_spaceless [] place h = refl
+letter_spaceless (letter ∷ letters) zero h = (and_parts (not (is_space letter)) (has_no_space letters) h).0
+letter_spaceless (letter ∷ letters) (suc place) h = letter_spaceless letters place (and_parts (not (is_space letter)) (has_no_space letters) h).1
+
+both_spaceless : (a b c : Bool) → a ≡ true → b ≡ true → c ≡ true → (a && (b && c)) ≡ true
+both_spaceless a b c first second others = rw (first, second) others
+
+pub row_spaceless : (cards : List Card) → has_no_space (row_text cards) ≡ true
+row_spaceless [] = refl
+row_spaceless (card ∷ cards) = both_spaceless _ _ (has_no_space (row_text cards)) (letter_spaceless rank_letters (card.rank - 2) refl) (letter_spaceless (codes "cdhs") card.suit refl) (row_spaceless cards)

@@ -5,8 +5,11 @@ use Rattle.floor_text.specs.Names.{is_name}
 use Rattle.floor_text.specs.Numbers.{number_of}
 use Rattle.card_set.specs.declared.game.Game.{Game}
 use Rattle.card_set.specs.declared.game.Game.TheVariants.{Holdem, Omaha, Hilo}
+use Rattle.card_set.specs.Cards.{row_of}
 use Rattle.level_plan.specs.declared.line.PlanLine.{PlanLine}
 use Rattle.level_plan.specs.declared.line.PlanLine.TheVariants as lines
+use Rattle.betting_round.specs.declared.act.Act.{Act}
+use Rattle.betting_round.specs.declared.act.Act.TheVariants as acts
 use Rattle.floor_events.specs.declared.event.Event.{Event}
 use Rattle.floor_events.specs.declared.event.Event.TheVariants as events
 use Rattle.floor_events.specs.declared.event.Item.{Item}
@@ -38,6 +41,9 @@ keyword_list =
     (codes "shares", keywords.Shares) ∷
     (codes "go", keywords.Go) ∷
     (codes "enter", keywords.Enter) ∷
+    (codes "begin", keywords.Begin) ∷
+    (codes "act", keywords.Act) ∷
+    (codes "settle", keywords.Settle) ∷
     (codes "stop", keywords.Stop) ∷ []
 
 -- the keyword that a word is
@@ -52,6 +58,14 @@ game_list = (codes "holdem", Holdem) ∷ (codes "omaha", Omaha) ∷ (codes "hilo
 abbrev pub game_of : List ℕ → Option Game
 game_of word = meaning game_list word
 
+-- the words of the acts: so far folding is the only one
+abbrev pub act_list : List (List ℕ × Act)
+act_list = (codes "fold", acts.Fold) ∷ []
+
+-- the act that a word names
+abbrev pub act_of_word : List ℕ → Option Act
+act_of_word word = meaning act_list word
+
 -- the name that a word is
 abbrev pub name_of : List ℕ → Option (List ℕ)
 name_of word = if is_name word then Some word else None
@@ -65,6 +79,11 @@ no_word (word ∷ words) = false
 abbrev pub one_word : List (List ℕ) → Option (List ℕ)
 one_word (word ∷ []) = Some word
 one_word _ = None
+
+-- the words that are left, where there are just two
+abbrev pub two_words : List (List ℕ) → Option (List ℕ × List ℕ)
+two_words (first ∷ second ∷ []) = Some (first, second)
+two_words _ = None
 
 -- the words that are left, where there are just three
 abbrev pub three_words : List (List ℕ) → Option (List ℕ × List ℕ × List ℕ)
@@ -119,6 +138,29 @@ enter_of fields = do
   seat ← number_of words.2
   Some (events.Enter name table seat)
 
+-- a table and a row of cards
+unfoldable pub begin_of : List (List ℕ) → Option Event
+begin_of fields = do
+  words ← two_words fields
+  table ← number_of words.0
+  row ← row_of words.1
+  Some (events.Begin table row)
+
+-- a table, a name and an act
+unfoldable pub act_of : List (List ℕ) → Option Event
+act_of fields = do
+  words ← three_words fields
+  table ← number_of words.0
+  name ← name_of words.1
+  act ← act_of_word words.2
+  Some (events.Act table name act)
+
+-- a table
+unfoldable pub settle_of : List (List ℕ) → Option Event
+settle_of fields = do
+  table ← one_number fields
+  Some (events.Settle table)
+
 -- a plan line with one number
 abbrev pub numbered : (ℕ → PlanLine) → List (List ℕ) → Option Event
 numbered line fields = option_map (λ n. events.Plan (line n)) (one_number fields)
@@ -135,6 +177,9 @@ event_of keywords.Blinds fields = option_map events.Plan (blinds_of fields)
 event_of keywords.Shares fields = shares_of fields
 event_of keywords.Go fields = if no_word fields then Some events.Go else None
 event_of keywords.Enter fields = enter_of fields
+event_of keywords.Begin fields = begin_of fields
+event_of keywords.Act fields = act_of fields
+event_of keywords.Settle fields = settle_of fields
 event_of keywords.Stop fields = if no_word fields then Some events.Stop else None
 
 -- an item from the words of its line: the keyword of an event, and its fields

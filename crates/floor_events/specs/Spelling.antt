@@ -7,10 +7,13 @@ use Rattle.floor_text.specs.Numbers.{IsLineNumber}
 use Rattle.floor_text.specs.Refusals.{refusal_number, refusal_name}
 use Rattle.card_set.specs.declared.game.Game.{Game}
 use Rattle.card_set.specs.declared.game.Game.TheVariants.{Holdem, Omaha, Hilo}
+use Rattle.card_set.specs.Cards.{row_text}
 use Rattle.level_plan.specs.declared.line.PlanItem.{PlanItem}
 use Rattle.level_plan.specs.declared.line.PlanItem.TheVariants as items
 use Rattle.level_plan.specs.declared.line.PlanLine.{PlanLine}
 use Rattle.level_plan.specs.declared.line.PlanLine.TheVariants as lines
+use Rattle.betting_round.specs.declared.act.Act.{Act}
+use Rattle.betting_round.specs.declared.act.Act.TheVariants as acts
 use Rattle.floor_events.specs.declared.event.Event.{Event}
 use Rattle.floor_events.specs.declared.event.Event.TheVariants as events
 use Rattle.floor_events.specs.declared.event.Item.{Item}
@@ -53,11 +56,18 @@ plan_words (lines.Late n) = codes "late" ∷ decimal n ∷ []
 plan_words (lines.Blinds small big unit) = codes "blinds" ∷ decimal small ∷ decimal big ∷ decimal unit ∷ []
 plan_words (lines.Shares shares) = codes "shares" ∷ map decimal shares
 
+-- the words of an act
+abbrev pub act_words : Act → List (List ℕ)
+act_words acts.Fold = codes "fold" ∷ []
+
 -- the words of an event
 abbrev pub event_words : Event → List (List ℕ)
 event_words (events.Plan line) = plan_words line
 event_words events.Go = codes "go" ∷ []
 event_words (events.Enter name table seat) = codes "enter" ∷ name ∷ decimal table ∷ decimal seat ∷ []
+event_words (events.Begin table row) = codes "begin" ∷ decimal table ∷ row_text row.cards ∷ []
+event_words (events.Act table name act) = codes "act" ∷ decimal table ∷ name ∷ act_words act
+event_words (events.Settle table) = codes "settle" ∷ decimal table ∷ []
 event_words events.Stop = codes "stop" ∷ []
 
 -- an event's text: its words with one space between each two
@@ -84,6 +94,9 @@ abbrev pub HasLineParts : Event → Type 0
 HasLineParts (events.Plan line) = HasLineNumbers line
 HasLineParts events.Go = Unit {0}
 HasLineParts (events.Enter name table seat) = IsTrue (is_name name) × IsLineNumber table × IsLineNumber seat
+HasLineParts (events.Begin table row) = IsLineNumber table
+HasLineParts (events.Act table name act) = IsTrue (is_name name) × IsLineNumber table
+HasLineParts (events.Settle table) = IsLineNumber table
 HasLineParts events.Stop = Unit {0}
 
 -- An event is writable where its parts are such as a line may hold and its text has at most 400 bytes.

@@ -1,5 +1,7 @@
 //! What a line of the list says.
 
+use betting_round::Act;
+use card_set::CardRow;
 use floor_text::Name;
 use level_plan::PlanLine;
 
@@ -27,6 +29,27 @@ pub enum Event {
         table: u64,
         /// The number of the seat. Any number of the grammar may stand here.
         seat: u64,
+    },
+    /// A hand begins.
+    Begin {
+        /// The number of the table. Any number of the grammar may stand here.
+        table: u64,
+        /// The cards in the order of the deck. A card may come twice here.
+        row: CardRow,
+    },
+    /// A player acts in a hand.
+    Act {
+        /// The number of the table. Any number of the grammar may stand here.
+        table: u64,
+        /// His name.
+        name: Name,
+        /// What he does.
+        act: Act,
+    },
+    /// A hand that is over is settled.
+    Settle {
+        /// The number of the table. Any number of the grammar may stand here.
+        table: u64,
     },
     /// The end of the tournament.
     Stop,

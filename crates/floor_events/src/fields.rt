@@ -1,12 +1,14 @@
 //! The fields of an event, the words behind its keyword, are read.
 
 ghost use Rattle.std.specs.Prelude.{◌≡◌, ◌≤◌, IfOk, OnErr, IfSome, IsSome, option_map, take};
-ghost use Rattle.floor_events.specs.Reading.{name_of, game_of, one_number, one_game, blinds_of, share_numbers, shares_of, enter_of, event_of};
+ghost use Rattle.floor_events.specs.Reading.{name_of, game_of, one_number, one_game, blinds_of, share_numbers, shares_of, enter_of, act_of_word, begin_of, act_of, settle_of, event_of};
+ghost use Rattle.card_set.specs.Cards.{row_of};
 
 use crate::event::Event;
 use crate::keyword::Keyword;
 use crate::words::Words;
-use card_set::Game;
+use betting_round::Act;
+use card_set::{Game, read_row};
 use floor_text::{List, Name, read_number};
 use level_plan::PlanLine;
 use std::alloc::{AllocError, Global};
@@ -98,6 +100,44 @@ fn read_enter(fields: &mut Words<'_>) -> Option<Event>
     Some(Event::Enter { name, table, seat })
 }
 
+fn read_act_word(word: &[u8]) -> Option<Act>
+    ensures { result ≡ act_of_word word.now }
+{
+    match word {
+        b"fold" => Some(Act::Fold),
+        _ => None,
+    }
+}
+
+#[tactic(auto, unfolding(crate::specs::Reading::begin_of))]
+fn read_begin(fields: &mut Words<'_>) -> Option<Event>
+    ensures { result ≡ begin_of fields.old }
+{
+    let (table, row) = fields.two()?;
+    let table = read_number(table)?;
+    let row = read_row(row)?;
+    Some(Event::Begin { table, row })
+}
+
+#[tactic(auto, unfolding(crate::specs::Reading::act_of))]
+fn read_act(fields: &mut Words<'_>) -> Option<Event>
+    ensures { result ≡ act_of fields.old }
+{
+    let (table, name, act) = fields.three()?;
+    let table = read_number(table)?;
+    let name = read_name(name)?;
+    let act = read_act_word(act)?;
+    Some(Event::Act { table, name, act })
+}
+
+#[tactic(auto, unfolding(crate::specs::Reading::settle_of))]
+fn read_settle(fields: &mut Words<'_>) -> Option<Event>
+    ensures { result ≡ settle_of fields.old }
+{
+    let table = one_number(fields)?;
+    Some(Event::Settle { table })
+}
+
 /// Reads an event from the words behind its keyword. `None` exactly where it is not in the grammar; memory is
 /// wanted only where it is.
 pub fn read_event(
@@ -119,6 +159,9 @@ pub fn read_event(
         Keyword::Shares => read_shares(alloc, fields),
         Keyword::Go => Ok(fields.is_done().then_some(Event::Go)),
         Keyword::Enter => Ok(read_enter(fields)),
+        Keyword::Begin => Ok(read_begin(fields)),
+        Keyword::Act => Ok(read_act(fields)),
+        Keyword::Settle => Ok(read_settle(fields)),
         Keyword::Stop => Ok(fields.is_done().then_some(Event::Stop)),
     }
 }

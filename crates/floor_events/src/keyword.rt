@@ -26,6 +26,12 @@ pub enum Keyword {
     Go,
     /// `enter`
     Enter,
+    /// `begin`
+    Begin,
+    /// `act`
+    Act,
+    /// `settle`
+    Settle,
     /// `stop`
     Stop,
 }
@@ -45,6 +51,9 @@ pub fn read_keyword(word: &[u8]) -> Option<Keyword>
         b"shares" => Some(Keyword::Shares),
         b"go" => Some(Keyword::Go),
         b"enter" => Some(Keyword::Enter),
+        b"begin" => Some(Keyword::Begin),
+        b"act" => Some(Keyword::Act),
+        b"settle" => Some(Keyword::Settle),
         b"stop" => Some(Keyword::Stop),
         _ => None,
     }

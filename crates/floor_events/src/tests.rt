@@ -1,11 +1,12 @@
 use super::*;
-use card_set::Game;
+use betting_round::Act;
+use card_set::{Card, Game};
 use floor_text::{List, Name, Refusal};
 use level_plan::{PlanItem, PlanLine};
 use std::test::Fail;
 
 /// Lines that are not in the grammar.
-static OUTSIDE: [&[u8]; 40] = [
+static OUTSIDE: [&[u8]; 52] = [
     b"",
     b" ",
     b"*",
@@ -46,6 +47,18 @@ static OUTSIDE: [&[u8]; 40] = [
     b"enter floor 1 2",
     b"enter 1ann 1 2",
     b"enter abcdefghijklmnopq 1 2",
+    b"begin 1",
+    b"begin 1 2c",
+    b"act 1 ann check",
+    b"act 1 ann call",
+    b"act 1 ann bet 400",
+    b"act 1 floor fold",
+    b"act ann 1 fold",
+    b"act 1 ann fold ",
+    b"settle",
+    b"settle 01",
+    b"settle 1 1",
+    b"time 1",
 ];
 
 #[test]
@@ -106,6 +119,56 @@ fn other_events_are_read(rt: HostRuntime) -> Result<(), Fail> {
         _ => false,
     };
     assert!(rt; right);
+    Ok(())
+}
+
+/// A row in order, behind the word that begins a hand at table 1.
+const BEGIN: &[u8; 112] =
+    b"begin 1 2c2d2h2s3c3d3h3s4c4d4h4s5c5d5h5s6c6d6h6s7c7d7h7s8c8d8h8s9c9d9h9sTcTdThTsJcJdJhJsQcQdQhQsKcKdKhKsAcAdAhAs";
+
+/// The table and the first card of a line that begins a hand with these letters in front, or `None` where it is
+/// no such line.
+fn begun(first: &[u8; 2], alloc: std::alloc::Global) -> Result<Option<(u64, Card)>, Fail> {
+    let mut line = *BEGIN;
+    line[8] = first[0];
+    line[9] = first[1];
+    match read_item(alloc, &line)? {
+        Some(Item::Event(Event::Begin { table, row })) => Ok(Some((table, row.cards[0]))),
+        _ => Ok(None),
+    }
+}
+
+#[test]
+fn hands_begin_with_a_row(rt: HostRuntime) -> Result<(), Fail> {
+    let alloc = rt.alloc();
+    let card = Card { rank: 2, suit: 0 };
+    assert_eq!(rt; begun(b"2c", alloc)?, Some((1, card)));
+    let again = Card { rank: 14, suit: 3 };
+    assert_eq!(rt; begun(b"As", alloc)?, Some((1, again)));
+    assert_eq!(rt; begun(b"tc", alloc)?, None);
+    assert!(rt; read_item(alloc, &BEGIN[..110])?.is_none());
+    Ok(())
+}
+
+#[test]
+fn acts_and_settlements_are_read(rt: HostRuntime) -> Result<(), Fail> {
+    let alloc = rt.alloc();
+    let item = read_item(alloc, b"act 12 ann fold")?;
+    let right = match &item {
+        Some(
+            Item::Event(
+                Event::Act {
+                    table,
+                    name,
+                    act: Act::Fold,
+                },
+            ),
+        ) => { *table == 12 && name.bytes() == b"ann".as_slice() }
+        _ => false,
+    };
+    assert!(rt; right);
+    let item = read_item(alloc, b"settle 3")?;
+    assert!(rt; matches!(item, Some(Item::Event(Event::Settle { table: 3 }))));
     Ok(())
 }
 

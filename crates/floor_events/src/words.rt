@@ -3,7 +3,7 @@
 ghost use Rattle.std.specs.Prelude.{◌≡◌, ◌==◌, Some, None, [], ◌∷◌, MatchOption};
 ghost use Rattle.std.specs.List.{position};
 ghost use Rattle.floor_events.specs.Words.{words_of_line};
-ghost use Rattle.floor_events.specs.Reading.{no_word, one_word, three_words};
+ghost use Rattle.floor_events.specs.Reading.{no_word, one_word, two_words, three_words};
 
 use std::marker::Model;
 
@@ -70,6 +70,19 @@ impl<'a> Words<'a> {
     {
         let word = self.next_word()?;
         if self.is_done() { Some(word) } else { None }
+    }
+
+    /// The words that are left, where there are just two.
+    pub fn two(&mut self) -> Option<(&'a [u8], &'a [u8])>
+        ensures { MatchOption result (two_words self.old ≡ None) (λ words. two_words self.old ≡ Some (words.0.now, words.1.now)) }
+    {
+        let first = self.next_word()?;
+        let second = self.next_word()?;
+        if self.is_done() {
+            Some((first, second))
+        } else {
+            None
+        }
     }
 
     /// The words that are left, where there are just three.

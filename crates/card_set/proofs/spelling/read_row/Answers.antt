@@ -1,9 +1,10 @@
-use Rattle.std.proofs.Common.{◌≡◌, Some, None, length, arith, ap, take, slice_index_or, length-set}
+use Rattle.std.proofs.Common.{◌*◌, ◌∙◌, sym, ◌≡◌, Some, None, length, arith, ap, take, slice_index_or, length-set}
 use Rattle.std.proofs.lemmas.List.{take_all}
 use Rattle.card_set.specs.declared.card.Card.{Card}
 use Rattle.card_set.specs.Cards.{row_text}
 use Rattle.card_set.proofs.CardLaws.{same_row}
 use Rattle.card_set.proofs.RowLaws.{length-row_text, card_text-at, row_text-more, take-more-same}
+use Rattle.card_set.proofs.RowReading.{reads_row}
 use Rattle.card_set.proofs.spelling.read_row.Goals as goal
 
 pub returns-then-bytes-ne104-clause-only : goal.returns-then-bytes-ne104-clause-only
@@ -39,3 +40,16 @@ returns-clause-only c = λ row spelled.
     let theirs : take c.loop-place.place row.cards ≡ row.cards = take_all c.loop-place.place row.cards (omega arith) in
     let same : take c.loop-place.place c.loop-place.cards ≡ take c.loop-place.place row.cards = c.loop-place.invariant.only row spelled in
     ap Some (same_row _ row (cc))
+
+pub returns-then-bytes-ne104-clause-exact : goal.returns-then-bytes-ne104-clause-exact
+returns-then-bytes-ne104-clause-exact c = reads_row c.args.bytes.now None tt (returns-then-bytes-ne104-clause-only c)
+
+pub returns-in_err-cards-clause-exact : goal.returns-in_err-cards-clause-exact
+returns-in_err-cards-clause-exact c = reads_row c.args.bytes.now c.from_residual.result (rw c.from_residual.ensures tt) (returns-in_err-cards-clause-only c)
+
+pub returns-clause-exact : goal.returns-clause-exact
+returns-clause-exact c =
+    let size : length c.loop-place.cards ≡ 52 = c.loop-place.invariant.size in
+    let ours : take c.loop-place.place c.loop-place.cards ≡ c.loop-place.cards = take_all c.loop-place.place c.loop-place.cards (omega arith) in
+    let whole : take (2 * c.loop-place.place) c.args.bytes.now ≡ c.args.bytes.now = take_all (2 * c.loop-place.place) c.args.bytes.now (omega arith) in
+    reads_row c.args.bytes.now _ (ap row_text (sym ours) ∙ c.loop-place.invariant.read ∙ whole) (returns-clause-only c)

@@ -11,3 +11,6 @@ returns-in-blinds c = rw (text_from_reads c.args.word.now (codes "blinds") (omeg
 
 pub returns-in-shares : goal.returns-in-shares
 returns-in-shares c = rw (text_from_reads c.args.word.now (codes "shares") (omega arith) (search rules)) refl
+
+pub returns-in-settle : goal.returns-in-settle
+returns-in-settle c = rw (text_from_reads c.args.word.now (codes "settle") (omega arith) (search rules)) refl
