@@ -2,6 +2,7 @@ pub mod Places
 pub mod State
 pub mod Dealing
 pub mod Step
+pub mod Refusals
 pub mod Run
 pub mod Report
 pub mod Valid

@@ -150,7 +150,7 @@ checks state events.Stop =
     (No Stopped, state.stopped) ∷ []
 
 -- what an event is answered
-abbrev pub answer_to : State → Event → Answer
+unfoldable pub answer_to : State → Event → Answer
 answer_to state event = first_that_holds (checks state event)
 
 -- the stack that a player starts with
@@ -216,11 +216,3 @@ is_accepted (PlanWrong item) = false
 -- the state after an event: an accepted one has its effect, a refused one changes nothing
 abbrev pub state_after : State → Event → State
 state_after state event = if is_accepted (answer_to state event) then effect state event else state
-
--- the first of the two checks that hold that every event after the plan begins with
-abbrev pub going_refusal : State → Option Refusal
-going_refusal state = if not (is_planned state) then Some NoPlan else if state.stopped then Some Stopped else None
-
--- the first of the two checks that hold of a table at which a hand should be played
-abbrev pub playing_refusal : State → ℕ → Option Refusal
-playing_refusal state table = if not (has_table state table) then Some NoTable else if not (is_playing state table) then Some NotPlaying else None

@@ -15,7 +15,7 @@ use std::alloc::AllocError;
 
 impl Tournament {
     /// A line of the plan.
-    #[tactic(auto, using(crate::proofs::Steps::accepted_line, crate::proofs::Steps::refused_line, crate::proofs::Steps::unbuilt_line))]
+    #[tactic(auto, using(crate::proofs::Answers::line_accepted, crate::proofs::Answers::line_done, crate::proofs::Answers::line_wrong, crate::proofs::Answers::line_kept, crate::proofs::Answers::line_not_built, crate::proofs::Answers::line_left, crate::proofs::Answers::line_late, crate::proofs::Answers::line_too_late))]
     pub(crate) fn plan_line(&mut self, line: &PlanLine) -> Result<Answer, AllocError>
         ensures answer { IfOk result (λ answer. answer ≡ answer_to self.old (events.Plan line.now)) }
         ensures state { OnOk result (self.new ≡ state_after self.old (events.Plan line.now)) }
@@ -36,6 +36,7 @@ impl Tournament {
     }
 
     /// The end of the plan.
+    #[tactic(auto, using(crate::proofs::Answers::go_late, crate::proofs::Answers::go_too_late, crate::proofs::Answers::go_accepted, crate::proofs::Answers::go_done, crate::proofs::Answers::go_wrong, crate::proofs::Answers::go_kept))]
     pub(crate) fn go(&mut self) -> Result<Answer, AllocError>
         ensures answer { IfOk result (λ answer. answer ≡ answer_to self.old events.Go) }
         ensures state { OnOk result (self.new ≡ state_after self.old events.Go) }

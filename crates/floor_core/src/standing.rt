@@ -1,10 +1,11 @@
 //! How the tournament and its tables stand.
 
-ghost use Rattle.std.specs.Prelude.{◌≡◌, ◌≤◌, ◌+◌, true, false, length, Some, IsSome, IfOk, IfErr, OnOk};
+ghost use Rattle.std.specs.Prelude.{◌≡◌, ◌≤◌, ◌+◌, true, length, None, Some, IsSome, IfOk, IfErr, OnOk};
 ghost use Rattle.button_blinds.specs.SeatSets.{AreSeatsOf};
 ghost use Rattle.floor_core.specs.Dealing.{seats_of_tables};
 ghost use Rattle.floor_core.specs.State.{taken_seats, count_at, hand_at};
-ghost use Rattle.floor_core.specs.Step.{has_table, is_open, is_playing, going_refusal, playing_refusal};
+ghost use Rattle.floor_core.specs.Step.{has_table, is_playing};
+ghost use Rattle.floor_core.specs.Refusals.{going_refusal, playing_refusal};
 
 use crate::checks::has_table;
 use crate::seated::taken_seats;
@@ -15,9 +16,10 @@ use level_plan::Plan;
 
 impl Tournament {
     /// The plan, where it is whole and the tournament is not stopped.
+    #[tactic(auto, unfolding(crate::specs::Refusals::going_refusal))]
     pub(crate) fn going(&self) -> Result<&Plan, Refusal>
         ensures plan { IfOk result (λ plan. self.now.plan ≡ Some plan.now) }
-        ensures ok { OnOk result (self.now.stopped ≡ false) }
+        ensures ok { OnOk result (going_refusal self.now ≡ None) }
         ensures err { IfErr result (λ refusal. going_refusal self.now ≡ Some refusal) }
     {
         let Some(plan) = &self.plan else {
@@ -43,6 +45,7 @@ impl Tournament {
     }
 
     /// The seats of a table where a player sits.
+    #[tactic(auto, using(crate::proofs::Steps::within_ten))]
     pub(crate) fn taken_at(&self, table: u64) -> SeatSet
         ensures taken { result ≡ taken_seats self.now.seats table }
         ensures within { AreSeatsOf (seats_of_tables self.now) result }
@@ -67,12 +70,14 @@ impl Tournament {
     }
 
     /// The place of a playing table among the tables, from 0.
+    #[tactic(auto, unfolding(crate::specs::Refusals::playing_refusal))]
     pub(crate) fn playing_place(&self, table: u64) -> Result<usize, Refusal>
         ensures place { IfOk result (λ place. table ≡ place + 1) }
-        ensures within { IfOk result (λ place. table ≤ length self.now.tables) }
+        ensures within { OnOk result (table ≤ length self.now.tables) }
         ensures small { OnOk result (table ≤ 64) }
         ensures there { OnOk result (has_table self.now table ≡ true) }
         ensures hand { OnOk result (IsSome (hand_at self.now.tables table)) }
+        ensures ok { OnOk result (playing_refusal self.now table ≡ None) }
         ensures err { IfErr result (λ refusal. playing_refusal self.now table ≡ Some refusal) }
     {
         if !self.has_table(table) {

@@ -1,15 +1,15 @@
 //! The tables of a tournament.
 
-ghost use Rattle.std.specs.Prelude.{◌≡◌, None, Some, IsSome, IfErr, OnOk, OnErr, IfOk, replicate, sum_by, ◌<◌, ◌^◌};
-ghost use Rattle.table_engine.specs.Acts.{refusal_of_act, hand_after, IsActFault};
+ghost use Rattle.std.specs.Prelude.{◌≡◌, ◌<◌, ◌^◌, ℕ, map, count_by, sum_by, IfOk, replicate};
+ghost use Rattle.floor_core.specs.State.{plays_at};
+ghost use Rattle.floor_core.specs.Step.{fresh_table, void_hands, without_hand};
 ghost use Rattle.floor_core.specs.Report.{play_at};
-ghost use Rattle.floor_core.specs.Step.{fresh_table};
+ghost use Rattle.floor_core.specs.Valid.{dealt_count};
 
-use betting_round::{Act, Done};
+use crate::seated::{Seated, put_back};
 use button_blinds::Marks;
-use floor_text::Name;
 use std::alloc::{AllocError, Global};
-use table_engine::{ActFault, Hand};
+use table_engine::Hand;
 
 /// A table.
 #[derive(Debug, Drop)]
@@ -32,4 +32,47 @@ pub fn fresh_tables(alloc: Global, count: u64) -> Result<Vec<Table>, AllocError>
         })?;
     }
     Ok(tables)
+}
+
+/// The chips in play at a table: the stacks with which the players of its hand began.
+fn play_at(table: &Table) -> u64
+    requires { play_at table.now < 2 ^ 64 }
+    ensures { result ≡ play_at table.now }
+{
+    match &table.hand {
+        Some(hand) => hand
+            .start()
+            .seats
+            .items()
+            .iter()
+            .map(|player| player.stack)
+            .sum(),
+        None => 0,
+    }
+}
+
+/// The chips in play: the stacks with which the players of all started hands began.
+pub fn play_of(tables: &[Table]) -> u64
+    requires { sum_by play_at tables.now < 2 ^ 64 }
+    ensures { result ≡ sum_by play_at tables.now }
+{
+    let mut chips = 0;
+    for table in tables {
+        chips += play_at(table);
+    }
+    chips
+}
+
+/// The hands of all tables are void, and their players have the stacks with which they began.
+pub fn void_hands(tables: &mut [Table], seats: &mut [Seated])
+    requires { (number : ℕ) → count_by (plays_at number) seats.old ≡ dealt_count tables.old number }
+    ensures players { seats.new ≡ void_hands 1 tables.old seats.old }
+    ensures tables { tables.new ≡ map without_hand tables.old }
+{
+    for place in 0..tables.len() {
+        if let Some(hand) = tables[place].hand.take() {
+            let start = hand.void();
+            put_back(seats, place as u64 + 1, start.seats.items());
+        }
+    }
 }

@@ -67,7 +67,7 @@ impl PlanDraft {
     }
 
     /// Whether a line is wrong here: its item was given before, or what it gives is not lawful.
-    fn is_wrong(&self, line: &PlanLine) -> bool
+    pub fn is_wrong(&self, line: &PlanLine) -> bool
         ensures { result ≡ is_wrong_line self.now line.now }
     {
         match line {
