@@ -1,5 +1,5 @@
 -- What an event is answered, by its checks a few at a time, and the state after it.
-use Rattle.std.proofs.Common.{◌≡◌, ◌∙◌, refl, sym, ap, ℕ, Bool, true, false, cond, ◌==◌, List, [], ◌∷◌, length}
+use Rattle.std.proofs.Common.{◌≡◌, ◌∙◌, refl, sym, ap, ℕ, Bool, true, false, cond, ◌==◌, ◌&&◌, List, [], ◌∷◌, length}
 use Rattle.std.specs.Prelude.{not, nat_le, drop, Option, Some, None}
 use Rattle.card_set.specs.declared.card.CardRow.{CardRow}
 use Rattle.betting_round.specs.declared.act.Act.{Act}
@@ -16,7 +16,7 @@ use Rattle.floor_events.specs.declared.event.Event.{Event}
 use Rattle.floor_events.specs.declared.event.Event.TheVariants as events
 use Rattle.floor_core.specs.State.{State, is_known, is_taken, count_at}
 use Rattle.floor_core.specs.Step.{Check, checks, first_that_holds, refusal_check, go_check, answer_to, is_accepted, effect, state_after, refusal_at, is_planned, has_table, has_seat_number, is_late, is_open, may_be_entered, is_playing, is_tournament_over, is_over_at, is_won_at, is_not_built}
-use Rattle.floor_core.specs.Refusals.{first_some, answered, going_refusal, known_refusal, unknown_refusal, place_refusal, room_refusal, table_refusal, deck_refusal, playing_refusal, end_refusal, refusal_to_enter, refusal_to_begin, refusal_before_act, refusal_to_settle}
+use Rattle.floor_core.specs.Refusals.{first_some, answered, going_refusal, known_refusal, unknown_refusal, place_refusal, room_refusal, table_refusal, deck_refusal, playing_refusal, end_refusal, refusal_to_enter, refusal_to_begin, refusal_before_act, refusal_to_settle, is_left_out}
 
 two_first : (a b : Refusal) (p q : Bool) (others : Option Refusal) (more : List Check) → first_that_holds more ≡ answered others
     → first_that_holds ((No a, p) ∷ (No b, q) ∷ more) ≡ answered (first_some (cond p (Some a) (cond q (Some b) None)) others)
@@ -210,13 +210,24 @@ wrong_line : (wrong : Bool) (item found : PlanItem) → cond wrong (Some item) N
 wrong_line true item found some = (refl, same_Some item found some)
 wrong_line false item found some = absurd cc
 
-pub line_accepted : (state : State) (line : PlanLine) → is_planned state ≡ false → line_fault state.draft line ≡ None → is_not_built line ≡ false → answer_to state (events.Plan line) ≡ Ok
-unfolding answer_to
-line_accepted state line unplanned fault built =
-    accepted_by_tests (is_planned state) (is_wrong_line state.draft line) (is_not_built line) (item_of_line line) unplanned (right_line (is_wrong_line state.draft line) (item_of_line line) fault) built
+built_right : (unbuilt wrong : Bool) → (unbuilt && not wrong) ≡ false → wrong ≡ false → unbuilt ≡ false
+built_right true true left right = cc
+built_right true false left right = cc
+built_right false wrong left right = refl
 
-pub line_done : (state : State) (line : PlanLine) → is_planned state ≡ false → line_fault state.draft line ≡ None → is_not_built line ≡ false → state_after state (events.Plan line) ≡ effect state (events.Plan line)
-line_done state line unplanned fault built = done_by state (events.Plan line) (line_accepted state line unplanned fault built)
+left_out : (unbuilt wrong : Bool) → (unbuilt && not wrong) ≡ true → (wrong ≡ false) × (unbuilt ≡ true)
+left_out true true left = cc
+left_out true false left = (refl, refl)
+left_out false wrong left = cc
+
+pub line_accepted : (state : State) (line : PlanLine) → is_planned state ≡ false → line_fault state.draft line ≡ None → is_left_out state line ≡ false → answer_to state (events.Plan line) ≡ Ok
+unfolding answer_to is_left_out
+line_accepted state line unplanned fault kept =
+    let right = right_line (is_wrong_line state.draft line) (item_of_line line) fault in
+    accepted_by_tests (is_planned state) (is_wrong_line state.draft line) (is_not_built line) (item_of_line line) unplanned right (built_right (is_not_built line) (is_wrong_line state.draft line) kept right)
+
+pub line_done : (state : State) (line : PlanLine) → is_planned state ≡ false → line_fault state.draft line ≡ None → is_left_out state line ≡ false → state_after state (events.Plan line) ≡ effect state (events.Plan line)
+line_done state line unplanned fault kept = done_by state (events.Plan line) (line_accepted state line unplanned fault kept)
 
 pub line_wrong : (state : State) (line : PlanLine) (item : PlanItem) → is_planned state ≡ false → line_fault state.draft line ≡ Some item → answer_to state (events.Plan line) ≡ PlanWrong item
 unfolding answer_to
@@ -227,9 +238,11 @@ line_wrong state line item unplanned fault =
 pub line_kept : (state : State) (line : PlanLine) (item : PlanItem) → is_planned state ≡ false → line_fault state.draft line ≡ Some item → state_after state (events.Plan line) ≡ state
 line_kept state line item unplanned fault = ap (λ answer. cond (is_accepted answer) (effect state (events.Plan line)) state) (line_wrong state line item unplanned fault)
 
-pub line_not_built : (state : State) (line : PlanLine) → is_planned state ≡ false → is_wrong_line state.draft line ≡ false → is_not_built line ≡ true → answer_to state (events.Plan line) ≡ No NotBuilt
-unfolding answer_to
-line_not_built state line unplanned right unbuilt = unbuilt_by_tests (is_planned state) (is_wrong_line state.draft line) (is_not_built line) (item_of_line line) unplanned right unbuilt
+pub line_not_built : (state : State) (line : PlanLine) → is_planned state ≡ false → is_left_out state line ≡ true → answer_to state (events.Plan line) ≡ No NotBuilt
+unfolding answer_to is_left_out
+line_not_built state line unplanned left =
+    let tests = left_out (is_not_built line) (is_wrong_line state.draft line) left in
+    unbuilt_by_tests (is_planned state) (is_wrong_line state.draft line) (is_not_built line) (item_of_line line) unplanned tests.0 tests.1
 
 late_first : (answer : Answer) (planned : Bool) (more : List Check) → planned ≡ true → first_that_holds ((answer, planned) ∷ more) ≡ answer
 late_first answer true more planned = refl
@@ -242,8 +255,8 @@ line_late state line planned = late_first (No PlanLate) (is_planned state) (drop
 pub line_too_late : (state : State) (line : PlanLine) → is_planned state ≡ true → state_after state (events.Plan line) ≡ state
 line_too_late state line planned = undone_by state (events.Plan line) PlanLate (line_late state line planned)
 
-pub line_left : (state : State) (line : PlanLine) → is_planned state ≡ false → is_wrong_line state.draft line ≡ false → is_not_built line ≡ true → state_after state (events.Plan line) ≡ state
-line_left state line unplanned right unbuilt = undone_by state (events.Plan line) NotBuilt (line_not_built state line unplanned right unbuilt)
+pub line_left : (state : State) (line : PlanLine) → is_planned state ≡ false → is_left_out state line ≡ true → state_after state (events.Plan line) ≡ state
+line_left state line unplanned left = undone_by state (events.Plan line) NotBuilt (line_not_built state line unplanned left)
 
 pub go_late : (state : State) → is_planned state ≡ true → answer_to state events.Go ≡ No PlanLate
 unfolding answer_to

@@ -4,6 +4,7 @@ ghost use Rattle.std.specs.Prelude.{◌≡◌, IfOk, OnOk, OnErr};
 ghost use Rattle.floor_events.specs.declared.answer.Answer.TheVariants as answers;
 ghost use Rattle.floor_events.specs.declared.event.Event.TheVariants as events;
 ghost use Rattle.floor_core.specs.Step.{answer_to, state_after};
+ghost use Rattle.floor_core.specs.Refusals.{is_left_out};
 
 use crate::checks::is_not_built;
 use crate::table::fresh_tables;
@@ -14,6 +15,14 @@ use level_plan::{PlanFault, PlanLine};
 use std::alloc::AllocError;
 
 impl Tournament {
+    /// Whether a line that is not wrong gives what is not carried out yet.
+    #[tactic(auto, unfolding(crate::specs::Refusals::is_left_out))]
+    fn is_left_out(&self, line: &PlanLine) -> bool
+        ensures { result ≡ is_left_out self.now line.now }
+    {
+        is_not_built(line) && !self.draft.is_wrong(line)
+    }
+
     /// A line of the plan.
     #[tactic(auto, using(crate::proofs::Answers::line_accepted, crate::proofs::Answers::line_done, crate::proofs::Answers::line_wrong, crate::proofs::Answers::line_kept, crate::proofs::Answers::line_not_built, crate::proofs::Answers::line_left, crate::proofs::Answers::line_late, crate::proofs::Answers::line_too_late))]
     pub(crate) fn plan_line(&mut self, line: &PlanLine) -> Result<Answer, AllocError>
@@ -25,7 +34,7 @@ impl Tournament {
         if self.plan.is_some() {
             return Ok(Answer::No(Refusal::PlanLate));
         }
-        if is_not_built(line) && !self.draft.is_wrong(line) {
+        if self.is_left_out(line) {
             return Ok(Answer::No(Refusal::NotBuilt));
         }
         match self.draft.line(line) {
