@@ -1,6 +1,6 @@
 -- What a table has after it was set, and after the hands of all tables are void.
 use Rattle.std.proofs.Common.{◌≡◌, ◌≢◌, ◌∙◌, refl, sym, ap, subst, ℕ, zero, suc, ◌+◌, ◌<◌, ◌≤◌, Bool, true, false, cond, ◌==◌, List, [], ◌∷◌, length, sum, arith}
-use Rattle.std.specs.Prelude.{sum_by, slice_get, slice_set, Option, Some, None}
+use Rattle.std.specs.Prelude.{sum_by, slice_get, slice_set, slice_index_or, Option, Some, None}
 use Rattle.std.specs.Option.{option_map_or, option_and_then}
 use Rattle.std.proofs.lemmas.Bool.Decides.{nat_tests}
 use Rattle.std.proofs.lemmas.List.Sums.{sum_by-cons}
@@ -72,3 +72,29 @@ pub play_set : (tables : List Table) (table : ℕ) (marks : Option Marks) (hand 
     → sum_by play_at (set_table tables table marks hand) + play_of_hand (hand_at tables table) ≡ sum_by play_at tables + play_of_hand hand
 play_set tables zero marks hand first last = absurd (omega arith)
 play_set tables (suc below) marks hand first last = play_slice_set tables below (record { marks = marks; hand = hand }) (omega arith)
+
+below_there : (tables : List Table) (below : ℕ) (d : Table) → below < length tables → slice_get tables below ≡ Some (slice_index_or tables below d)
+below_there [] below d within = absurd (omega arith)
+below_there (first ∷ tables) zero d within = refl
+below_there (first ∷ tables) (suc below) d within = below_there tables below d (omega arith)
+
+-- the marks of a table are those of the one at its place
+pub marks_there : (tables : List Table) (table place : ℕ) (d : Table) → table ≡ place + 1 → place < length tables → marks_at tables table ≡ (slice_index_or tables place d).marks
+marks_there tables zero place d is within = absurd (omega (arith, is))
+marks_there tables (suc below) place d is within =
+    let same : below ≡ place = omega (arith, is) in
+    rw (same, below_there tables place d within) refl
+
+-- the hand at a table is that of the one at its place
+pub hand_there : (tables : List Table) (table place : ℕ) (d : Table) → table ≡ place + 1 → place < length tables → hand_at tables table ≡ (slice_index_or tables place d).hand
+hand_there tables zero place d is within = absurd (omega (arith, is))
+hand_there tables (suc below) place d is within =
+    let same : below ≡ place = omega (arith, is) in
+    rw (same, below_there tables place d within) refl
+
+-- a table is set where the one at its place is
+pub set_there : (tables : List Table) (table place : ℕ) (marks : Option Marks) (hand : Option HandTerms) → table ≡ place + 1 → set_table tables table marks hand ≡ slice_set tables place (record { marks = marks; hand = hand })
+set_there tables zero place marks hand is = absurd (omega (arith, is))
+set_there tables (suc below) place marks hand is =
+    let same : below ≡ place = omega (arith, is) in
+    rw same refl

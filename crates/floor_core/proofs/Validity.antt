@@ -1,13 +1,13 @@
 -- A tournament is still valid after each event.
 use Rattle.std.proofs.Common.{◌≡◌, ◌∙◌, refl, sym, ap, subst, ℕ, zero, suc, ◌+◌, ◌<◌, ◌≤◌, Bool, true, false, cond, ◌&&◌, ◌==◌, List, [], ◌∷◌, map, length, inl, inr, arith, length-append}
-use Rattle.std.specs.Prelude.{not, Option, Some, None, count_by, option_map, replicate, slice_get}
+use Rattle.std.specs.Prelude.{not, nat_le, Option, Some, None, count_by, option_map, replicate, slice_get}
 use Rattle.std.specs.List.{list_all}
 use Rattle.std.specs.Option.{option_map_or, option_and_then, ForSome}
 use Rattle.std.proofs.lemmas.Bool.{and_parts, cases_Bool}
 use Rattle.std.proofs.lemmas.Bool.Decides.{nat_tests}
 use Rattle.std.proofs.lemmas.Option.{same_Some}
 use Rattle.card_set.specs.declared.card.CardRow.{CardRow}
-use Rattle.level_plan.specs.Items.{is_between}
+use Rattle.level_plan.specs.Items.{is_between, greatest_amount}
 use Rattle.level_plan.specs.Plans.{PlanTerms, is_right}
 use Rattle.level_plan.specs.Drafts.{plan_of}
 use Rattle.button_blinds.specs.Marks.{AreMarksOf}
@@ -69,6 +69,7 @@ seat_within (Some plan) seat there = there
 pub valid_entered : (state : State) (name : List ℕ) (table seat : ℕ) → IsValid state → refusal_to_enter state name table seat ≡ None → length state.entries < 640 → IsValid (effect state (events.Enter name table seat))
 valid_entered state name table seat valid none room = record {
   right = valid.right;
+  levelled = valid.levelled;
   few = simp length-append (omega arith);
   within = list_all_insert (sits_within (seats_of_tables state)) state.seats (count_by (λ other. comes_before other.place (newcomer state name table seat).place) state.seats) (newcomer state name table seat) valid.within (seat_within state.plan seat (seat_there state name table seat none));
   marked = valid.marked;
@@ -84,12 +85,32 @@ no_marks : (seats count number : ℕ) → ForSome (marks_at (replicate count fre
 no_marks seats count zero = λ marks is. absurd cc
 no_marks seats count (suc below) = no_marks_below seats count below
 
+-- a right plan has a first level
+levels_of_right : (plan : PlanTerms) → is_right plan ≡ true → 1 ≤ length plan.blinds
+levels_of_right plan right =
+    let late = fifth_of_all (is_between 1 64 plan.tables) (is_between 2 10 plan.seats) (is_between 1 greatest_amount plan.stack) (nat_le plan.buyin greatest_amount) (is_between 1 (length plan.blinds) plan.late) _ right in
+    some_level plan.late (length plan.blinds) late
+  where
+    fifth_of_all : (a b d e f more : Bool) → (a && (b && (d && (e && (f && more))))) ≡ true → f ≡ true
+    fifth_of_all true true true true true more all = refl
+    fifth_of_all true true true true false more all = cc
+    fifth_of_all true true true false f more all = cc
+    fifth_of_all true true false e f more all = cc
+    fifth_of_all true false d e f more all = cc
+    fifth_of_all false b d e f more all = cc
+    some_level : (late count : ℕ) → is_between 1 count late ≡ true → 1 ≤ count
+    some_level late count between = grind (arith, nat_tests)
+
+first_level : (plan other : PlanTerms) → is_right plan ≡ true → plan ≡ other → (1 ≤ 1) × (1 ≤ length other.blinds)
+first_level plan other right same = (omega arith, subst (λ (plan : PlanTerms). 1 ≤ length plan.blinds) same (levels_of_right plan right))
+
 -- after the end of the plan
 pub valid_planned : (state : State) → IsValid state → is_planned state ≡ false → is_right (plan_of state.draft) ≡ true → answer_to state events.Go ≡ Ok → IsValid (effect state events.Go)
 valid_planned state valid unplanned right lawful =
     let nobody = valid.chips.closed (none_there state.plan unplanned) in
     record {
       right = λ plan is. subst (λ (plan : PlanTerms). is_right plan ≡ true) (same_Some (plan_of state.draft) plan is) right;
+      levelled = λ plan is. first_level (plan_of state.draft) plan right (same_Some (plan_of state.draft) plan is);
       few = valid.few;
       within = rw nobody.1 refl;
       marked = λ number. no_marks (plan_of state.draft).seats (plan_of state.draft).tables number;
@@ -117,6 +138,7 @@ valid_begun state table row valid lawful there marks =
     let range = table_range state table valid.chips there in
     record {
       right = valid.right;
+      levelled = valid.levelled;
       few = valid.few;
       within = within_dealt (seats_of_tables state) table (next_at state table).waiting state.seats ∙ valid.within;
       marked = marked_set (seats_of_tables state) state.tables table (Some (next_at state table).marks) (Some (record { start = next_start state table row.cards; acts = [] })) range.0 range.1 valid.marked (λ found is. subst (λ (marks : Marks). AreMarksOf (seats_of_tables state) marks) (same_Some (next_at state table).marks found is) marks);
@@ -129,6 +151,7 @@ valid_acted state table name act valid lawful there =
     let range = table_range state table valid.chips there in
     record {
       right = valid.right;
+      levelled = valid.levelled;
       few = valid.few;
       within = valid.within;
       marked = marked_set (seats_of_tables state) state.tables table (marks_at state.tables table) (option_map (λ hand. hand_after hand name act false) (hand_at state.tables table)) range.0 range.1 valid.marked (valid.marked table);
@@ -145,6 +168,7 @@ valid_settled state table valid lawful there =
     let range = table_range state table valid.chips there in
     record {
       right = valid.right;
+      levelled = valid.levelled;
       few = valid.few;
       within = within_settled (seats_of_tables state) table state.seats (hand_at state.tables table) ∙ valid.within;
       marked = marked_set (seats_of_tables state) state.tables table (marks_at state.tables table) None range.0 range.1 valid.marked (valid.marked table);
@@ -155,6 +179,7 @@ valid_settled state table valid lawful there =
 pub valid_stopped : (state : State) → IsValid state → answer_to state events.Stop ≡ Ok → IsValid (effect state events.Stop)
 valid_stopped state valid lawful = record {
   right = valid.right;
+  levelled = valid.levelled;
   few = valid.few;
   within = within_void (seats_of_tables state) 1 state.tables state.seats ∙ valid.within;
   marked = λ number. subst (λ (found : Option Marks). ForSome found (AreMarksOf (seats_of_tables state))) (sym (same_marks state.tables number)) (valid.marked number);

@@ -39,6 +39,8 @@ pub record IsKept (state : State) : Type 0 where
 pub record IsValid (state : State) : Type 0 where
   -- the plan is right
   pub right : (plan : PlanTerms) → state.plan ≡ Some plan → is_right plan ≡ true
+  -- the level is one of the plan's
+  pub levelled : (plan : PlanTerms) → state.plan ≡ Some plan → (1 ≤ state.level) × (state.level ≤ length plan.blinds)
   -- the entry list is not overfull
   pub few : length state.entries ≤ 640
   -- everyone sits in a seat that the tables have

@@ -5,6 +5,7 @@
 //! definition says; `Tournament::report` reports it. `chips_are_kept` is a law of the step over any list of events.
 #![tactic(auto)]
 
+mod beginning;
 mod checks;
 mod entering;
 mod laws;
