@@ -1,4 +1,4 @@
-use Rattle.std.proofs.Common.{◌≡◌, ◌<◌, arith}
+use Rattle.std.proofs.Common.{arith}
 use Rattle.table_engine.proofs.tests.two.Goals as goal
 
 pub returns : goal.returns
