@@ -18,7 +18,7 @@ any-found_step : {X Y : Type 0} (f : X → Y) (x : X) (passes more : Bool) (left
 any-found_step f x true more left same = refl
 any-found_step f x false more left same = same
 
-any-found : {X Y : Type 0} (test : X → Bool) (f : X → Y) (xs : List X) → list_any test xs ≡ is_some (option_map f (find test xs))
+pub any-found : {X Y : Type 0} (test : X → Bool) (f : X → Y) (xs : List X) → list_any test xs ≡ is_some (option_map f (find test xs))
 any-found test f [] = refl
 any-found test f (x ∷ xs) = any-found_step f x (test x) (list_any test xs) (find test xs) (any-found test f xs)
 

@@ -79,7 +79,8 @@ impl Hand {
 
     /// The name of the player who is due. `None` exactly where nobody is.
     pub fn due(&self) -> Option<Name>
-        ensures { result ≡ due_name self.now }
+        ensures name { result ≡ due_name self.now }
+        ensures nobody { is_none result ≡ is_none (due_in_hand self.now) }
     {
         let seat = self.due_seat()?;
         self.start.name_in_seat(seat)
