@@ -30,7 +30,7 @@ folded-acted : (acts : List ActOf) (name : List ℕ) → has_folded acts name �
 folded-acted [] name = refl
 folded-acted (act ∷ acts) name = rw (every_fold act.act, folded-acted acts name)
 
--- A player who is live exactly where he has not acted is not live and has not acted.
+-- A player who is live exactly where he has not acted is not both live and one who has acted.
 live_or_acted : (acted : Bool) → not (not acted && acted) ≡ true
 live_or_acted true = refl
 live_or_acted false = refl
@@ -79,7 +79,7 @@ only_one-later players only =
         let first = find-map can_act at_next_street players in
         rw (acting-later players, one, first, same) (put_most-later players)
 
--- Who may not be due on a street though he has not acted while live may not be due on a later one.
+-- A player who may not be due on a street, and who if he is live has not acted, may not be due on a later one.
 may-later : (live all_in acted less later : Bool) → not (live && acted) ≡ true → ((live && not all_in) && (not acted || less)) ≡ false
     → ((live && not all_in) && (true || later)) ≡ false
 may-later true true acted less later fresh cannot = refl
@@ -92,7 +92,7 @@ none-first : {X : Type 0} (wants : Bool) (x : X) (left : Option X) → cond want
 none-first true x left none = cc
 none-first false x left none = (refl, none)
 
--- Where nobody may be due on a street though no live player has acted, nobody may be due on a later one.
+-- Where nobody may be due on a street and no live player has acted, nobody may be due on a later one.
 nobody-later : (players : List OnStreet) (level : ℕ) → none_acted players ≡ true → find (may_be_due level) players ≡ None → find (may_be_due 0) (map at_next_street players) ≡ None
 nobody-later [] level fresh none = refl
 nobody-later (player ∷ players) level fresh none =
