@@ -1,18 +1,21 @@
 -- The state once a player has acted, once a hand is settled, and once all are void.
-use Rattle.std.proofs.Common.{◌≡◌, ◌∙◌, ◌+◌, ◌<◌, ℕ, List, length, map, set, get_or, refl, sym, ap, false}
-use Rattle.std.specs.Prelude.{Option, Some, None, option_map}
+use Rattle.std.proofs.Common.{◌≡◌, ◌∙◌, ◌+◌, ◌<◌, ℕ, List, length, map, set, get_or, ◌≤◌, refl, sym, ap, false, arith}
+use Rattle.std.specs.Prelude.{count_by, Option, Some, None, option_map}
 use Rattle.std.specs.Option.{option_map_or}
-use Rattle.std.proofs.lemmas.List.{set-get_or}
+use Rattle.std.proofs.lemmas.List.{set-get_or, length-map}
 use Rattle.betting_round.specs.declared.act.Act.{Act}
-use Rattle.table_engine.specs.Hands.{HandTerms, is_over}
+use Rattle.table_engine.specs.Hands.{HandTerms, is_over, behind}
 use Rattle.table_engine.specs.Acts.{refusal_of_act, hand_after}
-use Rattle.table_engine.specs.Results.{is_won_by_folds, stacks_after_hand}
+use Rattle.table_engine.specs.Results.{is_won_by_folds, award, stacks_after_hand}
 use Rattle.floor_text.specs.declared.refusal.Refusal.{Refusal}
 use Rattle.floor_events.specs.declared.event.Event.TheVariants as events
 use Rattle.floor_core.specs.declared.seated.Seated.{Seated}
 use Rattle.floor_core.specs.declared.table.Table.{Table}
-use Rattle.floor_core.specs.State.{State, marks_at, hand_at, set_table, put_back}
+use Rattle.floor_core.specs.State.{State, marks_at, hand_at, set_table, plays_at, put_back}
 use Rattle.floor_core.specs.Step.{effect, refusal_at, is_over_at, is_won_at, without_hand}
+use Rattle.table_engine.specs.declared.start.StartSeat.{StartSeat}
+use Rattle.floor_core.specs.Valid.{IsKept}
+use Rattle.floor_core.proofs.Kept.{dealt_of}
 use Rattle.floor_core.proofs.Tables.{marks_there, hand_there, set_there}
 
 -- the hand at a table is that of the one at its place, as it was read
@@ -57,3 +60,13 @@ settled_state state table place old new hand seats is within read playing settle
     let found = hand_read state.tables table place old is within read in
     let tables : set state.tables place new ≡ set_table state.tables table (marks_at state.tables table) None = rw (settled, marks) (sym (set_there state.tables table place old.marks None is)) in
     rw (tables, put, found, playing) refl
+
+-- as many players are in the hand at a table as have stacks after it
+pub put_room : (state : State) (table : ℕ) (hand : HandTerms) (players : List StartSeat) → IsKept state → hand_at state.tables table ≡ Some hand → map (λ player. player.stack) players ≡ stacks_after_hand hand
+    → count_by (plays_at table) state.seats ≤ length players
+put_room state table hand players keeps playing stacks =
+    let dealt = keeps.dealt table ∙ ap dealt_of playing in
+    let paid = ap (λ (stacks : List ℕ). length stacks) stacks in
+    let seats = length-map hand.start.seats (λ player. behind hand.start hand.acts player + award hand player) in
+    let same = length-map players (λ (player : StartSeat). player.stack) in
+    omega (arith, dealt, paid, seats, same)
