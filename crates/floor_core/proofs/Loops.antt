@@ -1,6 +1,6 @@
 -- A turn of each loop over the players or the tables.
-use Rattle.std.proofs.Common.{◌≡◌, ◌∙◌, refl, sym, ap, subst, ℕ, suc, ◌+◌, ◌<◌, ◌≤◌, Bool, true, false, cond, ◌==◌, List, [], ◌∷◌, ◌++◌, map, length, inl, inr, take, drop, get_or, set, append_assoc, arith, drop-cons, add-one}
-use Rattle.std.specs.Prelude.{count_by, filter, Option, None, Some}
+use Rattle.std.proofs.Common.{◌≡◌, ◌∙◌, refl, sym, ap, subst, ℕ, zero, suc, ◌+◌, ◌<◌, ◌≤◌, Bool, true, false, cond, ◌==◌, List, [], ◌∷◌, ◌++◌, map, length, inl, inr, take, drop, get_or, set, append_assoc, arith, drop-cons, add-one}
+use Rattle.std.specs.Prelude.{count_by, filter, slice_index, Option, None, Some}
 use Rattle.std.specs.List.{list_all}
 use Rattle.std.specs.Option.{option_map_or, option_and_then}
 use Rattle.std.proofs.Math.Seq.{take-suc, take-suc-set}
@@ -229,3 +229,23 @@ void_turn old now before seats place table within same_length read so =
       tables = map_over_more without_hand old now place table within so.tables read;
       counts = rw (add-one place) (void_counts now seats place table in_now read so.counts);
     }
+
+stacks_turn-suc : (players : List StartSeat) (stacks : List ℕ) (place : ℕ) (player : StartSeat) → place < length players → length players ≡ length stacks → player.stack ≡ slice_index stacks place
+    → map (λ player. player.stack) (take place players) ≡ take place stacks
+    → map (λ player. player.stack) (take (suc place) (set players place player)) ≡ take (suc place) stacks
+stacks_turn-suc [] stacks place player within same read written = absurd (omega arith)
+stacks_turn-suc (first ∷ players) [] place player within same read written = absurd (omega (arith, same))
+stacks_turn-suc (first ∷ players) (stack ∷ stacks) zero player within same read written = ap (λ (n : ℕ). n ∷ []) read
+stacks_turn-suc (first ∷ players) (stack ∷ stacks) (suc place) player within same read written =
+    let parts = same_cons first.stack stack (map (λ (player : StartSeat). player.stack) (take place players)) (take place stacks) written in
+    let others = stacks_turn-suc players stacks place player (omega arith) (omega (arith, same)) read parts.1 in
+    cc (parts.0, others)
+  where
+    same_cons : (x y : ℕ) (xs ys : List ℕ) → x ∷ xs ≡ y ∷ ys → (x ≡ y) × (xs ≡ ys)
+    same_cons x y xs ys same = (ap (λ (zs : List ℕ). slice_index zs 0) same, ap (λ (zs : List ℕ). drop 1 zs) same)
+
+-- a turn of `with_stacks`
+pub stacks_turn : (players : List StartSeat) (stacks : List ℕ) (place : ℕ) (player : StartSeat) → place < length players → length players ≡ length stacks → player.stack ≡ slice_index stacks place
+    → map (λ player. player.stack) (take place players) ≡ take place stacks
+    → map (λ player. player.stack) (take (place + 1) (set players place player)) ≡ take (place + 1) stacks
+stacks_turn players stacks place player within same read written = rw (add-one place) (stacks_turn-suc players stacks place player within same read written)

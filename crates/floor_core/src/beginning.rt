@@ -33,6 +33,15 @@ fn deck_of(row: &CardRow) -> Result<Deck, Refusal>
     }
 }
 
+/// What a table that is ready to begin has for its next hand.
+#[derive(Drop)]
+struct Ready {
+    /// The deck.
+    deck: Deck,
+    /// The marks, and who waits.
+    next: NextMarks,
+}
+
 impl Tournament {
     /// Checks that a table is open, that no hand is played there, and that it has more than one player.
     #[tactic(auto, unfolding(crate::specs::Refusals::table_refusal))]
@@ -73,22 +82,23 @@ impl Tournament {
 
     /// The deck and the marks of the next hand at a table, or the first check that holds.
     #[tactic(auto, unfolding(crate::specs::Refusals::refusal_to_begin))]
-    fn ready(&self, table: u64, row: &CardRow) -> Result<(Deck, NextMarks), Refusal>
+    fn ready(&self, table: u64, row: &CardRow) -> Result<Ready, Refusal>
         ensures planned { OnOk result (IsSome self.now.plan) }
         ensures there { OnOk result (has_table self.now table ≡ true) }
         ensures first { OnOk result (1 ≤ table) }
         ensures last { OnOk result (table ≤ length self.now.tables) }
         ensures small { OnOk result (table ≤ 64) }
-        ensures deck { IfOk result (λ ready. ready.0 ≡ row.now.cards) }
-        ensures next { IfOk result (λ ready. ready.1 ≡ next_at self.now table) }
-        ensures within { IfOk result (λ ready. AreMarksOf (seats_of_tables self.now) ready.1.marks) }
+        ensures deck { IfOk result (λ ready. ready.deck ≡ row.now.cards) }
+        ensures next { IfOk result (λ ready. ready.next ≡ next_at self.now table) }
+        ensures within { IfOk result (λ ready. AreMarksOf (seats_of_tables self.now) ready.next.marks) }
         ensures ok { OnOk result (refusal_to_begin self.now table row.now.cards ≡ None) }
         ensures err { IfErr result (λ refusal. refusal_to_begin self.now table row.now.cards ≡ Some refusal) }
     {
         let plan = self.going()?;
         self.check_table(table)?;
         let deck = deck_of(row)?;
-        Ok((deck, self.next_at(plan, table)))
+        let next = self.next_at(plan, table);
+        Ok(Ready { deck, next })
     }
 
     /// The blinds and the unit of the current level.
@@ -104,7 +114,8 @@ impl Tournament {
         ensures dealt { IfOk result (λ seats. seats ≡ dealt_seats table next.now.waiting self.now.seats) }
         ensures chips { IfOk result (λ seats. sum_by (λ player. player.stack) seats < 2 ^ 53) }
     {
-        dealt_seats(self.alloc, &self.seats, table, next.waiting)
+        let seats = dealt_seats(self.alloc, &self.seats, table, next.waiting)?;
+        Ok(seats)
     }
 
     /// The start of the next hand at a table.
@@ -141,7 +152,8 @@ impl Tournament {
         ensures lawful { OnErr result (answer_to self.old (events.Begin table row.now) ≡ answers.Ok) }
     {
         match self.ready(table, row) {
-            Ok((deck, next)) => {
+            Ok(ready) => {
+                let Ready { deck, next } = ready;
                 let start = self.next_start(table, &next, deck)?;
                 let Ok(hand) = Hand::new(self.alloc, start) else {
                     return Err(AllocError);

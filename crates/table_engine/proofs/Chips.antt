@@ -1,8 +1,8 @@
 -- The chips of a hand are kept.
-use Rattle.std.proofs.Common.{◌≡◌, ◌∙◌, ℕ, ◌+◌, ◌-◌, ◌*◌, ◌<◌, ◌≤◌, ◌^◌, List, [], ◌∷◌, map, Bool, true, false, cond, sum, refl, ap, sym, arith}
-use Rattle.std.specs.Prelude.{not, sum_by, count_by, ◌==◌, min}
+use Rattle.std.proofs.Common.{◌≡◌, ◌∙◌, ℕ, ◌+◌, ◌*◌, ◌≤◌, List, [], ◌∷◌, map, Bool, true, false, cond, sum, refl, ap, sym, arith}
+use Rattle.std.specs.Prelude.{not, sum_by, count_by}
 use Rattle.std.proofs.lemmas.Bool.Decides.{nat_tests}
-use Rattle.std.proofs.lemmas.List.Sums.{sum-map, sum_by-cons, sum_by-le-sum_by}
+use Rattle.std.proofs.lemmas.List.Sums.{sum-map, sum_by-cons}
 use borrow.Author.Tests.{eqb-true}
 use Rattle.betting_round.specs.declared.on_street.OnStreet.{OnStreet}
 use Rattle.table_engine.specs.declared.start.HandStart.{HandStart}

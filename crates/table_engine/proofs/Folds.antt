@@ -1,7 +1,7 @@
 -- What a fold does to the players on the street, and to the search.
 use Rattle.std.proofs.Common.{◌≡◌, ◌∙◌, ℕ, ◌+◌, ◌-◌, ◌<◌, List, [], ◌∷◌, ◌++◌, length, take, drop, map, get_or, set, Bool, true, false, cond, Some, refl, ap, sym, arith, length-append}
-use Rattle.std.specs.Prelude.{not, ◌||◌, ◌&&◌, slice_get}
-use Rattle.std.specs.List.{zip, list_any}
+use Rattle.std.specs.Prelude.{not, ◌||◌, slice_get}
+use Rattle.std.specs.List.{zip}
 use Rattle.std.specs.Str.{bytes_eq}
 use Rattle.std.proofs.lemmas.List.Folds.{list_any-append}
 use Rattle.std.proofs.lemmas.Slice.Zip.{length-zip, get_or-zip}
@@ -11,7 +11,7 @@ use Rattle.betting_round.specs.declared.on_street.OnStreet.{OnStreet}
 use Rattle.table_engine.specs.declared.start.HandStart.{HandStart}
 use Rattle.table_engine.specs.declared.start.StartSeat.{StartSeat}
 use Rattle.table_engine.specs.declared.record.ActOf.{ActOf}
-use Rattle.table_engine.specs.Hands.{HandTerms, on_street, posted, behind, has_folded, has_acted, folded, folded_player, seat_of_name, search_after}
+use Rattle.table_engine.specs.Hands.{on_street, posted, behind, has_folded, has_acted, folded, folded_player, seat_of_name, search_after}
 use Rattle.table_engine.proofs.Rewrites.{rewritten-more, rewritten-here}
 
 -- The fold of one place more.

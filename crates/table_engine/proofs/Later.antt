@@ -1,9 +1,9 @@
 -- Where nobody is due before the flop, nobody is due on a later street.
 use Rattle.std.proofs.Common.{◌≡◌, ◌∙◌, ℕ, List, [], ◌∷◌, map, Bool, true, false, cond, Some, None, refl, ap, sym}
-use Rattle.std.specs.Prelude.{not, ◌&&◌, ◌||◌, ◌==◌, nat_lt, nat_le, Option, is_some, is_none, option_map, find, count_by}
-use Rattle.std.specs.List.{list_any, list_all}
+use Rattle.std.specs.Prelude.{not, ◌&&◌, ◌||◌, ◌==◌, nat_lt, Option, is_some, is_none, option_map, find, count_by}
+use Rattle.std.specs.List.{list_all}
 use Rattle.std.specs.Option.{option_map_or}
-use Rattle.std.specs.Str.{bytes_eq}
+use Rattle.std.proofs.Math.Bool.{or-true}
 use Rattle.std.proofs.lemmas.Bool.{and_parts}
 use Rattle.rulebook.specs.Seats.{people_clockwise_after}
 use Rattle.betting_round.specs.declared.act.Act.{Act}
@@ -30,7 +30,7 @@ folded-acted : (acts : List ActOf) (name : List ℕ) → has_folded acts name �
 folded-acted [] name = refl
 folded-acted (act ∷ acts) name = rw (every_fold act.act, folded-acted acts name)
 
--- A player who is live exactly where he has not acted is not live and has not acted.
+-- A player who is live exactly where he has not acted is not both live and one who has acted.
 live_or_acted : (acted : Bool) → not (not acted && acted) ≡ true
 live_or_acted true = refl
 live_or_acted false = refl
@@ -60,13 +60,9 @@ acting-later : (players : List OnStreet) → count_by can_act (map at_next_stree
 acting-later players = sum_by-map (λ (player : OnStreet). cond (can_act player) 1 0) at_next_street players
 
 -- On a later street nobody has put in anything.
-or_true : (test : Bool) → (test || true) ≡ true
-or_true true = refl
-or_true false = refl
-
 put_most-later : (players : List OnStreet) → has_put_most (map at_next_street players) 0 ≡ true
 put_most-later [] = refl
-put_most-later (player ∷ players) = rw (or_true (not player.live)) (put_most-later players)
+put_most-later (player ∷ players) = rw (or-true (not player.live)) (put_most-later players)
 
 -- Where only one could act and had nothing to answer, so it is on a later street.
 only_one-later : (players : List OnStreet) → is_only_one_to_act players ≡ true → is_only_one_to_act (map at_next_street players) ≡ true
@@ -83,7 +79,7 @@ only_one-later players only =
         let first = find-map can_act at_next_street players in
         rw (acting-later players, one, first, same) (put_most-later players)
 
--- Where nobody is due on a street though no live player has acted, nobody may be due on a later one.
+-- A player who may not be due on a street, and who if he is live has not acted, may not be due on a later one.
 may-later : (live all_in acted less later : Bool) → not (live && acted) ≡ true → ((live && not all_in) && (not acted || less)) ≡ false
     → ((live && not all_in) && (true || later)) ≡ false
 may-later true true acted less later fresh cannot = refl
@@ -91,10 +87,12 @@ may-later true false true less later fresh cannot = cc
 may-later true false false less later fresh cannot = cc
 may-later false all_in acted less later fresh cannot = refl
 
+-- Nobody is found where neither the first is nor one of the others.
 none-first : {X : Type 0} (wants : Bool) (x : X) (left : Option X) → cond wants (Some x) left ≡ None → (wants ≡ false) × (left ≡ None)
 none-first true x left none = cc
 none-first false x left none = (refl, none)
 
+-- Where nobody may be due on a street and no live player has acted, nobody may be due on a later one.
 nobody-later : (players : List OnStreet) (level : ℕ) → none_acted players ≡ true → find (may_be_due level) players ≡ None → find (may_be_due 0) (map at_next_street players) ≡ None
 nobody-later [] level fresh none = refl
 nobody-later (player ∷ players) level fresh none =
@@ -103,11 +101,12 @@ nobody-later (player ∷ players) level fresh none =
     let cannot : may_be_due 0 (at_next_street player) ≡ false = may-later player.live (player.behind == 0) player.acted (nat_lt player.put level) (nat_lt 0 0) parts.0 first.0 in
     rw cannot (nobody-later players level parts.1 first.1)
 
--- Where nobody is due on a street and no live player has acted, nobody is due on a later one.
+-- Nobody is found where no seat is.
 none-due : (found : Option OnStreet) → is_none (option_map (λ player. player.seat) found) ≡ true → found ≡ None
 none-due None none = refl
 none-due (Some player) none = absurd cc
 
+-- Where nobody is due because one alone is live or could act, so it is on a later street.
 later-closed : (players : List OnStreet) → is_closed players ≡ true → is_closed (map at_next_street players) ≡ true
 later-closed players closed = by_one (is_one_live players) refl closed
   where
@@ -117,6 +116,7 @@ later-closed players closed = by_one (is_one_live players) refl closed
         let only : is_only_one_to_act players ≡ true = rw same at shut in
         rw (one_live-later players, same) (only_one-later players only)
 
+-- Nobody is due where the street is closed, or where nobody may be due.
 closed-none : (players : List OnStreet) (after level : ℕ) → is_closed players ≡ true → is_none (due_seat players after level) ≡ true
 closed-none players after level closed = rw closed
 
@@ -127,6 +127,7 @@ open-none players after level nobody = by_closed (is_closed players) refl
     by_closed true same = rw same
     by_closed false same = rw (same, find-clockwise_none (may_be_due level) (λ (player : OnStreet). player.seat) players after nobody)
 
+-- Where nobody is due on a street and no live player has acted, nobody is due on a later one.
 pub nobody_due-later : (players : List OnStreet) (after level button : ℕ) → none_acted players ≡ true → is_none (due_seat players after level) ≡ true
     → is_none (due_seat (map at_next_street players) button 0) ≡ true
 nobody_due-later players after level button fresh none = by_closed (is_closed players) refl

@@ -3,3 +3,4 @@ pub mod Folds
 pub mod Chips
 pub mod Later
 pub mod Refusals
+pub mod DueNames

@@ -1,6 +1,6 @@
 -- Why an act is refused.
 use Rattle.std.proofs.Common.{◌≡◌, ◌∙◌, ℕ, List, [], ◌∷◌, Bool, true, false, cond, Some, None, Ok, Err, refl, ap, sym, subst}
-use Rattle.std.specs.Prelude.{not, ◌||◌, Option, Result, IfErr, IsErr, is_some, option_map, find}
+use Rattle.std.specs.Prelude.{◌||◌, Option, Result, IfErr, IsErr, is_some, option_map, find}
 use Rattle.std.specs.Result.{IsErrAnd}
 use Rattle.std.specs.List.{list_any}
 use Rattle.std.specs.Str.{bytes_eq}
@@ -9,7 +9,6 @@ use Rattle.floor_text.specs.declared.refusal.Refusal.TheVariants.{NotDealt}
 use Rattle.table_engine.specs.declared.record.ActFault.{ActFault}
 use Rattle.table_engine.specs.declared.record.ActFault.TheVariants.{NoMemory}
 use Rattle.table_engine.specs.declared.start.HandStart.{HandStart}
-use Rattle.table_engine.specs.declared.start.StartSeat.{StartSeat}
 use Rattle.table_engine.specs.Hands.{HandTerms, seat_of_name}
 use Rattle.table_engine.specs.Acts.{is_dealt, refusal_of_act, refusal_of_turn, IsActFault}
 
@@ -19,7 +18,7 @@ any-found_step : {X Y : Type 0} (f : X → Y) (x : X) (passes more : Bool) (left
 any-found_step f x true more left same = refl
 any-found_step f x false more left same = same
 
-any-found : {X Y : Type 0} (test : X → Bool) (f : X → Y) (xs : List X) → list_any test xs ≡ is_some (option_map f (find test xs))
+pub any-found : {X Y : Type 0} (test : X → Bool) (f : X → Y) (xs : List X) → list_any test xs ≡ is_some (option_map f (find test xs))
 any-found test f [] = refl
 any-found test f (x ∷ xs) = any-found_step f x (test x) (list_any test xs) (find test xs) (any-found test f xs)
 

@@ -10,7 +10,6 @@ use Rattle.betting_round.specs.declared.act.Act.TheVariants.{Fold}
 use Rattle.betting_round.specs.declared.act.Done.{Done}
 use Rattle.betting_round.specs.declared.act.Done.TheVariants.{Folded}
 use Rattle.table_engine.specs.declared.start.HandStart.{HandStart}
-use Rattle.table_engine.specs.declared.record.ActOf.{ActOf}
 use Rattle.table_engine.specs.declared.record.ActFault.{ActFault}
 use Rattle.table_engine.specs.declared.record.ActFault.TheVariants as faults
 use Rattle.table_engine.specs.Hands.{HandTerms, due_name}

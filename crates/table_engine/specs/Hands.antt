@@ -1,5 +1,5 @@
 -- A hand is its start and its acts. What each player has put in, and who is due. The Poker TDA Rules and Robert's Rules of Poker.
-use Rattle.std.specs.Prelude.{ℕ, ◌-◌, min, Bool, true, false, not, ◌==◌, ◌&&◌, List, [], length, map, find, slice_get, Option, Some, None, is_none, option_map, option_and_then, if◌then◌else◌}
+use Rattle.std.specs.Prelude.{ℕ, ◌-◌, min, Bool, true, false, not, ◌==◌, ◌&&◌, List, length, map, find, slice_get, Option, is_none, option_map, option_and_then, if◌then◌else◌}
 use Rattle.std.specs.List.{list_any, zip}
 use Rattle.std.specs.Option.{option_map_or}
 use Rattle.std.specs.Str.{bytes_eq}

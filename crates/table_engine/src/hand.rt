@@ -6,7 +6,7 @@ ghost use Rattle.table_engine.specs.Hands.{on_street, players_on_street, due_in_
 ghost use Rattle.table_engine.specs.Acts.{refusal_of_act, refusal_of_turn, done_by, hand_after, IsActFault};
 ghost use Rattle.table_engine.specs.Results.{is_won_by_folds, stacks_after_hand, starting_stacks};
 
-use crate::players::{all_seated, fold, level, name_in_seat, pay, pot_of, seat_of_name};
+use crate::players::{all_seated, fold, pay, pot_of};
 use crate::record::{ActFault, ActOf, HandRecord};
 use crate::start::HandStart;
 use betting_round::{Act, Done, OnStreet, due_seat, is_one_live};
@@ -74,15 +74,16 @@ impl Hand {
     fn due_seat(&self) -> Option<u8>
         ensures { result ≡ due_in_hand self.now }
     {
-        due_seat(&self.players, self.after, level(&self.start))
+        due_seat(&self.players, self.after, self.start.level())
     }
 
     /// The name of the player who is due. `None` exactly where nobody is.
     pub fn due(&self) -> Option<Name>
-        ensures { result ≡ due_name self.now }
+        ensures name { result ≡ due_name self.now }
+        ensures nobody { is_none result ≡ is_none (due_in_hand self.now) }
     {
         let seat = self.due_seat()?;
-        name_in_seat(&self.start, seat)
+        self.start.name_in_seat(seat)
     }
 
     /// Whether the hand is over: nobody is due on the street and on no later one.
@@ -123,7 +124,7 @@ impl Hand {
         ensures fault { IfErr result (IsActFault (refusal_of_act self.old name)) }
         ensures kept { OnErr result (self.new ≡ self.old) }
     {
-        let Some(seat) = seat_of_name(&self.start, name) else {
+        let Some(seat) = self.start.seat_of_name(name) else {
             return Err(ActFault::No(Refusal::NotDealt));
         };
         if let Some(refusal) = self.turn_refusal(name) {
@@ -166,6 +167,7 @@ impl Hand {
     pub fn void(self) -> HandStart
         ensures { result ≡ self.start }
     {
-        self.start
+        let Hand { start, .. } = self;
+        start
     }
 }

@@ -1,8 +1,8 @@
 //! One hand: its start and its acts, and what they come to.
 //!
-//! It stands on floor_text, card_set, button_blinds and betting_round. A `Hand` is made of a `HandStart`, takes
-//! acts from the players who are due, and ends by `finish`, with the stacks after it, or by `void`, which gives its
-//! start back. So far folding is the only act. `chips_of_a_hand` is a law of every hand at each moment.
+//! It stands on floor_text, card_set, rulebook, button_blinds and betting_round. A `Hand` is made of a `HandStart`,
+//! takes acts from the players who are due, and ends by `finish`, with the stacks after it, or by `void`, which gives
+//! its start back. So far folding is the only act. `chips_of_a_hand` is a law of every hand at each moment.
 #![tactic(auto)]
 
 mod hand;

@@ -1,7 +1,7 @@
-//! The players of a hand: what they post, who they are, and what an act and the end do to them.
+//! The players of a street: what they post, and what a fold and the end of the hand do to them.
 
 ghost use Rattle.std.specs.Prelude.{◌≡◌, ◌+◌, ◌<◌, ◌≤◌, ◌^◌, [], if◌then◌else◌, map, sum_by, length, IfOk};
-ghost use Rattle.table_engine.specs.Hands.{posted, on_street, level, seat_of_name, name_in_seat, folded, folded_player};
+ghost use Rattle.table_engine.specs.Hands.{posted, on_street, folded, folded_player};
 ghost use Rattle.table_engine.specs.Results.{stack_after};
 
 use crate::start::{HandStart, StartSeat};
@@ -47,37 +47,6 @@ pub(crate) fn all_seated(alloc: Global, start: &HandStart) -> Result<Vec<OnStree
         .iter()
         .map(|player| seated(start, player))
         .collect(alloc)
-}
-
-/// The level before the flop, in chips: the big blind, even where it was posted short.
-pub(crate) fn level(start: &HandStart) -> u64
-    ensures { result ≡ level start.now }
-{
-    start.big
-}
-
-/// The seat of the player of this name.
-pub(crate) fn seat_of_name(start: &HandStart, name: Name) -> Option<u8>
-    ensures { result ≡ seat_of_name start.now name }
-{
-    start
-        .seats
-        .items()
-        .iter()
-        .find(|player| player.name == name)
-        .map(|player| player.seat)
-}
-
-/// The name of the player in this seat.
-pub(crate) fn name_in_seat(start: &HandStart, seat: u8) -> Option<Name>
-    ensures { result ≡ name_in_seat start.now seat }
-{
-    start
-        .seats
-        .items()
-        .iter()
-        .find(|player| player.seat == seat)
-        .map(|player| player.name)
 }
 
 /// All that the players have put in, in chips.

@@ -1,5 +1,8 @@
 //! How a hand starts.
 
+ghost use Rattle.std.specs.Prelude.{◌≡◌};
+ghost use Rattle.table_engine.specs.Hands.{level, seat_of_name, name_in_seat};
+
 use button_blinds::Marks;
 use card_set::{Deck, Game};
 use floor_text::{List, Name};
@@ -40,4 +43,33 @@ pub struct HandStart {
     pub game: Game,
     /// The deck from which the cards are dealt.
     pub deck: Deck,
+}
+
+impl HandStart {
+    /// The level before the flop, in chips: the big blind, even where it was posted short.
+    pub(crate) fn level(&self) -> u64
+        ensures { result ≡ level self.now }
+    {
+        self.big
+    }
+
+    /// The seat of the player of this name.
+    pub(crate) fn seat_of_name(&self, name: Name) -> Option<u8>
+        ensures { result ≡ seat_of_name self.now name }
+    {
+        let mut seats = self.seats.items().iter();
+        seats
+            .find(|player| player.name == name)
+            .map(|player| player.seat)
+    }
+
+    /// The name of the player in this seat.
+    pub(crate) fn name_in_seat(&self, seat: u8) -> Option<Name>
+        ensures { result ≡ name_in_seat self.now seat }
+    {
+        let mut seats = self.seats.items().iter();
+        seats
+            .find(|player| player.seat == seat)
+            .map(|player| player.name)
+    }
 }

@@ -9,12 +9,14 @@ use std::alloc::{AllocError, Global};
 use std::test::Fail;
 
 /// A player who is dealt in.
-fn player(seat: u8, name: Name, stack: u64) -> StartSeat {
+fn player(seat: u8, name: Name, stack: u32) -> StartSeat
+    ensures { result.stack < 2 ^ 32 }
+{
     StartSeat {
         seat,
         player: 0,
         name,
-        stack,
+        stack: u64::from(stack),
     }
 }
 
@@ -41,9 +43,9 @@ fn three(alloc: Global, names: [Name; 3], stacks: [u32; 3]) -> Result<HandStart,
     ensures { IfOk result (λ start. sum_by (λ player. player.stack) start.seats < 2 ^ 53) }
 {
     let mut seats = List::new(alloc);
-    seats.push(player(1, names[0], stacks[0].into()))?;
-    seats.push(player(4, names[1], stacks[1].into()))?;
-    seats.push(player(6, names[2], stacks[2].into()))?;
+    seats.push(player(1, names[0], stacks[0]))?;
+    seats.push(player(4, names[1], stacks[1]))?;
+    seats.push(player(6, names[2], stacks[2]))?;
     let marks = Marks {
         button: 1,
         small: 4,
@@ -57,8 +59,8 @@ fn two(alloc: Global, names: [Name; 2], stacks: [u32; 2]) -> Result<HandStart, A
     ensures { IfOk result (λ start. sum_by (λ player. player.stack) start.seats < 2 ^ 53) }
 {
     let mut seats = List::new(alloc);
-    seats.push(player(1, names[0], stacks[0].into()))?;
-    seats.push(player(4, names[1], stacks[1].into()))?;
+    seats.push(player(1, names[0], stacks[0]))?;
+    seats.push(player(4, names[1], stacks[1]))?;
     let marks = Marks {
         button: 1,
         small: 1,

@@ -1,5 +1,4 @@
-use Rattle.std.proofs.Common.{◌≡◌, ◌<◌, ◌∙◌, length, arith}
-use Rattle.std.proofs.lemmas.List.Sums.{get_or-le-sum_by}
+use Rattle.std.proofs.Common.{◌∙◌, arith}
 use Rattle.table_engine.specs.Results.{stack_after}
 use Rattle.table_engine.proofs.Rewrites.{rewritten-more, rewritten-all}
 use Rattle.table_engine.proofs.players.pay.Goals as goal

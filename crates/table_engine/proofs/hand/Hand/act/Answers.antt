@@ -1,4 +1,4 @@
-use Rattle.std.proofs.Common.{◌≡◌, ◌∙◌, length, false, sym, arith}
+use Rattle.std.proofs.Common.{◌∙◌, false, sym, arith}
 use Rattle.table_engine.specs.contracts.hand.Hand.{the_view}
 use Rattle.table_engine.proofs.Folds.{folded-by_act, search_after-act}
 use Rattle.table_engine.proofs.Refusals.{refused-without_seat, refused-by_turn, fault-of_memory}

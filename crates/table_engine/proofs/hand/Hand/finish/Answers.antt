@@ -1,4 +1,4 @@
-use Rattle.std.proofs.Common.{◌≡◌, ◌∙◌, length, sum, sym, ap, arith}
+use Rattle.std.proofs.Common.{◌∙◌, sum, ap, arith}
 use Rattle.table_engine.specs.contracts.hand.Hand.{the_view}
 use Rattle.table_engine.proofs.Chips.{street-chips, street-stacks, chips-after}
 use Rattle.table_engine.proofs.Rewrites.{written-back}

@@ -1,4 +1,4 @@
-use Rattle.std.proofs.Common.{◌≡◌, ◌∙◌, ap}
+use Rattle.std.proofs.Common.{◌∙◌, ap}
 use Rattle.std.specs.Prelude.{is_none}
 use Rattle.table_engine.proofs.Later.{none-by_some, over-by_street}
 use Rattle.table_engine.proofs.hand.Hand.is_over.Goals as goal
