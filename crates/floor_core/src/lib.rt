@@ -5,8 +5,10 @@
 //! definition says; `Tournament::report` reports it. `chips_are_kept` is a law of the step over any list of events.
 #![tactic(auto)]
 
+mod acting;
 mod beginning;
 mod checks;
+mod ending;
 mod entering;
 mod laws;
 mod planning;
