@@ -1,5 +1,5 @@
 -- The state once a player has acted, once a hand is settled, and once all are void.
-use Rattle.std.proofs.Common.{◌≡◌, ◌∙◌, ◌+◌, ◌<◌, ℕ, List, length, map, set, get_or, ◌≤◌, refl, sym, ap, false, arith}
+use Rattle.std.proofs.Common.{◌≡◌, ◌∙◌, ◌+◌, ◌<◌, ℕ, List, length, map, set, get_or, ◌≤◌, refl, sym, ap, true, false, arith}
 use Rattle.std.specs.Prelude.{count_by, Option, Some, None, option_map}
 use Rattle.std.specs.Option.{option_map_or}
 use Rattle.std.proofs.lemmas.List.{set-get_or, length-map}
@@ -12,7 +12,7 @@ use Rattle.floor_events.specs.declared.event.Event.TheVariants as events
 use Rattle.floor_core.specs.declared.seated.Seated.{Seated}
 use Rattle.floor_core.specs.declared.table.Table.{Table}
 use Rattle.floor_core.specs.State.{State, marks_at, hand_at, set_table, plays_at, put_back}
-use Rattle.floor_core.specs.Step.{effect, refusal_at, is_over_at, is_won_at, without_hand}
+use Rattle.floor_core.specs.Step.{effect, refusal_at, is_over_at, is_won_at, void_hands, without_hand}
 use Rattle.table_engine.specs.declared.start.StartSeat.{StartSeat}
 use Rattle.floor_core.specs.Valid.{IsKept}
 use Rattle.floor_core.proofs.Kept.{dealt_of}
@@ -70,3 +70,8 @@ put_room state table hand players keeps playing stacks =
     let seats = length-map hand.start.seats (λ player. behind hand.start hand.acts player + award hand player) in
     let same = length-map players (λ (player : StartSeat). player.stack) in
     omega (arith, dealt, paid, seats, same)
+
+-- all hands are void
+pub stopped_state : (state : State) (seats : List Seated) (tables : List Table) → seats ≡ void_hands 1 state.tables state.seats → tables ≡ map without_hand state.tables
+    → record state { seats = seats; tables = tables; stopped = true } ≡ effect state events.Stop
+stopped_state state seats tables players voided = rw (players, voided) refl

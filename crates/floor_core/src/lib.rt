@@ -20,3 +20,6 @@ mod tournament;
 pub use laws::chips_are_kept;
 pub use seated::Seated;
 pub use tournament::Tournament;
+
+#[cfg(test)]
+mod tests;

@@ -1,11 +1,15 @@
 //! A tournament, event by event.
 
-ghost use Rattle.std.specs.Prelude.{◌≡◌, IfOk};
+ghost use Rattle.std.specs.Prelude.{◌≡◌, ◌+◌, ◌<◌, ◌^◌, sum_by, IfOk, OnOk, OnErr};
+ghost use Rattle.floor_events.specs.declared.answer.Answer.TheVariants as answers;
 ghost use Rattle.floor_core.specs.State.{first_state};
+ghost use Rattle.floor_core.specs.Step.{answer_to, state_after};
+ghost use Rattle.floor_core.specs.Report.{report_of, play_at};
 
-use crate::seated::Seated;
-use crate::table::Table;
-use floor_text::Name;
+use crate::seated::{Seated, all_reported, rest_of};
+use crate::table::{Table, play_of};
+use floor_events::{Answer, Event, Report};
+use floor_text::{List, Name};
 use level_plan::{Plan, PlanDraft};
 use std::alloc::{AllocError, Global};
 use std::marker::Model;
@@ -51,6 +55,42 @@ impl Tournament {
             level: 0,
             begun: 0,
             stopped: false,
+        })
+    }
+
+    /// Answers an event by the first check that holds, and carries it out where none does. A refused event and
+    /// want of memory change nothing, and memory is wanted only for an event that meets no check.
+    pub fn apply(&mut self, event: &Event) -> Result<Answer, AllocError>
+        ensures answer { IfOk result (λ answer. answer ≡ answer_to self.old event.now) }
+        ensures state { OnOk result (self.new ≡ state_after self.old event.now) }
+        ensures err { OnErr result (self.new ≡ self.old) }
+        ensures lawful { OnErr result (answer_to self.old event.now ≡ answers.Ok) }
+    {
+        match event {
+            Event::Plan(line) => self.plan_line(line),
+            Event::Go => self.go(),
+            Event::Enter { name, table, seat } => self.enter(*name, *table, *seat),
+            Event::Begin { table, row } => self.begin(*table, row),
+            Event::Act { table, name, act } => self.act(*table, *name, *act),
+            Event::Settle { table } => Ok(self.settle(*table)),
+            Event::Stop => Ok(self.stop()),
+        }
+    }
+
+    /// The report of the tournament as it stands.
+    pub fn report(&self) -> Result<Report, AllocError>
+        ensures { IfOk result (λ report. report ≡ report_of self.now) }
+    {
+        let stack = self.plan.as_ref().map_or(0, |plan| plan.stack);
+        Ok(Report {
+            level: self.level,
+            sold: self.entries.len() as u64 * stack,
+            removed: 0,
+            added: 0,
+            rest: rest_of(&self.seats),
+            play: play_of(&self.tables),
+            seats: all_reported(self.alloc, &self.seats)?,
+            outs: List::new(self.alloc),
         })
     }
 }
