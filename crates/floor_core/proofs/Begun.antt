@@ -1,6 +1,6 @@
 -- The state once a hand has begun.
-use Rattle.std.proofs.Common.{◌≡◌, ◌+◌, ◌-◌, ◌≤◌, ℕ, List, [], refl, sym, ap, arith}
-use Rattle.std.specs.Prelude.{slice_set, Option, Some}
+use Rattle.std.proofs.Common.{◌≡◌, ◌-◌, ◌≤◌, ℕ, List, [], refl, sym, arith}
+use Rattle.std.specs.Prelude.{slice_set, Some}
 use Rattle.card_set.specs.declared.card.CardRow.{CardRow}
 use Rattle.button_blinds.specs.declared.marks.NextMarks.{NextMarks}
 use Rattle.table_engine.specs.declared.start.HandStart.{HandStart}

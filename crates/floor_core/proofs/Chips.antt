@@ -1,8 +1,7 @@
 -- The chips of a tournament are far from the end of their type.
-use Rattle.std.proofs.Common.{◌≡◌, ℕ, ◌+◌, ◌*◌, ◌<◌, ◌≤◌, ◌^◌, Bool, true, false, ◌&&◌, List, map, length, sum, refl, arith}
-use Rattle.std.specs.Prelude.{nat_le, sum_by, Option, Some, None}
+use Rattle.std.proofs.Common.{◌≡◌, ℕ, ◌*◌, ◌<◌, ◌≤◌, ◌^◌, Bool, true, false, ◌&&◌, List, length, refl, arith}
+use Rattle.std.specs.Prelude.{sum_by, Option, Some, None}
 use Rattle.std.specs.Option.{option_map_or}
-use Rattle.std.proofs.lemmas.Bool.{and_parts}
 use Rattle.std.proofs.lemmas.Bool.Decides.{nat_tests}
 use Rattle.std.proofs.lemmas.List.Sums.{sum-map}
 use Rattle.level_plan.specs.Items.{is_between, greatest_amount}
@@ -11,7 +10,7 @@ use Rattle.table_engine.specs.declared.start.StartSeat.{StartSeat}
 use Rattle.floor_core.specs.State.{State}
 use Rattle.floor_core.specs.Step.{starting_stack}
 use Rattle.floor_core.specs.Dealing.{dealt_seats}
-use Rattle.floor_core.specs.Report.{sold, rest, play}
+use Rattle.floor_core.specs.Report.{sold}
 use Rattle.floor_core.specs.Valid.{IsValid}
 use Rattle.floor_core.proofs.Players.{rest_dealt}
 

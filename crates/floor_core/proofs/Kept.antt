@@ -1,6 +1,6 @@
 -- Chips are neither made nor lost, by any event.
-use Rattle.std.proofs.Common.{◌≡◌, ◌∙◌, refl, sym, ap, subst, ℕ, zero, suc, ◌+◌, ◌≤◌, Bool, true, false, cond, ◌==◌, ◌&&◌, List, [], ◌∷◌, ◌++◌, map, length, sum, inl, inr, arith, length-append}
-use Rattle.std.specs.Prelude.{not, nat_lt, count_by, sum_by, insert, replicate, Option, Some, None, is_some, IsSome, option_map, take, drop, slice_get}
+use Rattle.std.proofs.Common.{◌≡◌, ◌∙◌, refl, sym, ap, subst, ℕ, zero, suc, ◌+◌, ◌≤◌, Bool, true, false, cond, ◌==◌, ◌&&◌, List, [], ◌∷◌, ◌++◌, length, sum, inl, inr, arith, length-append}
+use Rattle.std.specs.Prelude.{not, count_by, sum_by, insert, replicate, Option, Some, None, is_some, option_map, take, drop, slice_get}
 use Rattle.std.specs.List.{list_all}
 use Rattle.std.specs.Option.{option_map_or, option_and_then}
 use Rattle.std.proofs.lemmas.Bool.{and_parts, cases_Bool}
@@ -9,8 +9,7 @@ use Rattle.std.proofs.lemmas.List.{length-map, length-replicate, take-append-dro
 use Rattle.std.proofs.lemmas.List.Folds.{sum_by-replicate}
 use Rattle.std.proofs.lemmas.Option.{same_Some}
 use Rattle.table_engine.proofs.Chips.{chips-after}
-use Rattle.table_engine.specs.declared.start.StartSeat.{StartSeat}
-use Rattle.std.proofs.lemmas.List.Sums.{sum_by-insert, sum_by-append, sum_by-cons}
+use Rattle.std.proofs.lemmas.List.Sums.{sum_by-insert}
 use Rattle.std.proofs.lemmas.List.Folds.{list_all-append}
 use Rattle.card_set.specs.declared.card.CardRow.{CardRow}
 use Rattle.level_plan.specs.Items.{is_between}
@@ -21,15 +20,15 @@ use Rattle.button_blinds.specs.declared.marks.Marks.{Marks}
 use Rattle.table_engine.specs.Hands.{HandTerms}
 use Rattle.table_engine.specs.Acts.{hand_after}
 use Rattle.table_engine.specs.Results.{is_won_by_folds, stacks_after_hand, starting_stacks}
-use Rattle.floor_text.specs.declared.refusal.Refusal.TheVariants.{PlanLate, NoPlan, Stopped, NameUnknown, NoTable, Playing, Lone, NotPlaying, NotOver, NotBuilt}
+use Rattle.floor_text.specs.declared.refusal.Refusal.TheVariants.{PlanLate, NoPlan, Stopped, NameUnknown, NoTable, Playing, NotPlaying, NotOver, NotBuilt}
 use Rattle.floor_events.specs.declared.answer.Answer.TheVariants.{No}
 use Rattle.floor_events.specs.declared.event.Event.{Event}
 use Rattle.floor_events.specs.declared.event.Event.TheVariants.{Plan, Go, Enter, Begin, Act as Acts, Settle, Stop}
 use Rattle.floor_core.specs.declared.seated.Seated.{Seated}
 use Rattle.floor_core.specs.declared.table.Table.{Table}
-use Rattle.floor_core.specs.State.{State, is_known, first_state, sit_down, marks_at, hand_at, set_table, plays_at, put_back}
-use Rattle.floor_core.specs.Dealing.{next_at, next_start, dealt_seats, dealt_in}
-use Rattle.floor_core.specs.Step.{Check, checks, first_that_holds, is_accepted, answer_to, effect, state_after, is_planned, has_table, is_open, is_playing, is_over_at, is_won_at, go_check, newcomer, fresh_table, without_hand, void_hands}
+use Rattle.floor_core.specs.State.{State, is_known, first_state, marks_at, hand_at, set_table, plays_at, put_back}
+use Rattle.floor_core.specs.Dealing.{next_at, next_start, dealt_in}
+use Rattle.floor_core.specs.Step.{Check, checks, is_accepted, answer_to, effect, state_after, is_planned, has_table, is_open, is_playing, is_over_at, is_won_at, go_check, newcomer, fresh_table, without_hand}
 use Rattle.floor_core.specs.Places.{comes_before}
 use Rattle.floor_core.specs.Run.{run}
 use Rattle.floor_core.specs.Report.{sold, rest, play, play_at}
@@ -70,12 +69,12 @@ dealt_set : (before : ℕ → ℕ) (after : ℕ → ℕ) (tables : List Table) (
     → ((number : ℕ) → before number ≡ dealt_count tables number) → after table ≡ dealt_of hand → ((number : ℕ) → (table == number) ≡ false → after number ≡ before number)
     → (number : ℕ) → after number ≡ dealt_count (set_table tables table marks hand) number
 dealt_set before after tables table marks hand first last counts here elsewhere number = elim (cases_Bool (table == number)) [
-    | inl same ↦
-        subst (λ (n : ℕ). after n ≡ dealt_count (set_table tables table marks hand) n) (same_number table number same)
-        (here ∙ sym (ap dealt_of (hand_set_here tables table marks hand first last)))
-    | inr other ↦
-        elsewhere number other ∙ (counts number ∙ sym (ap dealt_of (hand_set_other tables table number marks hand other)))
-  ]
+  | inl same ↦
+      subst (λ (n : ℕ). after n ≡ dealt_count (set_table tables table marks hand) n) (same_number table number same)
+      (here ∙ sym (ap dealt_of (hand_set_here tables table marks hand first last)))
+  | inr other ↦
+      elsewhere number other ∙ (counts number ∙ sym (ap dealt_of (hand_set_other tables table number marks hand other)))
+]
 
 no_hand_in_fresh : (count below : ℕ) → option_and_then (λ table. table.hand) (slice_get (replicate count fresh_table) below) ≡ None
 no_hand_in_fresh zero below = refl
@@ -143,9 +142,9 @@ begin_keeps state table row keeps planned there free =
       whole = λ plan is. length_set state.tables table marks (Some hand) ∙ keeps.whole plan is;
       closed = λ none. absurd (still_closed state.plan planned none);
       dealt = dealt_set (λ number. count_by (plays_at number) state.seats) (λ number. count_by (plays_at number) (dealt_in table waiting state.seats)) state.tables table marks (Some hand) range.0 range.1
-        keeps.dealt
-        (count_dealt_here table waiting state.seats nobody)
-        (λ number other. count_dealt_other table number waiting state.seats other);
+          keeps.dealt
+          (count_dealt_here table waiting state.seats nobody)
+          (λ number other. count_dealt_other table number waiting state.seats other);
       lent = lent_dealt table waiting state.seats keeps.lent;
       kept =
           let gone = rest_dealt table waiting state.seats in
@@ -173,9 +172,9 @@ act_keeps state table name act keeps planned there =
       whole = λ plan is. length_set state.tables table marks hand ∙ keeps.whole plan is;
       closed = λ none. absurd (still_closed state.plan planned none);
       dealt = dealt_set (λ number. count_by (plays_at number) state.seats) (λ number. count_by (plays_at number) state.seats) state.tables table marks hand range.0 range.1
-        keeps.dealt
-        (keeps.dealt table ∙ sym (same_dealt (hand_at state.tables table) name act))
-        (λ number other. refl);
+          keeps.dealt
+          (keeps.dealt table ∙ sym (same_dealt (hand_at state.tables table) name act))
+          (λ number other. refl);
       lent = keeps.lent;
       kept =
           let set = play_set state.tables table marks hand range.0 range.1 in
@@ -198,9 +197,9 @@ settle_keeps state table hand keeps planned there playing won =
       whole = λ plan is. length_set state.tables table marks None ∙ keeps.whole plan is;
       closed = λ none. absurd (still_closed state.plan planned none);
       dealt = rw after (dealt_set (λ number. count_by (plays_at number) state.seats) (λ number. count_by (plays_at number) (put_back table stacks state.seats)) state.tables table marks None range.0 range.1
-        keeps.dealt
-        (count_put_here table stacks state.seats)
-        (λ number other. count_put_other table number stacks state.seats other));
+          keeps.dealt
+          (count_put_here table stacks state.seats)
+          (λ number other. count_put_other table number stacks state.seats other));
       lent = rw after (lent_put table stacks state.seats keeps.lent);
       kept =
           let set = play_set state.tables table marks None range.0 range.1 in

@@ -1,6 +1,6 @@
 -- What an accepted event tells of its checks.
-use Rattle.std.proofs.Common.{◌≡◌, refl, Bool, true, false, cond, List, ◌∷◌}
-use Rattle.std.specs.Prelude.{not, Option, Some, None, is_some, IsSome}
+use Rattle.std.proofs.Common.{◌≡◌, refl, Bool, true, false, List, ◌∷◌}
+use Rattle.std.specs.Prelude.{not, Option, Some, None, is_some}
 use Rattle.floor_events.specs.declared.answer.Answer.{Answer}
 use Rattle.floor_core.specs.Step.{Check, first_that_holds, is_accepted}
 

@@ -7,7 +7,6 @@ use Rattle.betting_round.specs.declared.act.Act.{Act}
 use Rattle.table_engine.specs.Hands.{HandTerms, is_over, behind}
 use Rattle.table_engine.specs.Acts.{refusal_of_act, hand_after}
 use Rattle.table_engine.specs.Results.{is_won_by_folds, award, stacks_after_hand}
-use Rattle.floor_text.specs.declared.refusal.Refusal.{Refusal}
 use Rattle.floor_events.specs.declared.event.Event.TheVariants as events
 use Rattle.floor_core.specs.declared.seated.Seated.{Seated}
 use Rattle.floor_core.specs.declared.table.Table.{Table}

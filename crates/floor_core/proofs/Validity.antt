@@ -1,9 +1,9 @@
 -- A tournament is still valid after each event.
-use Rattle.std.proofs.Common.{◌≡◌, ◌∙◌, refl, sym, ap, subst, ℕ, zero, suc, ◌+◌, ◌<◌, ◌≤◌, Bool, true, false, cond, ◌&&◌, ◌==◌, List, [], ◌∷◌, map, length, inl, inr, arith, length-append}
+use Rattle.std.proofs.Common.{◌≡◌, ◌∙◌, refl, sym, ap, subst, ℕ, zero, suc, ◌<◌, ◌≤◌, Bool, true, false, cond, ◌&&◌, ◌==◌, List, [], length, inl, inr, arith, length-append}
 use Rattle.std.specs.Prelude.{not, nat_le, Option, Some, None, count_by, option_map, replicate, slice_get}
 use Rattle.std.specs.List.{list_all}
 use Rattle.std.specs.Option.{option_map_or, option_and_then, ForSome}
-use Rattle.std.proofs.lemmas.Bool.{and_parts, cases_Bool}
+use Rattle.std.proofs.lemmas.Bool.{cases_Bool}
 use Rattle.std.proofs.lemmas.Bool.Decides.{nat_tests}
 use Rattle.std.proofs.lemmas.Option.{same_Some}
 use Rattle.card_set.specs.declared.card.CardRow.{CardRow}
@@ -20,7 +20,6 @@ use Rattle.floor_text.specs.declared.refusal.Refusal.{Refusal}
 use Rattle.floor_text.specs.declared.refusal.Refusal.TheVariants.{NoTable, NoSeat, SeatTaken}
 use Rattle.floor_events.specs.declared.answer.Answer.{Answer}
 use Rattle.floor_events.specs.declared.answer.Answer.TheVariants.{Ok}
-use Rattle.floor_events.specs.declared.event.Event.{Event}
 use Rattle.floor_events.specs.declared.event.Event.TheVariants as events
 use Rattle.floor_core.specs.Places.{comes_before}
 use Rattle.floor_core.specs.declared.seated.Seated.{Seated}
@@ -29,7 +28,7 @@ use Rattle.floor_core.specs.State.{State, is_taken, marks_at, hand_at, set_table
 use Rattle.floor_core.specs.Dealing.{seats_of_tables, next_at, next_start}
 use Rattle.floor_core.specs.Step.{answer_to, is_accepted, effect, newcomer, may_be_entered, has_seat_number, has_table, is_planned, fresh_table}
 use Rattle.floor_core.specs.Refusals.{refusal_to_enter, place_refusal, first_some, going_refusal, known_refusal, room_refusal}
-use Rattle.floor_core.specs.Valid.{IsValid, IsKept, sits_within}
+use Rattle.floor_core.specs.Valid.{IsValid, sits_within}
 use Rattle.floor_core.proofs.Peels.{none_there}
 use Rattle.floor_core.proofs.Kept.{effect_keeps, list_all_insert, table_range}
 use Rattle.floor_core.proofs.Players.{within_dealt, within_put}
@@ -98,6 +97,7 @@ levels_of_right plan right =
     fifth_of_all true true false e f more all = cc
     fifth_of_all true false d e f more all = cc
     fifth_of_all false b d e f more all = cc
+
     some_level : (late count : ℕ) → is_between 1 count late ≡ true → 1 ≤ count
     some_level late count between = grind (arith, nat_tests)
 
@@ -124,12 +124,12 @@ marked_set : (seats : ℕ) (tables : List Table) (table : ℕ) (marks : Option M
     → ((number : ℕ) → ForSome (marks_at tables number) (AreMarksOf seats)) → ForSome marks (AreMarksOf seats)
     → (number : ℕ) → ForSome (marks_at (set_table tables table marks hand) number) (AreMarksOf seats)
 marked_set seats tables table marks hand first last marked new number = elim (cases_Bool (table == number)) [
-    | inl same ↦
-        subst (λ (n : ℕ). ForSome (marks_at (set_table tables table marks hand) n) (AreMarksOf seats)) (same_number table number same)
-        (subst (λ (found : Option Marks). ForSome found (AreMarksOf seats)) (sym (marks_set_here tables table marks hand first last)) new)
-    | inr other ↦
-        subst (λ (found : Option Marks). ForSome found (AreMarksOf seats)) (sym (marks_set_other tables table number marks hand other)) (marked number)
-  ]
+  | inl same ↦
+      subst (λ (n : ℕ). ForSome (marks_at (set_table tables table marks hand) n) (AreMarksOf seats)) (same_number table number same)
+      (subst (λ (found : Option Marks). ForSome found (AreMarksOf seats)) (sym (marks_set_here tables table marks hand first last)) new)
+  | inr other ↦
+      subst (λ (found : Option Marks). ForSome found (AreMarksOf seats)) (sym (marks_set_other tables table number marks hand other)) (marked number)
+]
 
 -- after a hand began
 pub valid_begun : (state : State) (table : ℕ) (row : CardRow) → IsValid state → answer_to state (events.Begin table row) ≡ Ok → has_table state table ≡ true → AreMarksOf (seats_of_tables state) (next_at state table).marks

@@ -1,5 +1,5 @@
 -- The checks of an event a few at a time, as the code makes them. This project's own.
-use Rattle.std.specs.Prelude.{ℕ, Bool, not, nat_le, ◌==◌, ◌&&◌, List, length, Option, Some, None, is_none, if◌then◌else◌}
+use Rattle.std.specs.Prelude.{ℕ, Bool, not, nat_le, ◌==◌, ◌&&◌, List, length, Option, Some, None, if◌then◌else◌}
 use Rattle.card_set.specs.declared.card.Card.{Card}
 use Rattle.card_set.specs.Decks.{repeats_a_card}
 use Rattle.floor_text.specs.declared.refusal.Refusal.{Refusal}
@@ -9,7 +9,7 @@ use Rattle.floor_events.specs.declared.answer.Answer.TheVariants.{Ok, No}
 use Rattle.level_plan.specs.declared.line.PlanLine.{PlanLine}
 use Rattle.level_plan.specs.Drafts.{is_wrong_line}
 use Rattle.floor_core.specs.State.{State, is_known, is_taken, count_at}
-use Rattle.floor_core.specs.Step.{is_planned, has_table, has_seat_number, is_late, is_open, may_be_entered, is_playing, is_tournament_over, refusal_at, is_over_at, is_won_at, is_not_built}
+use Rattle.floor_core.specs.Step.{is_planned, has_table, has_seat_number, is_late, is_open, may_be_entered, is_playing, is_tournament_over, is_over_at, is_won_at, is_not_built}
 
 -- the first refusal, where there is one, else the second
 abbrev pub first_some : Option Refusal → Option Refusal → Option Refusal

@@ -1,5 +1,5 @@
 -- What is reported of a state. This project's own.
-use Rattle.std.specs.Prelude.{ℕ, ◌*◌, Bool, List, [], length, map, sum, sum_by, Option, Some, None, if◌then◌else◌}
+use Rattle.std.specs.Prelude.{ℕ, ◌*◌, [], length, map, sum, sum_by, Some, None, if◌then◌else◌}
 use Rattle.floor_events.specs.declared.report.Report.{Report}
 use Rattle.floor_events.specs.declared.report.ReportSeat.{ReportSeat}
 use Rattle.floor_core.specs.declared.seated.Seated.{Seated}

@@ -1,5 +1,5 @@
 -- The state of a tournament, as plain lists. This project's own.
-use Rattle.std.specs.Prelude.{ℕ, zero, suc, ◌+◌, min, Bool, false, ◌==◌, ◌&&◌, List, [], ◌∷◌, map, filter, drop, unwrap_or, slice_get, slice_set, Option, None, Some, insert, count_by, if◌then◌else◌}
+use Rattle.std.specs.Prelude.{ℕ, zero, suc, ◌+◌, min, Bool, false, ◌==◌, ◌&&◌, List, [], ◌∷◌, map, filter, drop, unwrap_or, slice_get, slice_set, Option, None, insert, count_by, if◌then◌else◌}
 use Rattle.std.specs.List.{list_any}
 use Rattle.std.specs.Option.{option_and_then}
 use Rattle.std.specs.Str.{bytes_eq}

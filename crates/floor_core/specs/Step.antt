@@ -1,5 +1,5 @@
 -- The step: what an event is answered, and what it makes of the state. This project's own.
-use Rattle.std.specs.Prelude.{ℕ, ◌+◌, Bool, true, false, not, ◌==◌, ◌&&◌, ◌||◌, nat_le, nat_lt, List, [], ◌∷◌, ◌++◌, length, map, replicate, Option, Some, None, is_some, is_none, option_map, if◌then◌else◌}
+use Rattle.std.specs.Prelude.{ℕ, ◌+◌, Bool, true, false, not, ◌==◌, ◌&&◌, ◌||◌, nat_le, nat_lt, List, [], ◌∷◌, ◌++◌, length, map, replicate, Option, Some, None, is_some, option_map, if◌then◌else◌}
 use Rattle.std.specs.Option.{option_map_or}
 use Rattle.floor_text.specs.declared.refusal.Refusal.{Refusal}
 use Rattle.floor_text.specs.declared.refusal.Refusal.TheVariants.{NoPlan, PlanLate, Stopped, NameKnown, NameUnknown, NoTable, NoSeat, SeatTaken, LateClosed, Playing, NotPlaying, Lone, DeckWrong, NotOver, Over, ListFull, NotBuilt}
@@ -11,8 +11,7 @@ use Rattle.level_plan.specs.declared.line.PlanLine.TheVariants as lines
 use Rattle.level_plan.specs.Items.{is_between}
 use Rattle.level_plan.specs.Plans.{PlanTerms}
 use Rattle.level_plan.specs.Drafts.{is_wrong_line, item_of_line, draft_after, go_fault, plan_of}
-use Rattle.betting_round.specs.declared.act.Act.{Act}
-use Rattle.table_engine.specs.Hands.{HandTerms, is_over}
+use Rattle.table_engine.specs.Hands.{is_over}
 use Rattle.table_engine.specs.Acts.{refusal_of_act, hand_after}
 use Rattle.table_engine.specs.Results.{is_won_by_folds, stacks_after_hand, starting_stacks}
 use Rattle.floor_events.specs.declared.answer.Answer.{Answer}

@@ -1,14 +1,19 @@
 use super::*;
 use floor_events::{Answer, Event};
 use floor_text::Refusal;
+use level_plan::PlanItem;
 use std::test::Fail;
 
 #[test]
-fn nothing_is_entered_before_the_plan(rt: HostRuntime) -> Result<(), Fail> {
+fn nothing_happens_before_the_plan(rt: HostRuntime) -> Result<(), Fail> {
     let mut tournament = Tournament::new(rt.alloc())?;
-    for event in [Event::Go, Event::Stop] {
+    assert_eq!(rt;
+        tournament.apply(&Event::Go)?,
+        Answer::PlanWrong(PlanItem::Game)
+    );
+    for event in [Event::Settle { table: 1 }, Event::Stop] {
         let answer = tournament.apply(&event)?;
-        assert_eq!(rt; answer, Answer::No(Refusal::NotBuilt));
+        assert_eq!(rt; answer, Answer::No(Refusal::NoPlan));
     }
     let report = tournament.report()?;
     assert_eq!(rt;

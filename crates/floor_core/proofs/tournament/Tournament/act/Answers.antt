@@ -1,4 +1,4 @@
-use Rattle.std.proofs.Common.{◌≡◌, ◌∙◌, ◌<◌, List, length, sym, ap, subst, arith}
+use Rattle.std.proofs.Common.{◌∙◌, ◌<◌, length, sym, ap, subst, arith}
 use Rattle.floor_events.specs.declared.event.Event.TheVariants.{Act}
 use Rattle.floor_core.specs.State.{State}
 use Rattle.floor_core.specs.Step.{state_after}

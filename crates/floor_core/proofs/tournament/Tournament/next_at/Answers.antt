@@ -1,12 +1,9 @@
-use Rattle.std.proofs.Common.{◌≡◌, ◌∙◌, ◌≤◌, ◌<◌, ◌-◌, ◌+◌, ℕ, Some, refl, ap, sym, subst, arith, length}
+use Rattle.std.proofs.Common.{◌≡◌, ◌∙◌, ◌<◌, ◌-◌, ◌+◌, ℕ, refl, ap, sym, subst, arith, length}
 use Rattle.std.specs.Prelude.{Option}
 use Rattle.std.specs.Option.{option_map_or}
 use Rattle.level_plan.specs.Plans.{PlanTerms}
 use Rattle.button_blinds.specs.Marks.{AreMarksOf}
-use Rattle.floor_core.specs.State.{marks_at}
-use Rattle.floor_core.specs.Dealing.{seats_of_tables}
 use Rattle.floor_core.specs.declared.table.Table.{Table}
-use Rattle.floor_core.specs.contracts.tournament.Tournament.{the_view}
 use Rattle.floor_core.proofs.Tables.{marks_there}
 use Rattle.floor_core.proofs.tournament.Tournament.next_at.Goals as goal
 

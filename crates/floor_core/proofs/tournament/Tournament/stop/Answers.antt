@@ -1,4 +1,4 @@
-use Rattle.std.proofs.Common.{◌≡◌, ◌∙◌, sym, ap, subst, arith}
+use Rattle.std.proofs.Common.{◌∙◌, sym, ap, subst, arith}
 use Rattle.table_engine.proofs.Rewrites.{written-back}
 use Rattle.floor_events.specs.declared.event.Event.TheVariants.{Stop}
 use Rattle.floor_core.specs.State.{State}
