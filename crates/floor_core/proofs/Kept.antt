@@ -228,7 +228,7 @@ stop_keeps state keeps planned =
     }
 
 -- all checks but the first
-abbrev others : List Check → List Check
+abbrev pub others : List Check → List Check
 others [] = []
 others (check ∷ checks) = checks
 

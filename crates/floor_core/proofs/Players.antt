@@ -110,7 +110,7 @@ within_dealt seats table waiting (player ∷ players) =
     rw (within_one seats player (is_dealt_in table waiting player), within_dealt seats table waiting players) refl
 
 -- a player with a stack at rest again
-abbrev back : Seated → ℕ → Seated
+abbrev pub back : Seated → ℕ → Seated
 back player stack = record player { stack = stack; in_hand = false }
 
 lent_stack : (h z : Bool) → (not h || z) ≡ true → h ≡ true → z ≡ true
@@ -125,7 +125,7 @@ nothing : (n : ℕ) → (n == 0) ≡ true → n ≡ 0
 nothing n is = grind (arith, nat_tests)
 
 -- the players after this one as he is put back or stays
-abbrev put_next : ℕ → List ℕ → Seated → List Seated → Bool → List Seated
+abbrev pub put_next : ℕ → List ℕ → Seated → List Seated → Bool → List Seated
 put_next table stacks player players b = cond b (back player (unwrap_or (slice_get stacks 0) 0) ∷ put_back table (drop 1 stacks) players) (player ∷ put_back table stacks players)
 
 put_rest-step : (table : ℕ) (stacks : List ℕ) (player : Seated) (players : List Seated) (b : Bool) → plays_at table player ≡ b → count_by (plays_at table) (player ∷ players) ≡ length stacks → list_all is_lent (player ∷ players) ≡ true

@@ -7,3 +7,4 @@ pub mod Run
 pub mod Report
 pub mod Valid
 pub mod Fields
+pub mod Order
