@@ -148,7 +148,7 @@ places_void number [] players = refl
 places_void number (table ∷ tables) players =
     places_void (number + 1) tables (option_map_or (λ hand. put_back number (starting_stacks hand) players) table.hand players) ∙ places_void_one number players table.hand
 
-effect_ordered : (state : State) (event : Event) → are_in_order state.seats ≡ true → is_accepted (answer_to state event) ≡ true → are_in_order (effect state event).seats ≡ true
+pub effect_ordered : (state : State) (event : Event) → are_in_order state.seats ≡ true → is_accepted (answer_to state event) ≡ true → are_in_order (effect state event).seats ≡ true
 unfolding answer_to
 effect_ordered state (events.Plan line) ordered accepted = ordered
 effect_ordered state events.Go ordered accepted = ordered

@@ -31,6 +31,7 @@ use Rattle.floor_core.specs.Refusals.{refusal_to_enter, place_refusal, first_som
 use Rattle.floor_core.specs.Valid.{IsValid, sits_within}
 use Rattle.floor_core.proofs.Peels.{none_there}
 use Rattle.floor_core.proofs.Kept.{effect_keeps, list_all_insert, table_range}
+use Rattle.floor_core.proofs.Ordered.{effect_ordered}
 use Rattle.floor_core.proofs.Players.{within_dealt, within_put}
 use Rattle.floor_core.proofs.Voids.{within_void, same_marks}
 use Rattle.floor_core.proofs.Tables.{marks_set_here, marks_set_other}
@@ -72,6 +73,7 @@ valid_entered state name table seat valid none room = record {
   few = simp length-append (omega arith);
   within = list_all_insert (sits_within (seats_of_tables state)) state.seats (count_by (λ other. comes_before other.place (newcomer state name table seat).place) state.seats) (newcomer state name table seat) valid.within (seat_within state.plan seat (seat_there state name table seat none));
   marked = valid.marked;
+  ordered = effect_ordered state (events.Enter name table seat) valid.ordered (accepted (entry_accepted state name table seat none));
   chips = effect_keeps state (events.Enter name table seat) valid.chips (accepted (entry_accepted state name table seat none));
 }
 
@@ -114,6 +116,7 @@ valid_planned state valid unplanned right lawful =
       few = valid.few;
       within = rw nobody.1 refl;
       marked = λ number. no_marks (plan_of state.draft).seats (plan_of state.draft).tables number;
+      ordered = effect_ordered state events.Go valid.ordered (accepted lawful);
       chips = effect_keeps state events.Go valid.chips (accepted lawful);
     }
 
@@ -142,6 +145,7 @@ valid_begun state table row valid lawful there marks =
       few = valid.few;
       within = within_dealt (seats_of_tables state) table (next_at state table).waiting state.seats ∙ valid.within;
       marked = marked_set (seats_of_tables state) state.tables table (Some (next_at state table).marks) (Some (record { start = next_start state table row.cards; acts = [] })) range.0 range.1 valid.marked (λ found is. subst (λ (marks : Marks). AreMarksOf (seats_of_tables state) marks) (same_Some (next_at state table).marks found is) marks);
+      ordered = effect_ordered state (events.Begin table row) valid.ordered (accepted lawful);
       chips = effect_keeps state (events.Begin table row) valid.chips (accepted lawful);
     }
 
@@ -155,6 +159,7 @@ valid_acted state table name act valid lawful there =
       few = valid.few;
       within = valid.within;
       marked = marked_set (seats_of_tables state) state.tables table (marks_at state.tables table) (option_map (λ hand. hand_after hand name act false) (hand_at state.tables table)) range.0 range.1 valid.marked (valid.marked table);
+      ordered = effect_ordered state (events.Act table name act) valid.ordered (accepted lawful);
       chips = effect_keeps state (events.Act table name act) valid.chips (accepted lawful);
     }
 
@@ -172,6 +177,7 @@ valid_settled state table valid lawful there =
       few = valid.few;
       within = within_settled (seats_of_tables state) table state.seats (hand_at state.tables table) ∙ valid.within;
       marked = marked_set (seats_of_tables state) state.tables table (marks_at state.tables table) None range.0 range.1 valid.marked (valid.marked table);
+      ordered = effect_ordered state (events.Settle table) valid.ordered (accepted lawful);
       chips = effect_keeps state (events.Settle table) valid.chips (accepted lawful);
     }
 
@@ -183,5 +189,6 @@ valid_stopped state valid lawful = record {
   few = valid.few;
   within = within_void (seats_of_tables state) 1 state.tables state.seats ∙ valid.within;
   marked = λ number. subst (λ (found : Option Marks). ForSome found (AreMarksOf (seats_of_tables state))) (sym (same_marks state.tables number)) (valid.marked number);
+  ordered = effect_ordered state events.Stop valid.ordered (accepted lawful);
   chips = effect_keeps state events.Stop valid.chips (accepted lawful);
 }

@@ -5,6 +5,6 @@ pub mod Step
 pub mod Refusals
 pub mod Run
 pub mod Report
+pub mod Order
 pub mod Valid
 pub mod Fields
-pub mod Order

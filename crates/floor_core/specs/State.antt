@@ -5,7 +5,7 @@ use Rattle.std.specs.Option.{option_and_then}
 use Rattle.std.specs.Str.{bytes_eq}
 use Rattle.level_plan.specs.Plans.{PlanTerms}
 use Rattle.level_plan.specs.Drafts.{Draft, empty_draft}
-use Rattle.button_blinds.specs.SeatSets.{no_seats, with_seats, seat_count}
+use Rattle.button_blinds.specs.SeatSets.{no_seats, with_seats}
 use Rattle.button_blinds.specs.declared.marks.Marks.{Marks}
 use Rattle.table_engine.specs.Hands.{HandTerms}
 use Rattle.floor_core.specs.declared.seated.Seated.{Seated}
@@ -50,9 +50,9 @@ is_taken state table seat = list_any (λ player. player.place.table == table && 
 abbrev pub taken_seats : List Seated → ℕ → List Bool
 taken_seats players table = with_seats no_seats (map (λ player. player.place.seat) (filter (sits_at table) players))
 
--- a table's count: how many players sit there, one in each taken seat
+-- a table's count: how many players sit there
 abbrev pub count_at : State → ℕ → ℕ
-count_at state table = seat_count (taken_seats state.seats table)
+count_at state table = count_by (sits_at table) state.seats
 
 -- a player sits down behind those who come before him
 abbrev pub sit_down : Seated → List Seated → List Seated

@@ -9,6 +9,7 @@ use Rattle.floor_core.specs.declared.seated.Seated.{Seated}
 use Rattle.floor_core.specs.declared.table.Table.{Table}
 use Rattle.floor_core.specs.State.{State, marks_at, hand_at, plays_at}
 use Rattle.floor_core.specs.Dealing.{seats_of_tables}
+use Rattle.floor_core.specs.Order.{are_in_order}
 use Rattle.floor_core.specs.Report.{sold, rest, play}
 
 -- how many players were dealt in to the hand at a table
@@ -45,6 +46,8 @@ pub record IsValid (state : State) : Type 0 where
   pub few : length state.entries ≤ 640
   -- everyone sits in a seat that the tables have
   pub within : list_all (sits_within (seats_of_tables state)) state.seats ≡ true
+  -- the players are listed in order, and no two sit in one seat
+  pub ordered : are_in_order state.seats ≡ true
   -- the marks are seats that the tables have
   pub marked : (table : ℕ) → ForSome (marks_at state.tables table) (AreMarksOf (seats_of_tables state))
   -- chips are neither made nor lost

@@ -75,6 +75,13 @@ pub fn taken_seats(seats: &[Seated], table: u64) -> SeatSet
     taken
 }
 
+/// How many players sit at a table.
+pub fn count_at(seats: &[Seated], table: u64) -> usize
+    ensures { result ≡ count_by (sits_at table) seats.now }
+{
+    seats.iter().filter(|player| sits_at(player, table)).count()
+}
+
 /// A player sits down behind those who come before him. Want of memory leaves the list as it was.
 pub fn sit_down(seats: &mut Vec<Seated>, player: Seated) -> Result<(), AllocError>
     ensures ok { OnOk result (seats.new.items ≡ sit_down player seats.old.items) }

@@ -1,14 +1,14 @@
 //! How the tournament and its tables stand.
 
 ghost use Rattle.std.specs.Prelude.{◌≡◌, ◌≤◌, ◌+◌, true, length, None, Some, IsSome, IfOk, IfErr, OnOk};
-ghost use Rattle.button_blinds.specs.SeatSets.{AreSeatsOf};
+ghost use Rattle.button_blinds.specs.SeatSets.{seat_count, AreSeatsOf};
 ghost use Rattle.floor_core.specs.Dealing.{seats_of_tables};
 ghost use Rattle.floor_core.specs.State.{taken_seats, count_at, hand_at};
 ghost use Rattle.floor_core.specs.Step.{has_table, is_playing};
 ghost use Rattle.floor_core.specs.Refusals.{going_refusal, playing_refusal};
 
 use crate::checks::has_table;
-use crate::seated::taken_seats;
+use crate::seated::{count_at, taken_seats};
 use crate::tournament::Tournament;
 use button_blinds::SeatSet;
 use floor_text::Refusal;
@@ -44,20 +44,20 @@ impl Tournament {
         }
     }
 
-    /// The seats of a table where a player sits.
-    #[tactic(auto, using(crate::proofs::Steps::within_ten))]
+    /// The seats of a table where a player sits, one for each who does.
     pub(crate) fn taken_at(&self, table: u64) -> SeatSet
         ensures taken { result ≡ taken_seats self.now.seats table }
         ensures within { AreSeatsOf (seats_of_tables self.now) result }
+        ensures count { seat_count result ≡ count_at self.now table }
     {
         taken_seats(&self.seats, table)
     }
 
     /// How many players sit at a table.
-    pub(crate) fn count_at(&self, table: u64) -> u8
+    pub(crate) fn count_at(&self, table: u64) -> usize
         ensures { result ≡ count_at self.now table }
     {
-        self.taken_at(table).count()
+        count_at(&self.seats, table)
     }
 
     /// Whether a hand is played at a table of the plan.
