@@ -4,9 +4,7 @@
 # were not answered `ok`, which must be none. Builds the program where it is not there yet. Needs sed and python3.
 set -euo pipefail
 cd "$(dirname "$0")/.."
-./floor replay < /dev/null > /dev/null
-work=$(mktemp -d)
-trap 'rm -rf "$work"' EXIT
+. bench/timing.sh
 
 # The hands, and the first half of them. At the first hand the seats 1, 2 and 3 have the button, the small and the big
 # blind, and at each later hand the marks are one seat further. The seat after the big blind is the first to fold, and
@@ -32,23 +30,12 @@ with open(work + "/hands", "w") as whole, open(work + "/half", "w") as half:
         put(["begin 1 " + deck] + folds + ["settle 1"], hand)
 MAKE
 
-# the best wall time of three runs, in seconds
-best() {
-    local least= begin took
-    for _ in 1 2 3; do
-        begin=$(date +%s.%N)
-        "$@"
-        took=$(python3 -c "print($(date +%s.%N) - $begin)")
-        least=$(python3 -c "print(min($took, ${least:-$took}))")
-    done
-    echo "$least"
-}
-replay() { ./floor replay < "$1" > "$work/out"; }
-stock() { LC_ALL=C sed 's/.*/ok/' < "$1" > "$work/stock"; }
-
-half=$(best replay "$work/half")
-whole=$(best replay "$work/hands")
-theirs=$(best stock "$work/hands")
+half= whole= theirs=
+for _ in 1 2 3 4 5; do
+    half=$(lesser "$(took replay "$work/half")" $half)
+    whole=$(lesser "$(took replay "$work/hands")" $whole)
+    theirs=$(lesser "$(took stock "$work/hands" ok)" $theirs)
+done
 lines=$(wc -l < "$work/hands")
 python3 -c "print(f'$lines lines, replay {$whole:.2f} s, {$lines / $whole:,.0f} lines per second')"
 python3 -c "print(f'sed {$theirs:.2f} s, ratio {$whole / $theirs:.2f}')"

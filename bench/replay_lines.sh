@@ -1,12 +1,9 @@
 #!/usr/bin/env bash
 # How long `replay` takes for many lines, as a ratio to `sed` over the same file in the same run, and how much
-# memory it takes at its peak. Needs a built program (`./floor replay < /dev/null` builds it), sed and python3.
+# memory it takes at its peak. Builds the program where it is not there yet. Needs sed and python3.
 set -euo pipefail
 cd "$(dirname "$0")/.."
-program=$PWD/crates/floor_replay/out/floor_replay
-[ -x "$program" ] || { ./floor replay < /dev/null > /dev/null; }
-work=$(mktemp -d)
-trap 'rm -rf "$work"' EXIT
+. bench/timing.sh
 
 python3 - "$work" <<'MAKE'
 import sys
@@ -24,23 +21,12 @@ with open(work + "/limit", "wb") as limit:
     limit.write(line * ((256 << 20) // len(line)))
 MAKE
 
-# the best wall time of three runs, in seconds
-best() {
-    local least= begin took
-    for _ in 1 2 3; do
-        begin=$(date +%s.%N)
-        "$@"
-        took=$(python3 -c "print($(date +%s.%N) - $begin)")
-        least=$(python3 -c "print(min($took, ${least:-$took}))")
-    done
-    echo "$least"
-}
-replay() { "$program" replay < "$1" > "$work/out"; }
-stock() { LC_ALL=C sed 's/.*/no 1 Syntax/' < "$1" > "$work/out"; }
-
 for input in refused entries; do
-    ours=$(best replay "$work/$input")
-    theirs=$(best stock "$work/$input")
+    ours= theirs=
+    for _ in 1 2 3; do
+        ours=$(lesser "$(took replay "$work/$input")" $ours)
+        theirs=$(lesser "$(took stock "$work/$input" "no 1 Syntax")" $theirs)
+    done
     lines=$(wc -l < "$work/$input")
     python3 -c "print(f'$input: $lines lines, replay {$ours:.2f} s, sed {$theirs:.2f} s, ratio {$ours / $theirs:.2f}')"
 done
