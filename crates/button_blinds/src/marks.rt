@@ -1,6 +1,6 @@
 //! The button and the blinds of the next hand.
 
-ghost use Rattle.std.specs.Prelude.{◌≡◌, ◌≤◌, ◌+◌, ℕ, IsTrue};
+ghost use Rattle.std.specs.Prelude.{◌≡◌, ◌≢◌, ◌≤◌, ◌+◌, ℕ, false, IsTrue};
 ghost use Rattle.std.specs.Option.{ForSome};
 ghost use Rattle.button_blinds.specs.SeatSets.{no_seats, seat_count, has_seat, AreSeatsOf};
 ghost use Rattle.button_blinds.specs.Marks.{AreMarksOf, first_marks, big_after, heads_up_marks, moved_marks, marks_after};
@@ -117,6 +117,8 @@ pub fn next_marks(old: Option<Marks>, occupied: SeatSet, seats: u8) -> NextMarks
     ensures big_sits { IsTrue (has_seat occupied result.marks.big) }
     ensures waiting_sit { (seat : ℕ) → IsTrue (has_seat result.waiting seat) → IsTrue (has_seat occupied seat) }
     ensures two_play { seat_count result.waiting + 2 ≤ seat_count occupied }
+    ensures big_plays { has_seat result.waiting result.marks.big ≡ false }
+    ensures apart { result.marks.small ≢ result.marks.big }
 {
     let Some(old) = old else {
         return NextMarks {
