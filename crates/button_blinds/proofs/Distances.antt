@@ -138,7 +138,7 @@ set_keeps (test ∷ more) (suc at) zero there = there
 set_keeps (test ∷ more) (suc at) (suc k) there = set_keeps more at k there
 
 -- a seat that is put into a set is in it
-with_seat-has : (set : List Bool) (seat : ℕ) → 1 ≤ seat → seat ≤ length set → has_seat (with_seat set seat) seat ≡ true
+pub with_seat-has : (set : List Bool) (seat : ℕ) → 1 ≤ seat → seat ≤ length set → has_seat (with_seat set seat) seat ≡ true
 with_seat-has set zero low high = absurd (omega arith)
 with_seat-has set (suc at) low high = set_there set at (omega arith)
 
@@ -199,7 +199,7 @@ at_most_one true = omega arith
 at_most_one false = omega arith
 
 -- a set whose seats another set has is no larger
-dominated : (one other : List Bool) → ((k : ℕ) → slice_index_or one k false ≡ true → slice_index_or other k false ≡ true) → seat_count one ≤ seat_count other
+pub dominated : (one other : List Bool) → ((k : ℕ) → slice_index_or one k false ≡ true → slice_index_or other k false ≡ true) → seat_count one ≤ seat_count other
 dominated [] other each = omega arith
 dominated (a ∷ one) [] each =
     let rest = dominated one [] (λ k there. each (suc k) there) in

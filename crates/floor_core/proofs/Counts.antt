@@ -11,15 +11,11 @@ use Rattle.button_blinds.specs.SeatSets.{no_seats, has_seat, with_seat, with_sea
 use Rattle.button_blinds.proofs.SeatSetLaws.{has_seat-with_seat, no_seats-none}
 use Rattle.floor_core.specs.declared.seated.Seated.{Seated}
 use Rattle.floor_core.specs.Places.{comes_before}
+use Rattle.floor_core.specs.Starts.{are_higher}
 use Rattle.floor_core.specs.Order.{places_of, are_in_order}
 use Rattle.floor_core.specs.State.{sits_at, taken_seats}
 use Rattle.floor_core.specs.Valid.{sits_within}
 use Rattle.floor_core.proofs.Players.{count-first}
-
--- each number of a list is below every later one
-abbrev are_higher : List ℕ → Bool
-are_higher [] = true
-are_higher (number ∷ numbers) = list_all (nat_lt number) numbers && are_higher numbers
 
 -- a seat that may still be put into a set
 abbrev may_come : List Bool → ℕ → Bool
@@ -83,7 +79,7 @@ count_with set (seat ∷ seats) size higher comes =
     omega (arith, one, others)
 
 -- the seats of those who sit at a table
-abbrev seats_at : ℕ → List Seated → List ℕ
+abbrev pub seats_at : ℕ → List Seated → List ℕ
 seats_at table players = map (λ player. player.place.seat) (filter (sits_at table) players)
 
 later_seat : (a b x y table : ℕ) → comes_before (record { table = a; seat = b }) (record { table = x; seat = y }) ≡ true → (a == table) ≡ true → (x == table) ≡ true → nat_lt b y ≡ true
@@ -108,7 +104,7 @@ rising_step : (table : ℕ) (player : Seated) (players : List Seated) (b : Bool)
 rising_step table player players true sits before others = rw (all_higher table player players sits before, others) refl
 rising_step table player players false sits before others = others
 
-seats_rise : (table : ℕ) (players : List Seated) → are_in_order players ≡ true → are_higher (seats_at table players) ≡ true
+pub seats_rise : (table : ℕ) (players : List Seated) → are_in_order players ≡ true → are_higher (seats_at table players) ≡ true
 seats_rise table [] ordered = refl
 seats_rise table (player ∷ players) ordered =
     let parts = and_parts (list_all (comes_before player.place) (places_of players)) (are_in_order players) ordered in

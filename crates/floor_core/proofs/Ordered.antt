@@ -1,28 +1,25 @@
 -- The players are listed in order, after any list of events.
 use Rattle.std.proofs.Common.{◌≡◌, ◌∙◌, refl, sym, ap, ℕ, suc, ◌+◌, Bool, true, false, cond, ◌==◌, ◌&&◌, ◌||◌, List, [], ◌∷◌, take, drop, arith}
-use Rattle.std.specs.Prelude.{not, count_by, insert, Option, Some, None}
+use Rattle.std.specs.Prelude.{not, count_by, insert}
 use Rattle.std.specs.List.{list_all, list_any}
-use Rattle.std.specs.Option.{option_map_or}
 use Rattle.std.proofs.lemmas.Bool.{and_parts}
 use Rattle.std.proofs.lemmas.Bool.Decides.{nat_tests}
 use Rattle.std.proofs.lemmas.List.{take-map, drop-map, map-append}
-use Rattle.table_engine.specs.Hands.{HandTerms}
-use Rattle.table_engine.specs.Results.{stacks_after_hand, starting_stacks}
 use Rattle.floor_text.specs.declared.refusal.Refusal.TheVariants.{NoPlan, Stopped, NameKnown, NoTable, NoSeat, SeatTaken}
 use Rattle.floor_events.specs.declared.answer.Answer.TheVariants.{No}
 use Rattle.floor_events.specs.declared.event.Event.{Event}
 use Rattle.floor_events.specs.declared.event.Event.TheVariants as events
 use Rattle.floor_events.specs.declared.event.Place.{Place}
 use Rattle.floor_core.specs.declared.seated.Seated.{Seated}
-use Rattle.floor_core.specs.declared.table.Table.{Table}
 use Rattle.floor_core.specs.Places.{comes_before}
 use Rattle.floor_core.specs.Order.{are_rising, places_of, are_in_order}
-use Rattle.floor_core.specs.State.{State, is_known, is_taken, first_state, sit_down, plays_at, put_back, hand_at}
-use Rattle.floor_core.specs.Dealing.{next_at, is_dealt_in, in_play, dealt_in}
-use Rattle.floor_core.specs.Step.{checks, is_accepted, answer_to, effect, state_after, is_planned, may_be_entered, has_seat_number, newcomer, void_hands}
+use Rattle.floor_core.specs.State.{State, is_known, is_taken, first_state, sit_down, hand_at}
+use Rattle.floor_core.specs.Dealing.{next_at}
+use Rattle.floor_core.specs.Step.{checks, is_accepted, answer_to, effect, state_after, is_planned, may_be_entered, has_seat_number, newcomer}
 use Rattle.floor_core.specs.Run.{run}
 use Rattle.floor_core.proofs.Peels.{peel}
-use Rattle.floor_core.proofs.Players.{count-first, put_next}
+use Rattle.floor_core.proofs.Players.{count-first}
+use Rattle.floor_core.proofs.Keys.{IsKey, keys_dealt, keys_settled, keys_void}
 use Rattle.floor_core.proofs.Kept.{list_all_insert, others}
 
 -- a place is before another, or after it, or it is that place
@@ -118,35 +115,8 @@ ordered_down player players ordered free =
     ∙ (ap (λ (n : ℕ). are_rising (insert (places_of players) n player.place)) (count_places player.place players)
     ∙ rising_insert player.place (places_of players) ordered (sym (free_places player.place.table player.place.seat players) ∙ free))
 
-place_one : (player : Seated) (b : Bool) → (cond b (in_play player) player).place ≡ player.place
-place_one player true = refl
-place_one player false = refl
-
-places_dealt : (table : ℕ) (waiting : List Bool) (players : List Seated) → places_of (dealt_in table waiting players) ≡ places_of players
-places_dealt table waiting [] = refl
-places_dealt table waiting (player ∷ players) = rw (place_one player (is_dealt_in table waiting player), places_dealt table waiting players) refl
-
-places_step : (table : ℕ) (stacks : List ℕ) (player : Seated) (players : List Seated) (b : Bool) → ((more : List ℕ) → places_of (put_back table more players) ≡ places_of players)
-    → places_of (put_next table stacks player players b) ≡ places_of (player ∷ players)
-places_step table stacks player players true others = ap (λ (places : List Place). player.place ∷ places) (others (drop 1 stacks))
-places_step table stacks player players false others = ap (λ (places : List Place). player.place ∷ places) (others stacks)
-
-places_put : (table : ℕ) (stacks : List ℕ) (players : List Seated) → places_of (put_back table stacks players) ≡ places_of players
-places_put table stacks [] = refl
-places_put table stacks (player ∷ players) = places_step table stacks player players (plays_at table player) (λ more. places_put table more players)
-
-places_settled : (table : ℕ) (players : List Seated) (hand : Option HandTerms) → places_of (option_map_or (λ hand. put_back table (stacks_after_hand hand) players) hand players) ≡ places_of players
-places_settled table players None = refl
-places_settled table players (Some hand) = places_put table (stacks_after_hand hand) players
-
-places_void_one : (number : ℕ) (players : List Seated) (hand : Option HandTerms) → places_of (option_map_or (λ hand. put_back number (starting_stacks hand) players) hand players) ≡ places_of players
-places_void_one number players None = refl
-places_void_one number players (Some hand) = places_put number (starting_stacks hand) players
-
-places_void : (number : ℕ) (tables : List Table) (players : List Seated) → places_of (void_hands number tables players) ≡ places_of players
-places_void number [] players = refl
-places_void number (table ∷ tables) players =
-    places_void (number + 1) tables (option_map_or (λ hand. put_back number (starting_stacks hand) players) table.hand players) ∙ places_void_one number players table.hand
+place_key : IsKey (λ (player : Seated). player.place)
+place_key = record { in_play = λ player. refl; back = λ player stack. refl }
 
 pub effect_ordered : (state : State) (event : Event) → are_in_order state.seats ≡ true → is_accepted (answer_to state event) ≡ true → are_in_order (effect state event).seats ≡ true
 unfolding answer_to
@@ -161,10 +131,10 @@ effect_ordered state (events.Enter name table seat) ordered accepted =
     let five = peel (No NoSeat) (not (has_seat_number state seat)) (others (others (others (others (others all))))) refl four.1 in
     let six = peel (No SeatTaken) (is_taken state table seat) (others (others (others (others (others (others all)))))) refl five.1 in
     ordered_down (newcomer state name table seat) state.seats ordered six.0
-effect_ordered state (events.Begin table row) ordered accepted = ap are_rising (places_dealt table (next_at state table).waiting state.seats) ∙ ordered
+effect_ordered state (events.Begin table row) ordered accepted = ap are_rising (keys_dealt (λ player. player.place) place_key table (next_at state table).waiting state.seats) ∙ ordered
 effect_ordered state (events.Act table name act) ordered accepted = ordered
-effect_ordered state (events.Settle table) ordered accepted = ap are_rising (places_settled table state.seats (hand_at state.tables table)) ∙ ordered
-effect_ordered state events.Stop ordered accepted = ap are_rising (places_void 1 state.tables state.seats) ∙ ordered
+effect_ordered state (events.Settle table) ordered accepted = ap are_rising (keys_settled (λ player. player.place) place_key table state.seats (hand_at state.tables table)) ∙ ordered
+effect_ordered state events.Stop ordered accepted = ap are_rising (keys_void (λ player. player.place) place_key 1 state.tables state.seats) ∙ ordered
 
 step_ordered : (state : State) (event : Event) → are_in_order state.seats ≡ true → are_in_order (state_after state event).seats ≡ true
 step_ordered state event ordered = by_answer (is_accepted (answer_to state event)) refl

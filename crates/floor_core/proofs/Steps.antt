@@ -37,7 +37,7 @@ all_within least most (player ∷ players) more within =
     let others = all_within least most players more parts.1 in
     rw (first, others) refl
 
-ten_seats : (state : State) → IsValid state → seats_of_tables state ≤ 10
+pub ten_seats : (state : State) → IsValid state → seats_of_tables state ≤ 10
 ten_seats state valid = by_plan state.plan refl
   where
     by_plan : (found : Option PlanTerms) → state.plan ≡ found → option_map_or (λ plan. plan.seats) found 0 ≤ 10

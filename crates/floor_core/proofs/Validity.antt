@@ -1,5 +1,5 @@
 -- A tournament is still valid after each event.
-use Rattle.std.proofs.Common.{◌≡◌, ◌∙◌, refl, sym, ap, subst, ℕ, zero, suc, ◌<◌, ◌≤◌, Bool, true, false, cond, ◌&&◌, ◌==◌, List, [], length, inl, inr, arith, length-append}
+use Rattle.std.proofs.Common.{◌≡◌, ◌∙◌, refl, sym, ap, subst, ℕ, zero, suc, ◌<◌, ◌≤◌, Bool, true, false, cond, ◌&&◌, ◌==◌, List, [], ◌∷◌, ◌++◌, length, inl, inr, arith, length-append}
 use Rattle.std.specs.Prelude.{not, nat_le, Option, Some, None, count_by, option_map, replicate, slice_get}
 use Rattle.std.specs.List.{list_all}
 use Rattle.std.specs.Option.{option_map_or, option_and_then, ForSome}
@@ -17,20 +17,23 @@ use Rattle.table_engine.specs.Hands.{HandTerms}
 use Rattle.table_engine.specs.Acts.{hand_after}
 use Rattle.table_engine.specs.Results.{stacks_after_hand}
 use Rattle.floor_text.specs.declared.refusal.Refusal.{Refusal}
-use Rattle.floor_text.specs.declared.refusal.Refusal.TheVariants.{NoTable, NoSeat, SeatTaken}
+use Rattle.floor_text.specs.declared.refusal.Refusal.TheVariants.{NameKnown, NoTable, NoSeat, SeatTaken}
 use Rattle.floor_events.specs.declared.answer.Answer.{Answer}
 use Rattle.floor_events.specs.declared.answer.Answer.TheVariants.{Ok}
 use Rattle.floor_events.specs.declared.event.Event.TheVariants as events
 use Rattle.floor_core.specs.Places.{comes_before}
 use Rattle.floor_core.specs.declared.seated.Seated.{Seated}
 use Rattle.floor_core.specs.declared.table.Table.{Table}
-use Rattle.floor_core.specs.State.{State, is_taken, marks_at, hand_at, set_table, put_back}
+use Rattle.floor_core.specs.State.{State, is_known, is_taken, marks_at, hand_at, set_table, put_back}
 use Rattle.floor_core.specs.Dealing.{seats_of_tables, next_at, next_start}
 use Rattle.floor_core.specs.Step.{answer_to, is_accepted, effect, newcomer, may_be_entered, has_seat_number, has_table, is_planned, fresh_table}
 use Rattle.floor_core.specs.Refusals.{refusal_to_enter, place_refusal, first_some, going_refusal, known_refusal, room_refusal}
+use Rattle.floor_core.specs.Starts.{are_apart}
 use Rattle.floor_core.specs.Valid.{IsValid, sits_within}
 use Rattle.floor_core.proofs.Peels.{none_there}
 use Rattle.floor_core.proofs.Kept.{effect_keeps, list_all_insert, table_range}
+use Rattle.floor_core.proofs.Keys.{IsKey, keys_dealt, keys_settled, keys_void}
+use Rattle.floor_core.proofs.Named.{names_of, is_entered, names_insert, apart_insert, unknown-differs, entered_more, entered_new}
 use Rattle.floor_core.proofs.Ordered.{effect_ordered}
 use Rattle.floor_core.proofs.Players.{within_dealt, within_put}
 use Rattle.floor_core.proofs.Voids.{within_void, same_marks}
@@ -61,6 +64,24 @@ seat_there state name table seat none =
     let known = none_of_two (known_refusal state name) (first_some (place_refusal state table seat) (room_refusal state)) going.1 in
     place_passed state table seat (none_of_two (place_refusal state table seat) (room_refusal state) known.1).0
 
+first_passed : (known : Bool) (refusal : Refusal) → cond known (Some refusal) None ≡ None → known ≡ false
+first_passed true refusal none = cc
+first_passed false refusal none = refl
+
+new_passed : (state : State) (name : List ℕ) → known_refusal state name ≡ None → is_known state name ≡ false
+unfolding known_refusal
+new_passed state name none = first_passed (is_known state name) NameKnown none
+
+-- where an entry is not refused, its name is new
+name_new : (state : State) (name : List ℕ) (table seat : ℕ) → refusal_to_enter state name table seat ≡ None → is_known state name ≡ false
+unfolding refusal_to_enter
+name_new state name table seat none =
+    let going = none_of_two (going_refusal state) (first_some (known_refusal state name) (first_some (place_refusal state table seat) (room_refusal state))) none in
+    new_passed state name (none_of_two (known_refusal state name) (first_some (place_refusal state table seat) (room_refusal state)) going.1).0
+
+name_key : IsKey (λ (player : Seated). player.name)
+name_key = record { in_play = λ player. refl; back = λ player stack. refl }
+
 seat_within : (plan : Option PlanTerms) (seat : ℕ) → option_map_or (λ plan. is_between 1 plan.seats seat) plan false ≡ true → is_between 1 (option_map_or (λ plan. plan.seats) plan 0) seat ≡ true
 seat_within None seat there = cc
 seat_within (Some plan) seat there = there
@@ -73,6 +94,12 @@ valid_entered state name table seat valid none room = record {
   few = simp length-append (omega arith);
   within = list_all_insert (sits_within (seats_of_tables state)) state.seats (count_by (λ other. comes_before other.place (newcomer state name table seat).place) state.seats) (newcomer state name table seat) valid.within (seat_within state.plan seat (seat_there state name table seat none));
   marked = valid.marked;
+  named =
+      ap are_apart (names_insert state.seats (count_by (λ other. comes_before other.place (newcomer state name table seat).place) state.seats) (newcomer state name table seat))
+      ∙ apart_insert (names_of state.seats) (count_by (λ other. comes_before other.place (newcomer state name table seat).place) state.seats) name valid.named (unknown-differs state.entries name (names_of state.seats) (name_new state name table seat none) valid.entered);
+  entered =
+      ap (list_all (is_entered (state.entries ++ name ∷ []))) (names_insert state.seats (count_by (λ other. comes_before other.place (newcomer state name table seat).place) state.seats) (newcomer state name table seat))
+      ∙ list_all_insert (is_entered (state.entries ++ name ∷ [])) (names_of state.seats) (count_by (λ other. comes_before other.place (newcomer state name table seat).place) state.seats) name (entered_more state.entries name (names_of state.seats) valid.entered) (entered_new state.entries name);
   ordered = effect_ordered state (events.Enter name table seat) valid.ordered (accepted (entry_accepted state name table seat none));
   chips = effect_keeps state (events.Enter name table seat) valid.chips (accepted (entry_accepted state name table seat none));
 }
@@ -116,6 +143,8 @@ valid_planned state valid unplanned right lawful =
       few = valid.few;
       within = rw nobody.1 refl;
       marked = λ number. no_marks (plan_of state.draft).seats (plan_of state.draft).tables number;
+      named = rw nobody.1 refl;
+      entered = rw nobody.1 refl;
       ordered = effect_ordered state events.Go valid.ordered (accepted lawful);
       chips = effect_keeps state events.Go valid.chips (accepted lawful);
     }
@@ -145,6 +174,8 @@ valid_begun state table row valid lawful there marks =
       few = valid.few;
       within = within_dealt (seats_of_tables state) table (next_at state table).waiting state.seats ∙ valid.within;
       marked = marked_set (seats_of_tables state) state.tables table (Some (next_at state table).marks) (Some (record { start = next_start state table row.cards; acts = [] })) range.0 range.1 valid.marked (λ found is. subst (λ (marks : Marks). AreMarksOf (seats_of_tables state) marks) (same_Some (next_at state table).marks found is) marks);
+      named = ap are_apart (keys_dealt (λ player. player.name) name_key table (next_at state table).waiting state.seats) ∙ valid.named;
+      entered = ap (list_all (is_known state)) (keys_dealt (λ player. player.name) name_key table (next_at state table).waiting state.seats) ∙ valid.entered;
       ordered = effect_ordered state (events.Begin table row) valid.ordered (accepted lawful);
       chips = effect_keeps state (events.Begin table row) valid.chips (accepted lawful);
     }
@@ -159,6 +190,8 @@ valid_acted state table name act valid lawful there =
       few = valid.few;
       within = valid.within;
       marked = marked_set (seats_of_tables state) state.tables table (marks_at state.tables table) (option_map (λ hand. hand_after hand name act false) (hand_at state.tables table)) range.0 range.1 valid.marked (valid.marked table);
+      named = valid.named;
+      entered = valid.entered;
       ordered = effect_ordered state (events.Act table name act) valid.ordered (accepted lawful);
       chips = effect_keeps state (events.Act table name act) valid.chips (accepted lawful);
     }
@@ -177,6 +210,8 @@ valid_settled state table valid lawful there =
       few = valid.few;
       within = within_settled (seats_of_tables state) table state.seats (hand_at state.tables table) ∙ valid.within;
       marked = marked_set (seats_of_tables state) state.tables table (marks_at state.tables table) None range.0 range.1 valid.marked (valid.marked table);
+      named = ap are_apart (keys_settled (λ player. player.name) name_key table state.seats (hand_at state.tables table)) ∙ valid.named;
+      entered = ap (list_all (is_known state)) (keys_settled (λ player. player.name) name_key table state.seats (hand_at state.tables table)) ∙ valid.entered;
       ordered = effect_ordered state (events.Settle table) valid.ordered (accepted lawful);
       chips = effect_keeps state (events.Settle table) valid.chips (accepted lawful);
     }
@@ -189,6 +224,8 @@ valid_stopped state valid lawful = record {
   few = valid.few;
   within = within_void (seats_of_tables state) 1 state.tables state.seats ∙ valid.within;
   marked = λ number. subst (λ (found : Option Marks). ForSome found (AreMarksOf (seats_of_tables state))) (sym (same_marks state.tables number)) (valid.marked number);
+  named = ap are_apart (keys_void (λ player. player.name) name_key 1 state.tables state.seats) ∙ valid.named;
+  entered = ap (list_all (is_known state)) (keys_void (λ player. player.name) name_key 1 state.tables state.seats) ∙ valid.entered;
   ordered = effect_ordered state events.Stop valid.ordered (accepted lawful);
   chips = effect_keeps state events.Stop valid.chips (accepted lawful);
 }

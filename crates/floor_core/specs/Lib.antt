@@ -6,5 +6,6 @@ pub mod Refusals
 pub mod Run
 pub mod Report
 pub mod Order
+pub mod Starts
 pub mod Valid
 pub mod Fields

@@ -1,5 +1,5 @@
 -- What holds of a tournament at every moment. This project's own.
-use Rattle.std.specs.Prelude.{◌≡◌, ◌≤◌, ◌+◌, ◌||◌, ◌==◌, ℕ, Bool, not, true, List, [], length, count_by, None, Some}
+use Rattle.std.specs.Prelude.{◌≡◌, ◌≤◌, ◌+◌, ◌||◌, ◌==◌, ℕ, Bool, not, true, List, [], length, map, count_by, None, Some}
 use Rattle.std.specs.List.{list_all}
 use Rattle.std.specs.Option.{option_map_or, ForSome}
 use Rattle.button_blinds.specs.Marks.{AreMarksOf}
@@ -7,9 +7,10 @@ use Rattle.level_plan.specs.Items.{is_between}
 use Rattle.level_plan.specs.Plans.{PlanTerms, is_right}
 use Rattle.floor_core.specs.declared.seated.Seated.{Seated}
 use Rattle.floor_core.specs.declared.table.Table.{Table}
-use Rattle.floor_core.specs.State.{State, marks_at, hand_at, plays_at}
+use Rattle.floor_core.specs.State.{State, is_known, marks_at, hand_at, plays_at}
 use Rattle.floor_core.specs.Dealing.{seats_of_tables}
 use Rattle.floor_core.specs.Order.{are_in_order}
+use Rattle.floor_core.specs.Starts.{are_apart}
 use Rattle.floor_core.specs.Report.{sold, rest, play}
 
 -- how many players were dealt in to the hand at a table
@@ -48,6 +49,10 @@ pub record IsValid (state : State) : Type 0 where
   pub within : list_all (sits_within (seats_of_tables state)) state.seats ≡ true
   -- the players are listed in order, and no two sit in one seat
   pub ordered : are_in_order state.seats ≡ true
+  -- no two players have one name
+  pub named : are_apart (map (λ player. player.name) state.seats) ≡ true
+  -- and each of their names is in the entry list
+  pub entered : list_all (is_known state) (map (λ player. player.name) state.seats) ≡ true
   -- the marks are seats that the tables have
   pub marked : (table : ℕ) → ForSome (marks_at state.tables table) (AreMarksOf (seats_of_tables state))
   -- chips are neither made nor lost

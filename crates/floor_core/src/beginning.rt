@@ -4,8 +4,10 @@ ghost use Rattle.std.specs.Prelude.{◌≡◌, ◌≤◌, ◌<◌, ◌^◌, true
 ghost use Rattle.button_blinds.specs.Marks.{AreMarksOf};
 ghost use Rattle.floor_events.specs.declared.answer.Answer.TheVariants as answers;
 ghost use Rattle.floor_events.specs.declared.event.Event.TheVariants as events;
+ghost use Rattle.card_set.specs.declared.card.CardRow.{CardRow};
 ghost use Rattle.floor_core.specs.State.{count_at};
 ghost use Rattle.floor_core.specs.Dealing.{seats_of_tables, blind_now, next_at, dealt_seats, next_start};
+ghost use Rattle.floor_core.specs.Starts.{IsLawfulStart};
 ghost use Rattle.floor_core.specs.Step.{answer_to, state_after, has_table};
 ghost use Rattle.floor_core.specs.Refusals.{table_refusal, deck_refusal, refusal_to_begin};
 
@@ -75,6 +77,7 @@ impl Tournament {
         requires players { 2 ≤ count_at self.now table }
         ensures next { result ≡ next_at self.now table }
         ensures within { AreMarksOf (seats_of_tables self.now) result.marks }
+        ensures start { (row : CardRow) → IsLawfulStart (next_start self.now table row.cards) }
     {
         let old = self.tables[table as usize - 1].marks;
         next_marks(old, self.taken_at(table), plan.seats as u8)
@@ -91,6 +94,7 @@ impl Tournament {
         ensures deck { IfOk result (λ ready. ready.deck ≡ row.now.cards) }
         ensures next { IfOk result (λ ready. ready.next ≡ next_at self.now table) }
         ensures within { IfOk result (λ ready. AreMarksOf (seats_of_tables self.now) ready.next.marks) }
+        ensures start { OnOk result (IsLawfulStart (next_start self.now table row.now.cards)) }
         ensures ok { OnOk result (refusal_to_begin self.now table row.now.cards ≡ None) }
         ensures err { IfErr result (λ refusal. refusal_to_begin self.now table row.now.cards ≡ Some refusal) }
     {
@@ -150,6 +154,7 @@ impl Tournament {
         ensures state { OnOk result (self.new ≡ state_after self.old (events.Begin table row.now)) }
         ensures err { OnErr result (self.new ≡ self.old) }
         ensures lawful { OnErr result (answer_to self.old (events.Begin table row.now) ≡ answers.Ok) }
+        ensures start { IfOk result (λ answer. answer ≡ answers.Ok → IsLawfulStart (next_start self.old table row.now.cards)) }
     {
         match self.ready(table, row) {
             Ok(ready) => {

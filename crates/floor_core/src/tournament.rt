@@ -1,8 +1,12 @@
 //! A tournament, event by event.
 
-ghost use Rattle.std.specs.Prelude.{◌≡◌, ◌+◌, ◌<◌, ◌^◌, sum_by, IfOk, OnOk, OnErr};
+ghost use Rattle.std.specs.Prelude.{◌≡◌, ◌+◌, ◌<◌, ◌^◌, ℕ, sum_by, IfOk, OnOk, OnErr};
 ghost use Rattle.floor_events.specs.declared.answer.Answer.TheVariants as answers;
+ghost use Rattle.floor_events.specs.declared.event.Event.TheVariants as events;
+ghost use Rattle.card_set.specs.declared.card.CardRow.{CardRow};
 ghost use Rattle.floor_core.specs.State.{first_state};
+ghost use Rattle.floor_core.specs.Dealing.{next_start};
+ghost use Rattle.floor_core.specs.Starts.{IsLawfulStart};
 ghost use Rattle.floor_core.specs.Step.{answer_to, state_after};
 ghost use Rattle.floor_core.specs.Report.{report_of, play_at};
 
@@ -65,6 +69,8 @@ impl Tournament {
         ensures state { OnOk result (self.new ≡ state_after self.old event.now) }
         ensures err { OnErr result (self.new ≡ self.old) }
         ensures lawful { OnErr result (answer_to self.old event.now ≡ answers.Ok) }
+        // A hand that begins starts lawfully.
+        ensures start { (table : ℕ) (row : CardRow) → event.now ≡ events.Begin table row → IfOk result (λ answer. answer ≡ answers.Ok → IsLawfulStart (next_start self.old table row.cards)) }
     {
         match event {
             Event::Plan(line) => self.plan_line(line),

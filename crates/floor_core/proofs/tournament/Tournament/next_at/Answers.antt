@@ -3,7 +3,12 @@ use Rattle.std.specs.Prelude.{Option}
 use Rattle.std.specs.Option.{option_map_or}
 use Rattle.level_plan.specs.Plans.{PlanTerms}
 use Rattle.button_blinds.specs.Marks.{AreMarksOf}
+use Rattle.floor_core.specs.State.{State}
 use Rattle.floor_core.specs.declared.table.Table.{Table}
+use Rattle.floor_core.specs.Dealing.{next_start}
+use Rattle.floor_core.specs.Starts.{IsLawfulStart}
+use Rattle.floor_core.specs.contracts.tournament.Tournament.{the_view}
+use Rattle.floor_core.proofs.LawfulStarts.{lawful_start}
 use Rattle.floor_core.proofs.Tables.{marks_there}
 use Rattle.floor_core.proofs.tournament.Tournament.next_at.Goals as goal
 
@@ -29,3 +34,9 @@ returns-clause-next c =
     let seats = ap (λ (plan : Option PlanTerms). option_map_or (λ plan. plan.seats) plan 0) plan in
     let taken = rw (← c.self.view_is) at c.taken_at.ensures.taken in
     rw (← c.self.view_is, c.next_marks.ensures.marks, taken, ← found, ← seats) refl
+
+pub returns-clause-start : goal.returns-clause-start
+returns-clause-start c = λ row.
+    let plan = rw (← c.self.view_is) at c.requires.plan in
+    let players = rw (← c.self.view_is) at c.requires.players in
+    subst (λ (state : State). IsLawfulStart (next_start state c.args.table row.cards)) c.self.view_is (lawful_start (the_view c.self.inside) c.args.plan.now c.args.table row c.self.invariant plan players)
