@@ -1,26 +1,32 @@
 -- A field that is read is spelled so, and a field that is spelled so is read.
-use Rattle.std.proofs.Common.{◌≡◌, ℕ, Bool, true, false, cond, List, [], ◌∷◌, map, Option, Some, None, option_map, IsTrue, refl, sym, ap, ◌∙◌, subst}
+use Rattle.std.proofs.Common.{◌≡◌, ℕ, ◌≤◌, Bool, true, false, ◌&&◌, cond, leb, List, [], ◌∷◌, map, length, Option, Some, None, option_map, IsTrue, refl, sym, ap, ◌∙◌, subst, arith}
 use Rattle.std.specs.Prelude.{codes}
 use Rattle.std.specs.Fmt.{decimal}
-use Rattle.std.specs.List.{AllByRecursion}
+use Rattle.std.specs.List.{list_all, AllByRecursion}
 use Rattle.std.specs.Str.{bytes_eq}
+use Rattle.std.proofs.lemmas.Bool.Decides.{nat_tests}
 use Rattle.std.proofs.lemmas.Option.{same_Some, cond_some}
 use Rattle.std.proofs.lemmas.Slice.Eq.{bytes_eq-Decides}
 use Rattle.floor_text.specs.Names.{is_name}
 use Rattle.floor_text.specs.Numbers.{IsLineNumber, number_of}
 use Rattle.floor_text.proofs.NumberLaws.{number_found, number_of-decimal}
+use Rattle.card_set.specs.declared.card.CardRow.{CardRow}
 use Rattle.card_set.specs.declared.game.Game.{Game}
 use Rattle.card_set.specs.declared.game.Game.TheVariants.{Holdem, Omaha, Hilo}
+use Rattle.card_set.specs.Cards.{row_text, row_of}
+use Rattle.card_set.proofs.RowReading.{row_found, row_again}
 use Rattle.betting_round.specs.declared.act.Act.{Act}
 use Rattle.betting_round.specs.declared.act.Act.TheVariants.{Fold}
-use Rattle.floor_events.specs.Spelling.{game_word, act_words}
-use Rattle.floor_events.specs.Reading.{◌>>=◌, meaning, game_list, game_of, act_list, act_of_word, name_of, one_word, two_words, three_words, numbers_of, one_number, one_game}
+use Rattle.floor_events.specs.Spelling.{game_word, act_words, AreLineShares}
+use Rattle.floor_events.specs.Fields.{◌>>=◌, meaning, game_list, game_of, act_list, act_of, name_of, numbers_of, shares_of, next_by}
+use Rattle.floor_events.proofs.Spaces.{and_parts, has_no_space, decimal_spaceless, decimals_spaceless, name_spaceless, row_spaceless}
 
 -- the value of a step that found something
 pub bind_found : {A B : Type 0} (o : Option A) (f : A → Option B) (y : B) → (o >>= f) ≡ Some y → (x : A) × (o ≡ Some x) × (f x ≡ Some y)
 bind_found None f y h = absurd cc
 bind_found (Some x) f y h = (x, refl, h)
 
+-- the value that was mapped to this one
 pub map_found : {A B : Type 0} (f : A → B) (o : Option A) (y : B) → option_map f o ≡ Some y → (x : A) × (o ≡ Some x) × (f x ≡ y)
 map_found f None y h = absurd cc
 map_found f (Some x) y h = (x, refl, same_Some (f x) y h)
@@ -30,78 +36,95 @@ pub test_found : {A : Type 0} (b : Bool) (o : Option A) (x : A) → cond b o Non
 test_found true o x h = (refl, h)
 test_found false o x h = absurd cc
 
+-- a field of one word reads exactly what it writes
+pub record IsField {A : Type 0} (read : List ℕ → Option A) (write : A → List ℕ) (Fits : A → Type 0) : Type 0 where
+  pub found : (word : List ℕ) (value : A) → read word ≡ Some value → (word ≡ write value) × Fits value
+  pub again : (value : A) → Fits value → read (write value) ≡ Some value
+  pub spaceless : (value : A) → Fits value → has_no_space (write value) ≡ true
+
+-- a field of all words that are left reads exactly what it writes
+pub record IsRest {A : Type 0} (read : List (List ℕ) → Option A) (write : A → List (List ℕ)) (Fits : A → Type 0) : Type 0 where
+  pub found : (words : List (List ℕ)) (value : A) → read words ≡ Some value → (words ≡ write value) × Fits value
+  pub again : (value : A) → Fits value → read (write value) ≡ Some value
+  pub spaceless : (value : A) → Fits value → list_all has_no_space (write value) ≡ true
+
+-- a number
+pub number_field : IsField number_of decimal IsLineNumber
+number_field = record {
+  found = λ word n h. let found = number_found word n h in (found.1, found.0);
+  again = number_of-decimal;
+  spaceless = decimal_spaceless;
+}
+
+name_found : (word name : List ℕ) → name_of word ≡ Some name → (word ≡ name) × IsTrue (is_name name)
+name_found word name h =
+    let both = cond_some (is_name word) word name h in
+    (both.1, ap is_name (sym both.1) ∙ both.0)
+
+name_again : (name : List ℕ) → IsTrue (is_name name) → name_of name ≡ Some name
+name_again name right = rw right refl
+
+-- a player's name
+pub name_field : IsField name_of (λ name. name) (λ name. IsTrue (is_name name))
+name_field = record { found = name_found; again = name_again; spaceless = name_spaceless }
+
 meaning_here : {A : Type 0} (spelling : A → List ℕ) (b : Bool) (entry : List ℕ × A) (others : Option A) (word : List ℕ) (a : A) → (b ≡ true → word ≡ entry.0) → entry.0 ≡ spelling entry.1 → (others ≡ Some a → word ≡ spelling a) → cond b (Some entry.1) others ≡ Some a → word ≡ spelling a
 meaning_here spelling true entry others word a same spelled later h = same refl ∙ spelled ∙ ap spelling (same_Some entry.1 a h)
 meaning_here spelling false entry others word a same spelled later h = later h
 
 -- a word that was looked up is the spelling of what it stands for
-pub meaning_found : {A : Type 0} (spelling : A → List ℕ) (entries : List (List ℕ × A)) (word : List ℕ) (a : A) → AllByRecursion (λ entry. entry.0 ≡ spelling entry.1) entries → meaning entries word ≡ Some a → word ≡ spelling a
+meaning_found : {A : Type 0} (spelling : A → List ℕ) (entries : List (List ℕ × A)) (word : List ℕ) (a : A) → AllByRecursion (λ entry. entry.0 ≡ spelling entry.1) entries → meaning entries word ≡ Some a → word ≡ spelling a
 meaning_found spelling [] word a spelled h = absurd cc
 meaning_found spelling (entry ∷ entries) word a spelled h =
     meaning_here spelling (bytes_eq word entry.0) entry (meaning entries word) word a (bytes_eq-Decides word entry.0).0 spelled.0 (meaning_found spelling entries word a spelled.1) h
 
-pub game_found : (word : List ℕ) (game : Game) → game_of word ≡ Some game → word ≡ game_word game
-game_found word game h = meaning_found game_word game_list word game (refl, (refl, (refl, tt))) h
+game_again : (game : Game) → Unit {0} → game_of (game_word game) ≡ Some game
+game_again Holdem fits = refl
+game_again Omaha fits = refl
+game_again Hilo fits = refl
 
-pub game_again : (game : Game) → game_of (game_word game) ≡ Some game
-game_again Holdem = refl
-game_again Omaha = refl
-game_again Hilo = refl
+game_spaceless : (game : Game) → Unit {0} → has_no_space (game_word game) ≡ true
+game_spaceless Holdem fits = refl
+game_spaceless Omaha fits = refl
+game_spaceless Hilo fits = refl
+
+-- a game
+pub game_field : IsField game_of game_word (λ game. Unit {0})
+game_field = record {
+  found = λ word game h. (meaning_found game_word game_list word game (refl, (refl, (refl, tt))) h, tt);
+  again = game_again;
+  spaceless = game_spaceless;
+}
+
+-- a row of cards
+pub row_field : IsField row_of (λ (row : CardRow). row_text row.cards) (λ row. Unit {0})
+row_field = record {
+  found = λ word row h. (sym (row_found word row h), tt);
+  again = λ row fits. row_again row;
+  spaceless = λ row fits. row_spaceless row.cards;
+}
 
 abbrev act_word : Act → List ℕ
 act_word Fold = codes "fold"
 
-pub act_word_found : (word : List ℕ) (act : Act) → act_of_word word ≡ Some act → word ∷ [] ≡ act_words act
-act_word_found word Fold h = ap (λ (w : List ℕ). w ∷ []) (meaning_found act_word act_list word Fold (refl, tt) h)
+act_found : (words : List (List ℕ)) (act : Act) → act_of words ≡ Some act → (words ≡ act_words act) × Unit {0}
+unfolding act_of
+act_found [] act h = absurd cc
+act_found (word ∷ []) Fold h = (ap (λ (w : List ℕ). w ∷ []) (meaning_found act_word act_list word Fold (refl, tt) h), tt)
+act_found (word ∷ second ∷ words) act h = absurd cc
 
-pub name_found : (word name : List ℕ) → name_of word ≡ Some name → (word ≡ name) × IsTrue (is_name name)
-name_found word name h =
-    let both = cond_some (is_name word) word name h in
-    (both.1, ap is_name (sym both.1) ∙ both.0)
+act_again : (act : Act) → Unit {0} → act_of (act_words act) ≡ Some act
+unfolding act_of
+act_again Fold fits = refl
 
-pub name_again : (name : List ℕ) → IsTrue (is_name name) → name_of name ≡ Some name
-name_again name right = rw right refl
+act_spaceless : (act : Act) → Unit {0} → list_all has_no_space (act_words act) ≡ true
+act_spaceless Fold fits = refl
 
-pub one_word_found : (fields : List (List ℕ)) (word : List ℕ) → one_word fields ≡ Some word → fields ≡ word ∷ []
-one_word_found [] word h = absurd cc
-one_word_found (first ∷ []) word h = ap (λ (w : List ℕ). w ∷ []) (same_Some first word h)
-one_word_found (first ∷ second ∷ others) word h = absurd cc
+-- an act
+pub act_rest : IsRest act_of act_words (λ act. Unit {0})
+act_rest = record { found = act_found; again = act_again; spaceless = act_spaceless }
 
-pub two_words_found : (fields : List (List ℕ)) (words : List ℕ × List ℕ) → two_words fields ≡ Some words → fields ≡ words.0 ∷ words.1 ∷ []
-two_words_found [] words h = absurd cc
-two_words_found (first ∷ []) words h = absurd cc
-two_words_found (first ∷ second ∷ []) words h = ap (λ (w : List ℕ × List ℕ). w.0 ∷ w.1 ∷ []) (same_Some (first, second) words h)
-two_words_found (first ∷ second ∷ third ∷ others) words h = absurd cc
-
-pub three_words_found : (fields : List (List ℕ)) (words : List ℕ × List ℕ × List ℕ) → three_words fields ≡ Some words → fields ≡ words.0 ∷ words.1 ∷ words.2 ∷ []
-three_words_found [] words h = absurd cc
-three_words_found (first ∷ []) words h = absurd cc
-three_words_found (first ∷ second ∷ []) words h = absurd cc
-three_words_found (first ∷ second ∷ third ∷ []) words h = ap (λ (w : List ℕ × List ℕ × List ℕ). w.0 ∷ w.1 ∷ w.2 ∷ []) (same_Some (first, second, third) words h)
-three_words_found (first ∷ second ∷ third ∷ fourth ∷ others) words h = absurd cc
-
-pub one_number_found : (fields : List (List ℕ)) (n : ℕ) → one_number fields ≡ Some n → (fields ≡ decimal n ∷ []) × IsLineNumber n
-unfolding one_number
-one_number_found fields n h =
-    let word = bind_found (one_word fields) number_of n h in
-    let number = number_found word.0 n word.2 in
-    (one_word_found fields word.0 word.1 ∙ ap (λ (w : List ℕ). w ∷ []) number.1, number.0)
-
-pub one_number_again : (n : ℕ) → IsLineNumber n → one_number (decimal n ∷ []) ≡ Some n
-unfolding one_number
-one_number_again n small = number_of-decimal n small
-
-pub one_game_found : (fields : List (List ℕ)) (game : Game) → one_game fields ≡ Some game → fields ≡ game_word game ∷ []
-unfolding one_game
-one_game_found fields game h =
-    let word = bind_found (one_word fields) game_of game h in
-    one_word_found fields word.0 word.1 ∙ ap (λ (w : List ℕ). w ∷ []) (game_found word.0 game word.2)
-
-pub one_game_again : (game : Game) → one_game (game_word game ∷ []) ≡ Some game
-unfolding one_game
-one_game_again game = game_again game
-
-pub numbers_found : (fields : List (List ℕ)) (numbers : List ℕ) → numbers_of fields ≡ Some numbers → (fields ≡ map decimal numbers) × AllByRecursion IsLineNumber numbers
+numbers_found : (fields : List (List ℕ)) (numbers : List ℕ) → numbers_of fields ≡ Some numbers → (fields ≡ map decimal numbers) × AllByRecursion IsLineNumber numbers
 numbers_found [] numbers h = subst (λ (ns : List ℕ). ([] ≡ map decimal ns) × AllByRecursion IsLineNumber ns) (same_Some [] numbers h) (refl, tt)
 numbers_found (word ∷ words) numbers h =
     let first = bind_found (number_of word) (λ n. numbers_of words >>= λ ns. Some (n ∷ ns)) numbers h in
@@ -111,6 +134,47 @@ numbers_found (word ∷ words) numbers h =
     let whole : word ∷ words ≡ map decimal (first.0 ∷ others.0) = ap (λ (w : List ℕ). w ∷ words) number.1 ∙ ap (λ (ws : List (List ℕ)). decimal first.0 ∷ ws) rest.0 in
     subst (λ (ns : List ℕ). (word ∷ words ≡ map decimal ns) × AllByRecursion IsLineNumber ns) (same_Some (first.0 ∷ others.0) numbers others.2) (whole, (number.0, rest.1))
 
-pub numbers_again : (numbers : List ℕ) → AllByRecursion IsLineNumber numbers → numbers_of (map decimal numbers) ≡ Some numbers
+numbers_again : (numbers : List ℕ) → AllByRecursion IsLineNumber numbers → numbers_of (map decimal numbers) ≡ Some numbers
 numbers_again [] small = refl
 numbers_again (number ∷ numbers) small = rw (number_of-decimal number small.0, numbers_again numbers small.1) refl
+
+shares_found : (words : List (List ℕ)) (shares : List ℕ) → shares_of words ≡ Some shares → (words ≡ map decimal shares) × AreLineShares shares
+unfolding shares_of
+shares_found words shares h =
+    let read = bind_found (numbers_of words) (λ ns. cond (leb 1 (length ns) && leb (length ns) 64) (Some ns) None) shares h in
+    let test = test_found (leb 1 (length read.0) && leb (length read.0) 64) (Some read.0) shares read.2 in
+    let both = and_parts (leb 1 (length read.0)) (leb (length read.0) 64) test.0 in
+    let numbers = numbers_found words read.0 read.1 in
+    let least : 1 ≤ length read.0 = grind (arith, nat_tests, both.0) in
+    let most : length read.0 ≤ 64 = grind (arith, nat_tests, both.1) in
+    subst (λ (ns : List ℕ). (words ≡ map decimal ns) × AreLineShares ns) (same_Some read.0 shares test.1) (numbers.0, (least, most, numbers.1))
+
+shares_again : (shares : List ℕ) → AreLineShares shares → shares_of (map decimal shares) ≡ Some shares
+unfolding shares_of
+shares_again shares fits =
+    let least : leb 1 (length shares) ≡ true = grind (arith, nat_tests, fits.0) in
+    let most : leb (length shares) 64 ≡ true = grind (arith, nat_tests, fits.1) in
+    rw (numbers_again shares fits.2, least, most) refl
+
+-- the shares of the prizes
+pub shares_rest : IsRest shares_of (map decimal) AreLineShares
+shares_rest = record { found = shares_found; again = shares_again; spaceless = λ shares fits. decimals_spaceless shares fits.2 }
+
+-- the first word is the spelling of the field that is read, and the others are left
+pub record IsNext {A : Type 0} (write : A → List ℕ) (Fits : A → Type 0) (words : List (List ℕ)) (read : A × List (List ℕ)) : Type 0 where
+  pub spelling : words ≡ write read.0 ∷ read.1
+  pub fits : Fits read.0
+
+-- a field that is read is the spelling of the first word
+pub next_found : {A : Type 0} (read : List ℕ → Option A) (write : A → List ℕ) (Fits : A → Type 0) → IsField read write Fits → (words : List (List ℕ)) (found : A × List (List ℕ)) → next_by read words ≡ Some found → IsNext write Fits words found
+unfolding next_by
+next_found read write Fits field [] found h = absurd cc
+next_found {A} read write Fits field (word ∷ words) found h =
+    let value = map_found (λ (v : A). (v, words)) (read word) found h in
+    let first = field.found word value.0 value.1 in
+    subst (λ (r : A × List (List ℕ)). IsNext write Fits (word ∷ words) r) value.2 (record { spelling = ap (λ (w : List ℕ). w ∷ words) first.0; fits = first.1 })
+
+-- a field that is spelled is read, and the words behind it are left
+pub next_again : {A : Type 0} (read : List ℕ → Option A) (write : A → List ℕ) (Fits : A → Type 0) → IsField read write Fits → (value : A) (words : List (List ℕ)) → Fits value → next_by read (write value ∷ words) ≡ Some (value, words)
+unfolding next_by
+next_again read write Fits field value words fits = rw (field.again value fits) refl

@@ -3,7 +3,7 @@ use Rattle.std.proofs.Common.{◌≡◌, ℕ, ◌-◌, ◌≤◌, List, [], ◌�
 use Rattle.std.specs.List.{join_with_byte, flat_map}
 use Rattle.std.proofs.lemmas.List.{take_at, take_all, append-nil}
 use Rattle.std.proofs.lemmas.List.Concat.{flat_map-cons}
-use Rattle.floor_events.specs.declared.word.Word.{Word}
+use Rattle.floor_events.specs.declared.line_writer.Word.{Word}
 use Rattle.floor_events.specs.Words.{Extends, word_text}
 
 take_length : (old : List ℕ) → take (length old) old ≡ old

@@ -3,7 +3,7 @@ use Rattle.std.proofs.Common.{◌≡◌, ℕ, ◌<◌, ◌≤◌, true, false, �
 use Rattle.std.proofs.lemmas.Bool.Decides.{nat_tests}
 use Rattle.std.proofs.lemmas.List.{length-append, append-nil}
 use Rattle.floor_text.specs.Numbers.{number_of}
-use Rattle.floor_events.specs.Reading.{◌>>=◌, numbers_of, share_numbers}
+use Rattle.floor_events.specs.Fields.{◌>>=◌, numbers_of, shares_of}
 
 -- numbers before those that are read
 abbrev pub with_front : List ℕ → Option (List ℕ) → Option (List ℕ)
@@ -12,8 +12,8 @@ with_front front others = option_map (λ numbers. front ++ numbers) others
 abbrev checked : Option (List ℕ) → Option (List ℕ)
 checked numbers = numbers >>= λ shares. cond (leb 1 (length shares) && leb (length shares) 64) (Some shares) None
 
-shares_are : (fields : List (List ℕ)) (numbers : Option (List ℕ)) → numbers ≡ numbers_of fields → checked numbers ≡ share_numbers fields
-unfolding share_numbers
+shares_are : (fields : List (List ℕ)) (numbers : Option (List ℕ)) → numbers ≡ numbers_of fields → checked numbers ≡ shares_of fields
+unfolding shares_of
 shares_are fields numbers same = ap checked same
 
 abbrev joined : Option ℕ → Option (List ℕ) → Option (List ℕ)
@@ -31,7 +31,7 @@ one_more front (Some number) None full = refl
 one_more front (Some number) (Some numbers) full = too_long (front ++ number ∷ numbers) (omega (arith, length-append front (number ∷ numbers)))
 
 -- a word more than 64
-pub shares_too_many : (front : List ℕ) (word : List ℕ) (words fields : List (List ℕ)) → length front ≡ 64 → with_front front (numbers_of (word ∷ words)) ≡ numbers_of fields → None ≡ share_numbers fields
+pub shares_too_many : (front : List ℕ) (word : List ℕ) (words fields : List (List ℕ)) → length front ≡ 64 → with_front front (numbers_of (word ∷ words)) ≡ numbers_of fields → None ≡ shares_of fields
 shares_too_many front word words fields full read =
     one_more front (number_of word) (numbers_of words) full ∙ shares_are fields (with_front front (numbers_of (word ∷ words))) read
 
@@ -40,12 +40,12 @@ no_number front None others none = refl
 no_number front (Some number) others none = absurd cc
 
 -- a word that is no number
-pub shares_unread : (front : List ℕ) (word : List ℕ) (words fields : List (List ℕ)) → None ≡ number_of word → with_front front (numbers_of (word ∷ words)) ≡ numbers_of fields → None ≡ share_numbers fields
+pub shares_unread : (front : List ℕ) (word : List ℕ) (words fields : List (List ℕ)) → None ≡ number_of word → with_front front (numbers_of (word ∷ words)) ≡ numbers_of fields → None ≡ shares_of fields
 shares_unread front word words fields none read =
     no_number front (number_of word) (numbers_of words) none ∙ shares_are fields (with_front front (numbers_of (word ∷ words))) read
 
 -- no number
-pub shares_none : (fields : List (List ℕ)) → with_front [] (numbers_of []) ≡ numbers_of fields → None ≡ share_numbers fields
+pub shares_none : (fields : List (List ℕ)) → with_front [] (numbers_of []) ≡ numbers_of fields → None ≡ shares_of fields
 shares_none fields read = shares_are fields (Some []) read
 
 within : (shares : List ℕ) → 1 ≤ length shares → length shares ≤ 64 → Some shares ≡ checked (Some shares)
@@ -55,6 +55,6 @@ within shares some few =
     rw (least, most) refl
 
 -- 1 to 64 numbers
-pub shares_all : (front : List ℕ) (fields : List (List ℕ)) → 1 ≤ length front → length front ≤ 64 → with_front front (numbers_of []) ≡ numbers_of fields → Some front ≡ share_numbers fields
+pub shares_all : (front : List ℕ) (fields : List (List ℕ)) → 1 ≤ length front → length front ≤ 64 → with_front front (numbers_of []) ≡ numbers_of fields → Some front ≡ shares_of fields
 shares_all front fields some few read =
     within front some few ∙ shares_are fields (Some front) (ap (λ (numbers : List ℕ). Some numbers) (sym (append-nil front)) ∙ read)

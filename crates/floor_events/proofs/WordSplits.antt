@@ -7,7 +7,7 @@ use Rattle.std.proofs.lemmas.List.Splits.{slice_split_first}
 use Rattle.std.proofs.lemmas.Option.{cond_some}
 use Rattle.std.specs.Option.{is_some, option_copied}
 use Rattle.floor_events.specs.Words.{words_of_line, words_of_rest}
-use Rattle.floor_events.specs.Reading.{no_word}
+use Rattle.floor_events.specs.Words.{no_word}
 
 -- the byte between two words
 abbrev pub is_space : ℕ → Bool

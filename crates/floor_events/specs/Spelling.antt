@@ -78,7 +78,11 @@ event_text event = join_with_byte 32 (event_words event)
 abbrev pub item_text : Item → List ℕ
 item_text (found.Event event) = event_text event
 
--- the numbers of a plan line are those of a line, and 1 to 64 shares stand in one
+-- 1 to 64 numbers stand in a line of shares
+abbrev pub AreLineShares : List ℕ → Type 0
+AreLineShares shares = (1 ≤ length shares) × (length shares ≤ 64) × AllByRecursion IsLineNumber shares
+
+-- the numbers of a plan line are those of a line
 abbrev pub HasLineNumbers : PlanLine → Type 0
 HasLineNumbers (lines.Game game) = Unit {0}
 HasLineNumbers (lines.Tables n) = IsLineNumber n
@@ -87,7 +91,7 @@ HasLineNumbers (lines.Stack n) = IsLineNumber n
 HasLineNumbers (lines.Buyin n) = IsLineNumber n
 HasLineNumbers (lines.Late n) = IsLineNumber n
 HasLineNumbers (lines.Blinds small big unit) = IsLineNumber small × IsLineNumber big × IsLineNumber unit
-HasLineNumbers (lines.Shares shares) = (1 ≤ length shares) × (length shares ≤ 64) × AllByRecursion IsLineNumber shares
+HasLineNumbers (lines.Shares shares) = AreLineShares shares
 
 -- the parts of an event are such as a line may hold
 abbrev pub HasLineParts : Event → Type 0

@@ -6,22 +6,22 @@
 #![tactic(auto)]
 
 mod answer;
-mod answers;
+mod answer_writer;
 mod event;
 mod fields;
-mod keyword;
-mod read;
+mod item_reader;
+mod line_words;
+mod line_writer;
 mod report;
-mod reports;
-mod word;
-mod words;
+mod report_writer;
+mod share_list;
 
 pub use answer::Answer;
-pub use answers::write_answer;
+pub use answer_writer::write_answer;
 pub use event::{Event, Item, Place};
-pub use read::read_item;
+pub use item_reader::read_item;
 pub use report::{Report, ReportOut, ReportSeat};
-pub use reports::write_report;
+pub use report_writer::write_report;
 
 #[cfg(test)]
 mod tests;

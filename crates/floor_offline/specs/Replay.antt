@@ -8,7 +8,7 @@ use Rattle.floor_events.specs.declared.answer.Answer.TheVariants.{No}
 use Rattle.floor_events.specs.declared.event.Event.{Event as EventOfLine}
 use Rattle.floor_events.specs.declared.event.Item.{Item}
 use Rattle.floor_events.specs.declared.event.Item.TheVariants.{Event}
-use Rattle.floor_events.specs.Reading.{item_of_line}
+use Rattle.floor_events.specs.Grammar.{item_of_line}
 use Rattle.floor_events.specs.Spelling.{answer_text, report_text}
 use Rattle.floor_core.specs.State.{State, first_state}
 use Rattle.floor_core.specs.Step.{answer_to, state_after}

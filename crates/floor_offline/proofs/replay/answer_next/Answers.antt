@@ -2,7 +2,7 @@ use Rattle.std.proofs.Common.{◌≡◌, ◌∙◌, refl, ap, [], ◌∷◌}
 use Rattle.std.specs.Prelude.{Some, None}
 use Rattle.floor_text.specs.declared.refusal.Refusal.TheVariants.{Syntax}
 use Rattle.floor_events.specs.declared.answer.Answer.TheVariants.{No}
-use Rattle.floor_events.specs.Reading.{item_of_line}
+use Rattle.floor_events.specs.Grammar.{item_of_line}
 use Rattle.floor_events.specs.Spelling.{answer_text}
 use Rattle.floor_offline.specs.Replay.{answer_to_item, state_after_item}
 use Rattle.floor_offline.proofs.Promises.{keeps_lines, says_nothing, text_from-cons}

@@ -1,0 +1,61 @@
+-- How the fields of a line are read: a field is one word, and the last field of a row may be all words that are
+-- left. This project's own.
+use Rattle.std.specs.Prelude.{ℕ, ◌&&◌, nat_le, List, [], ◌∷◌, length, codes, Option, Some, None, option_map, option_and_then, if◌then◌else◌}
+use Rattle.std.specs.Str.{bytes_eq}
+use Rattle.floor_text.specs.Names.{is_name}
+use Rattle.floor_text.specs.Numbers.{number_of}
+use Rattle.card_set.specs.declared.game.Game.{Game}
+use Rattle.card_set.specs.declared.game.Game.TheVariants.{Holdem, Omaha, Hilo}
+use Rattle.betting_round.specs.declared.act.Act.{Act}
+use Rattle.betting_round.specs.declared.act.Act.TheVariants.{Fold}
+
+-- a step, and what follows where it found something
+infixl 10 ◌>>=◌
+abbrev pub ◌>>=◌ : {A B : Type 0} → Option A → (A → Option B) → Option B
+o >>= f = option_and_then f o
+
+-- a word is looked up in a list of words, each with what it stands for
+abbrev pub meaning : {A : Type 0} → List (List ℕ × A) → List ℕ → Option A
+meaning [] word = None
+meaning (entry ∷ entries) word = if bytes_eq word entry.0 then Some entry.1 else meaning entries word
+
+-- the words of the games
+abbrev pub game_list : List (List ℕ × Game)
+game_list = (codes "holdem", Holdem) ∷ (codes "omaha", Omaha) ∷ (codes "hilo", Hilo) ∷ []
+
+-- the game that a word names
+abbrev pub game_of : List ℕ → Option Game
+game_of word = meaning game_list word
+
+-- the name that a word is
+abbrev pub name_of : List ℕ → Option (List ℕ)
+name_of word = if is_name word then Some word else None
+
+-- the first word read as a field, and the words behind it
+unfoldable pub next_by : {A : Type 0} → (List ℕ → Option A) → List (List ℕ) → Option (A × List (List ℕ))
+next_by read [] = None
+next_by read (word ∷ words) = option_map (λ value. (value, words)) (read word)
+
+-- the words of the acts: so far folding is the only one
+abbrev pub act_list : List (List ℕ × Act)
+act_list = (codes "fold", Fold) ∷ []
+
+-- the act that the words left name
+unfoldable pub act_of : List (List ℕ) → Option Act
+act_of [] = None
+act_of (word ∷ []) = meaning act_list word
+act_of (word ∷ second ∷ words) = None
+
+-- the numbers of all words that are left, where each is a number
+abbrev pub numbers_of : List (List ℕ) → Option (List ℕ)
+numbers_of [] = Some []
+numbers_of (word ∷ words) = do
+  first ← number_of word
+  others ← numbers_of words
+  Some (first ∷ others)
+
+-- the shares that the words left are: 1 to 64 numbers
+unfoldable pub shares_of : List (List ℕ) → Option (List ℕ)
+shares_of words = do
+  shares ← numbers_of words
+  if nat_le 1 (length shares) && nat_le (length shares) 64 then Some shares else None

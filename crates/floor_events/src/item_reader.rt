@@ -1,0 +1,116 @@
+//! Lines are read as items.
+
+ghost use Rattle.std.specs.Prelude.{◌≡◌, Some, IfOk, OnErr, IfSome, IsSome, option_and_then};
+ghost use Rattle.std.specs.Bool.{then_some};
+ghost use Rattle.std.specs.Str.{bytes_eq};
+ghost use Rattle.floor_events.specs.declared.event.Item.{Item};
+ghost use Rattle.floor_events.specs.Words.{no_word};
+ghost use Rattle.floor_events.specs.Grammar.{plain_rows, grammar, event_by, item_of_words, item_of_line};
+ghost use Rattle.floor_events.specs.Spelling.{IsWritable, item_text};
+
+use crate::event::{Event, Item};
+use crate::line_words::Words;
+use crate::share_list::read_shares;
+use level_plan::PlanLine;
+use std::alloc::{AllocError, Global};
+
+/// The longest line of the grammar, in bytes.
+const LONGEST: usize = 400;
+
+fn is(word: &[u8], text: &[u8]) -> bool
+    ensures { result ≡ bytes_eq word.now text.now }
+{
+    word == text
+}
+
+/// Reads an event without a list by its first word, and leaves the words behind its fields.
+#[tactic(auto, unfolding(crate::specs::Grammar::fields0, crate::specs::Grammar::fields1, crate::specs::Grammar::fields2, crate::specs::Grammar::fields3, crate::specs::Grammar::rest0, crate::specs::Grammar::rest1, crate::specs::Grammar::rest2))]
+fn read_fields(word: &[u8], line: &mut Words<'_>) -> Option<Event>
+    ensures { option_and_then (λ event. then_some (no_word line.new) event) result ≡ event_by plain_rows word.now line.old }
+{
+    match word {
+        _ if is(word, b"game") => Some(Event::Plan(PlanLine::Game(line.game()?))),
+        _ if is(word, b"tables") => Some(Event::Plan(PlanLine::Tables(line.number()?))),
+        _ if is(word, b"seats") => Some(Event::Plan(PlanLine::Seats(line.number()?))),
+        _ if is(word, b"stack") => Some(Event::Plan(PlanLine::Stack(line.number()?))),
+        _ if is(word, b"buyin") => Some(Event::Plan(PlanLine::Buyin(line.number()?))),
+        _ if is(word, b"late") => Some(Event::Plan(PlanLine::Late(line.number()?))),
+        _ if is(word, b"blinds") => Some(Event::Plan(PlanLine::Blinds {
+            small: line.number()?,
+            big: line.number()?,
+            unit: line.number()?,
+        })),
+        _ if is(word, b"go") => Some(Event::Go),
+        _ if is(word, b"enter") => Some(Event::Enter {
+            name: line.name()?,
+            table: line.number()?,
+            seat: line.number()?,
+        }),
+        _ if is(word, b"begin") => Some(Event::Begin {
+            table: line.number()?,
+            row: line.row()?,
+        }),
+        _ if is(word, b"act") => Some(Event::Act {
+            table: line.number()?,
+            name: line.name()?,
+            act: line.act()?,
+        }),
+        _ if is(word, b"settle") => Some(Event::Settle {
+            table: line.number()?,
+        }),
+        _ if is(word, b"stop") => Some(Event::Stop),
+        _ => None,
+    }
+}
+
+fn read_plain(word: &[u8], line: &mut Words<'_>) -> Option<Event>
+    ensures { result ≡ event_by plain_rows word.now line.old }
+{
+    let event = read_fields(word, line)?;
+    line.is_done().then_some(event)
+}
+
+fn read_event(alloc: Global, word: &[u8], line: &mut Words<'_>) -> Result<Option<Event>, AllocError>
+    ensures exact { IfOk result (λ found. found ≡ event_by grammar word.now line.old) }
+    ensures err { OnErr result (IsSome (event_by grammar word.now line.old)) }
+{
+    if is(word, b"shares") {
+        return read_shares(alloc, line);
+    }
+    Ok(read_plain(word, line))
+}
+
+#[tactic(auto, unfolding(crate::specs::Grammar::item_of_words))]
+fn read_words(alloc: Global, line: &mut Words<'_>) -> Result<Option<Item>, AllocError>
+    ensures exact { IfOk result (λ found. found ≡ item_of_words line.old) }
+    ensures err { OnErr result (IsSome (item_of_words line.old)) }
+{
+    let Some(word) = line.next_word() else {
+        return Ok(None);
+    };
+    Ok(read_event(alloc, word, line)?.map(Item::Event))
+}
+
+#[tactic(auto, unfolding(crate::specs::Grammar::item_of_line))]
+fn read_line(alloc: Global, line: &[u8]) -> Result<Option<Item>, AllocError>
+    ensures exact { IfOk result (λ found. found ≡ item_of_line line.now) }
+    ensures err { OnErr result (IsSome (item_of_line line.now)) }
+{
+    if line.len() > LONGEST {
+        return Ok(None);
+    }
+    read_words(alloc, &mut Words::of_line(line))
+}
+
+/// Reads a line, without its line feed. `None` exactly where it is not in the grammar; memory is wanted only
+/// where it is.
+pub fn read_item(alloc: Global, line: &[u8]) -> Result<Option<Item>, AllocError>
+    ensures exact { IfOk result (λ found. found ≡ item_of_line line.now) }
+    ensures err { OnErr result (IsSome (item_of_line line.now)) }
+    // What is read is writable and spelled so.
+    ensures found { IfOk result (λ found. IfSome found (λ item. IsWritable item × (line.now ≡ item_text item))) }
+    // What is writable and spelled so is read.
+    ensures only { (item : Item) → IsWritable item → line.now ≡ item_text item → IfOk result (λ found. found ≡ Some item) }
+{
+    read_line(alloc, line)
+}

@@ -1,0 +1,113 @@
+//! The words of a line that is read.
+
+ghost use Rattle.std.specs.Prelude.{◌≡◌, ◌==◌, Some, None, [], ◌∷◌, MatchOption};
+ghost use Rattle.std.specs.List.{position};
+ghost use Rattle.floor_text.specs.Numbers.{number_of};
+ghost use Rattle.card_set.specs.Cards.{row_of};
+ghost use Rattle.floor_events.specs.Words.{words_of_line, no_word};
+ghost use Rattle.floor_events.specs.Fields.{name_of, game_of, act_of, next_by};
+
+use crate::fields::{read_act, read_game, read_name};
+use betting_round::Act;
+use card_set::{CardRow, Game, read_row};
+use floor_text::{Name, read_number};
+use std::marker::Model;
+
+/// The byte between two words.
+const SPACE: u8 = b' ';
+
+fn first_space(bytes: &[u8]) -> Option<usize>
+    ensures { result ≡ position (λ byte. byte == 32) bytes.now }
+{
+    bytes.iter().position(|byte| *byte == SPACE)
+}
+
+/// The words of a line that are still to be read. Contracts see it as their list.
+#[derive(Debug, Drop)]
+pub struct Words<'a> {
+    rest: Option<&'a [u8]>,
+}
+
+impl<'a> Model for Words<'a> {
+    ghost use Rattle.std.specs.Prelude.{ℕ, List};
+    ghost use Rattle.std.specs.Option.{option_copied};
+    ghost use Rattle.floor_events.specs.Words.{words_of_rest};
+
+    ghost Value = { List (List ℕ) };
+
+    ghost view = { λ words. words_of_rest (option_copied words.rest) };
+}
+
+impl<'a> Words<'a> {
+    /// Gives all words of a line: the pieces between its spaces, empty ones too.
+    pub fn of_line(line: &'a [u8]) -> Words<'a>
+        ensures { result ≡ words_of_line line.now }
+    {
+        Words { rest: Some(line) }
+    }
+
+    /// Whether no word is left.
+    pub fn is_done(&self) -> bool
+        ensures { result ≡ no_word self.now }
+    {
+        self.rest.is_none()
+    }
+
+    /// Takes the next word, or gives `None` where no word is left.
+    pub fn next_word(&mut self) -> Option<&'a [u8]>
+        ensures { MatchOption result ((self.old ≡ []) × (self.new ≡ [])) (λ word. self.old ≡ word.now ∷ self.new) }
+    {
+        let rest = self.rest?;
+        match first_space(rest) {
+            Some(space) => {
+                self.rest = Some(&rest[space + 1..]);
+                Some(&rest[..space])
+            }
+            None => {
+                self.rest = None;
+                Some(rest)
+            }
+        }
+    }
+
+    /// Takes the next word as a number.
+    #[tactic(auto, unfolding(crate::specs::Fields::next_by))]
+    pub fn number(&mut self) -> Option<u64>
+        ensures { MatchOption result (next_by number_of self.old ≡ None) (λ n. next_by number_of self.old ≡ Some (n, self.new)) }
+    {
+        read_number(self.next_word()?)
+    }
+
+    /// Takes the next word as a player's name.
+    #[tactic(auto, unfolding(crate::specs::Fields::next_by))]
+    pub fn name(&mut self) -> Option<Name>
+        ensures { MatchOption result (next_by name_of self.old ≡ None) (λ name. next_by name_of self.old ≡ Some (name, self.new)) }
+    {
+        read_name(self.next_word()?)
+    }
+
+    /// Takes the next word as a game.
+    #[tactic(auto, unfolding(crate::specs::Fields::next_by))]
+    pub fn game(&mut self) -> Option<Game>
+        ensures { MatchOption result (next_by game_of self.old ≡ None) (λ game. next_by game_of self.old ≡ Some (game, self.new)) }
+    {
+        read_game(self.next_word()?)
+    }
+
+    /// Takes the next word as a row of cards.
+    #[tactic(auto, unfolding(crate::specs::Fields::next_by))]
+    pub fn row(&mut self) -> Option<CardRow>
+        ensures { MatchOption result (next_by row_of self.old ≡ None) (λ row. next_by row_of self.old ≡ Some (row, self.new)) }
+    {
+        read_row(self.next_word()?)
+    }
+
+    /// Takes all words that are left as an act.
+    #[tactic(auto, unfolding(crate::specs::Fields::act_of))]
+    pub fn act(&mut self) -> Option<Act>
+        ensures { MatchOption result (act_of self.old ≡ None) (λ act. (act_of self.old ≡ Some act) × (self.new ≡ [])) }
+    {
+        let act = read_act(self.next_word()?)?;
+        if self.is_done() { Some(act) } else { None }
+    }
+}
