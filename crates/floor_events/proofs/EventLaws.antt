@@ -8,13 +8,14 @@ use Rattle.std.specs.Option.{IfSome}
 use Rattle.std.proofs.lemmas.Bool.Decides.{nat_tests}
 use Rattle.std.proofs.lemmas.List.Splits.{join_with_byte-slice_split}
 use Rattle.std.proofs.lemmas.Slice.Eq.{bytes_eq-Decides}
+use Rattle.floor_text.specs.declared.limits.TheConstants.{LONGEST_LINE}
 use Rattle.level_plan.specs.declared.line.PlanLine.TheVariants as lines
 use Rattle.floor_events.specs.declared.event.Event.{Event}
 use Rattle.floor_events.specs.declared.event.Event.TheVariants as events
 use Rattle.floor_events.specs.declared.event.Item.{Item}
 use Rattle.floor_events.specs.declared.event.Item.TheVariants as found
 use Rattle.floor_events.specs.Words.{words_of_line}
-use Rattle.floor_events.specs.Grammar.{Reader, grammar, event_by, event_of_words, item_of_words, item_of_line}
+use Rattle.floor_events.specs.Grammar.{Reader, grammar, event_by, event_of_words, item_of_words, item_of_bytes}
 use Rattle.floor_events.specs.Spelling.{event_words, event_text, item_text, HasLineParts, IsWritable}
 use Rattle.floor_events.proofs.FieldLaws.{map_found, test_found, number_field, name_field, game_field, row_field, act_rest, shares_rest}
 use Rattle.floor_events.proofs.RowLaws.{Spells, Reads, row0, row1, row2, row3, row0_rest, row2_rest, fields0_again, fields1_again, fields2_again, fields3_again, rest0_again, rest2_again}
@@ -98,25 +99,25 @@ words_found [] event h = absurd cc
 words_found (word ∷ words) event h = event_found grammar word words event own_rows h
 
 -- what is read from a line is writable and spelled so
-pub line_found : (line : List ℕ) (item : Item) → item_of_line line ≡ Some item → IsWritable item × (line ≡ item_text item)
-unfolding item_of_line item_of_words
+pub line_found : (line : List ℕ) (item : Item) → item_of_bytes line ≡ Some item → IsWritable item × (line ≡ item_text item)
+unfolding item_of_bytes item_of_words
 line_found line item h =
-    let test = test_found (leb (length line) 400) (item_of_words (words_of_line line)) item h in
+    let test = test_found (leb (length line) LONGEST_LINE) (item_of_words (words_of_line line)) item h in
     let read = map_found found.Event (event_of_words (words_of_line line)) item test.1 in
     let spelled = words_found (words_of_line line) read.0 read.1 in
     let text : line ≡ event_text read.0 = sym (join_with_byte-slice_split 32 line) ∙ ap (join_with_byte 32) spelled.spelling in
-    let short : length line ≤ 400 = grind (arith, nat_tests, test.0) in
-    let few : length (event_text read.0) ≤ 400 = subst (λ (l : List ℕ). length l ≤ 400) text short in
+    let short : length line ≤ LONGEST_LINE = grind (arith, nat_tests, test.0) in
+    let few : length (event_text read.0) ≤ LONGEST_LINE = subst (λ (l : List ℕ). length l ≤ LONGEST_LINE) text short in
     subst (λ (i : Item). IsWritable i × (line ≡ item_text i)) read.2 ((spelled.parts, few), text)
 
 -- what is read from a line, if something is, is writable and spelled so
-pub found_in_line : (line : List ℕ) (read : Option Item) → read ≡ item_of_line line → IfSome read (λ item. IsWritable item × (line ≡ item_text item))
+pub found_in_line : (line : List ℕ) (read : Option Item) → read ≡ item_of_bytes line → IfSome read (λ item. IsWritable item × (line ≡ item_text item))
 found_in_line line None same = tt
 found_in_line line (Some item) same = line_found line item (sym same)
 
 -- what is writable is read from its text
-pub line_again : (item : Item) → IsWritable item → item_of_line (item_text item) ≡ Some item
-unfolding item_of_line item_of_words
+pub line_again : (item : Item) → IsWritable item → item_of_bytes (item_text item) ≡ Some item
+unfolding item_of_bytes item_of_words
 line_again (found.Event event) writable =
-    let short : leb (length (event_text event)) 400 ≡ true = grind (arith, nat_tests, writable.1) in
+    let short : leb (length (event_text event)) LONGEST_LINE ≡ true = grind (arith, nat_tests, writable.1) in
     rw (short, words_of_text event writable.0) (ap (option_map found.Event) (again event writable.0))

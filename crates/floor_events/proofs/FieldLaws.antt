@@ -15,6 +15,7 @@ use Rattle.card_set.specs.declared.game.Game.{Game}
 use Rattle.card_set.specs.declared.game.Game.TheVariants.{Holdem, Omaha, Hilo}
 use Rattle.card_set.specs.Cards.{row_text, row_of}
 use Rattle.card_set.proofs.RowReading.{row_found, row_again}
+use Rattle.level_plan.specs.declared.bounds.TheConstants.{MOST_SHARES}
 use Rattle.betting_round.specs.declared.act.Act.{Act}
 use Rattle.betting_round.specs.declared.act.Act.TheVariants.{Fold}
 use Rattle.floor_events.specs.Spelling.{game_word, act_words, AreLineShares}
@@ -141,19 +142,19 @@ numbers_again (number ∷ numbers) small = rw (number_of-decimal number small.0,
 shares_found : (words : List (List ℕ)) (shares : List ℕ) → shares_of words ≡ Some shares → (words ≡ map decimal shares) × AreLineShares shares
 unfolding shares_of
 shares_found words shares h =
-    let read = bind_found (numbers_of words) (λ ns. cond (leb 1 (length ns) && leb (length ns) 64) (Some ns) None) shares h in
-    let test = test_found (leb 1 (length read.0) && leb (length read.0) 64) (Some read.0) shares read.2 in
-    let both = and_parts (leb 1 (length read.0)) (leb (length read.0) 64) test.0 in
+    let read = bind_found (numbers_of words) (λ ns. cond (leb 1 (length ns) && leb (length ns) MOST_SHARES) (Some ns) None) shares h in
+    let test = test_found (leb 1 (length read.0) && leb (length read.0) MOST_SHARES) (Some read.0) shares read.2 in
+    let both = and_parts (leb 1 (length read.0)) (leb (length read.0) MOST_SHARES) test.0 in
     let numbers = numbers_found words read.0 read.1 in
     let least : 1 ≤ length read.0 = grind (arith, nat_tests, both.0) in
-    let most : length read.0 ≤ 64 = grind (arith, nat_tests, both.1) in
+    let most : length read.0 ≤ MOST_SHARES = grind (arith, nat_tests, both.1) in
     subst (λ (ns : List ℕ). (words ≡ map decimal ns) × AreLineShares ns) (same_Some read.0 shares test.1) (numbers.0, (least, most, numbers.1))
 
 shares_again : (shares : List ℕ) → AreLineShares shares → shares_of (map decimal shares) ≡ Some shares
 unfolding shares_of
 shares_again shares fits =
     let least : leb 1 (length shares) ≡ true = grind (arith, nat_tests, fits.0) in
-    let most : leb (length shares) 64 ≡ true = grind (arith, nat_tests, fits.1) in
+    let most : leb (length shares) MOST_SHARES ≡ true = grind (arith, nat_tests, fits.1) in
     rw (numbers_again shares fits.2, least, most) refl
 
 -- the shares of the prizes

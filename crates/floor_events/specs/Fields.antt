@@ -6,6 +6,7 @@ use Rattle.floor_text.specs.Names.{is_name}
 use Rattle.floor_text.specs.Numbers.{number_of}
 use Rattle.card_set.specs.declared.game.Game.{Game}
 use Rattle.card_set.specs.declared.game.Game.TheVariants.{Holdem, Omaha, Hilo}
+use Rattle.level_plan.specs.declared.bounds.TheConstants.{MOST_SHARES}
 use Rattle.betting_round.specs.declared.act.Act.{Act}
 use Rattle.betting_round.specs.declared.act.Act.TheVariants.{Fold}
 
@@ -58,4 +59,4 @@ numbers_of (word ∷ words) = do
 unfoldable pub shares_of : List (List ℕ) → Option (List ℕ)
 shares_of words = do
   shares ← numbers_of words
-  if nat_le 1 (length shares) && nat_le (length shares) 64 then Some shares else None
+  if nat_le 1 (length shares) && nat_le (length shares) MOST_SHARES then Some shares else None

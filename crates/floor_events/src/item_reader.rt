@@ -5,17 +5,15 @@ ghost use Rattle.std.specs.Bool.{then_some};
 ghost use Rattle.std.specs.Str.{bytes_eq};
 ghost use Rattle.floor_events.specs.declared.event.Item.{Item};
 ghost use Rattle.floor_events.specs.Words.{no_word};
-ghost use Rattle.floor_events.specs.Grammar.{plain_rows, grammar, event_by, item_of_words, item_of_line};
+ghost use Rattle.floor_events.specs.Grammar.{plain_rows, grammar, event_by, item_of_words, item_of_bytes};
 ghost use Rattle.floor_events.specs.Spelling.{IsWritable, item_text};
 
 use crate::event::{Event, Item};
 use crate::line_words::Words;
 use crate::share_list::read_shares;
+use floor_text::LONGEST_LINE;
 use level_plan::PlanLine;
 use std::alloc::{AllocError, Global};
-
-/// The longest line of the grammar, in bytes.
-const LONGEST: usize = 400;
 
 fn is(word: &[u8], text: &[u8]) -> bool
     ensures { result ≡ bytes_eq word.now text.now }
@@ -91,12 +89,12 @@ fn read_words(alloc: Global, line: &mut Words<'_>) -> Result<Option<Item>, Alloc
     Ok(read_event(alloc, word, line)?.map(Item::Event))
 }
 
-#[tactic(auto, unfolding(crate::specs::Grammar::item_of_line))]
+#[tactic(auto, unfolding(crate::specs::Grammar::item_of_bytes))]
 fn read_line(alloc: Global, line: &[u8]) -> Result<Option<Item>, AllocError>
-    ensures exact { IfOk result (λ found. found ≡ item_of_line line.now) }
-    ensures err { OnErr result (IsSome (item_of_line line.now)) }
+    ensures exact { IfOk result (λ found. found ≡ item_of_bytes line.now) }
+    ensures err { OnErr result (IsSome (item_of_bytes line.now)) }
 {
-    if line.len() > LONGEST {
+    if line.len() > LONGEST_LINE {
         return Ok(None);
     }
     read_words(alloc, &mut Words::of_line(line))
@@ -105,8 +103,8 @@ fn read_line(alloc: Global, line: &[u8]) -> Result<Option<Item>, AllocError>
 /// Reads a line, without its line feed. `None` exactly where it is not in the grammar; memory is wanted only
 /// where it is.
 pub fn read_item(alloc: Global, line: &[u8]) -> Result<Option<Item>, AllocError>
-    ensures exact { IfOk result (λ found. found ≡ item_of_line line.now) }
-    ensures err { OnErr result (IsSome (item_of_line line.now)) }
+    ensures exact { IfOk result (λ found. found ≡ item_of_bytes line.now) }
+    ensures err { OnErr result (IsSome (item_of_bytes line.now)) }
     // What is read is writable and spelled so.
     ensures found { IfOk result (λ found. IfSome found (λ item. IsWritable item × (line.now ≡ item_text item))) }
     // What is writable and spelled so is read.

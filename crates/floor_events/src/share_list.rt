@@ -9,14 +9,11 @@ ghost use Rattle.floor_events.specs.Grammar.{rest0};
 use crate::event::Event;
 use crate::line_words::Words;
 use floor_text::{List, read_number};
-use level_plan::PlanLine;
+use level_plan::{MOST_SHARES, PlanLine};
 use std::alloc::{AllocError, Global};
 
-/// The most shares that one line may hold.
-const MOST_SHARES: usize = 64;
-
 fn share_numbers(line: &mut Words<'_>, shares: &mut [u64; MOST_SHARES]) -> Option<usize>
-    ensures room { IfSome result (λ count. count ≤ 64) }
+    ensures room { IfSome result (λ count. count ≤ MOST_SHARES) }
     ensures shares { option_map (λ count. take count shares.new) result ≡ shares_of line.old }
 {
     let mut count = 0;

@@ -8,7 +8,7 @@ use Rattle.floor_events.specs.declared.answer.Answer.TheVariants.{No}
 use Rattle.floor_events.specs.declared.event.Event.{Event as EventOfLine}
 use Rattle.floor_events.specs.declared.event.Item.{Item}
 use Rattle.floor_events.specs.declared.event.Item.TheVariants.{Event}
-use Rattle.floor_events.specs.Grammar.{item_of_line}
+use Rattle.floor_events.specs.Grammar.{item_of_bytes}
 use Rattle.floor_events.specs.Spelling.{answer_text, report_text}
 use Rattle.floor_core.specs.State.{State, first_state}
 use Rattle.floor_core.specs.Step.{answer_to, state_after}
@@ -16,7 +16,7 @@ use Rattle.floor_core.specs.Report.{report_of}
 
 -- the item of a line, where the line is not too long and in the grammar
 abbrev pub item_of_cut : Option (List ℕ) → Option Item
-item_of_cut line = option_and_then item_of_line line
+item_of_cut line = option_and_then item_of_bytes line
 
 -- an item is answered by the step; a line that holds none is refused as no line of the grammar
 abbrev pub answer_to_item : State → Option Item → Answer

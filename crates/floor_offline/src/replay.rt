@@ -4,7 +4,7 @@ ghost use Rattle.std.specs.Prelude.{◌≡◌, ◌≤◌, ◌<◌, ◌++◌, Lis
 ghost use Rattle.floor_text.specs.Outside.{Rose};
 ghost use Rattle.floor_text.specs.Reading.{bytes_ahead};
 ghost use Rattle.floor_events.specs.Spelling.{answer_text};
-ghost use Rattle.floor_events.specs.Grammar.{item_of_line};
+ghost use Rattle.floor_events.specs.Grammar.{item_of_bytes};
 ghost use Rattle.floor_offline.specs.Endings.{input_limit, IsOfWriting};
 ghost use Rattle.floor_offline.specs.Replay.{answer_to_item, state_after_item, final_text, replay_text};
 ghost use Rattle.floor_offline.specs.Promise.{whole_text, Keeps, Counts, GivesMore};
@@ -24,8 +24,8 @@ fn answer_line(
     tournament: &mut Tournament,
     line: &[u8],
 ) -> Result<Answer, AllocError>
-    ensures answer { IfOk result (λ answer. answer ≡ answer_to_item tournament.old (item_of_line line.now)) }
-    ensures state { OnOk result (tournament.new ≡ state_after_item tournament.old (item_of_line line.now)) }
+    ensures answer { IfOk result (λ answer. answer ≡ answer_to_item tournament.old (item_of_bytes line.now)) }
+    ensures state { OnOk result (tournament.new ≡ state_after_item tournament.old (item_of_bytes line.now)) }
 {
     match read_item(alloc, line)? {
         Some(Item::Event(event)) => tournament.apply(&event),

@@ -1,5 +1,6 @@
 -- Bytes that were taken from a source and wait in a buffer. This project's own.
-use Rattle.std.specs.Prelude.{◌≡◌, ℕ, ◌<◌, ◌≤◌, List, ◌++◌, length, take, drop, slice_index, Option, Some}
+use Rattle.std.specs.Prelude.{◌≡◌, ℕ, ◌+◌, ◌<◌, ◌≤◌, List, ◌++◌, length, take, drop, slice_index, Option, Some}
+use Rattle.floor_text.specs.declared.limits.TheConstants.{BLOCK, KEPT}
 use Rattle.floor_text.specs.Lines.{HasNoFeed}
 
 -- the bytes that wait, and the line handed out last
@@ -7,11 +8,11 @@ pub record Holding : Type 0 where
   pub held : List ℕ
   pub line : List ℕ
 
--- a buffer takes a block of 65536 bytes behind the 401 that may be kept of a line
+-- a buffer takes a block of bytes behind those that may be kept of a line
 abbrev pub buffer_length : ℕ
-buffer_length = 65937
+buffer_length = BLOCK + KEPT
 
--- the places of what waits and of the line lie in the buffer
+-- what waits and the line lie in the buffer
 pub record IsHolding (length start end line_start line_end : ℕ) : Type 0 where
   pub size : length ≡ buffer_length
   pub order : start ≤ end

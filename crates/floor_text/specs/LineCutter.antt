@@ -1,6 +1,7 @@
 -- A cutter of lines, byte by byte. This project's own.
 use Rattle.std.specs.Prelude.{ℕ, nat_lt, List, [], ◌∷◌, ◌++◌, length, Option, Some, None, if◌then◌else◌}
 use Rattle.floor_text.specs.Lines.{is_line_feed}
+use Rattle.floor_text.specs.declared.limits.TheConstants.{KEPT}
 use Rattle.floor_text.specs.declared.line_cutter.Cut.{Cut}
 use Rattle.floor_text.specs.declared.line_cutter.Cut.TheVariants.{Line, TooLong}
 
@@ -10,6 +11,6 @@ lines_of_cut None line = []
 lines_of_cut (Some Line) line = Some line ∷ []
 lines_of_cut (Some TooLong) line = None ∷ []
 
--- what is begun after one more byte: nothing after a line feed; else the byte is added, unless 401 are there
+-- what is begun after one more byte: nothing after a line feed; else the byte is added, unless as many are there as are kept
 abbrev pub begun_after : List ℕ → ℕ → List ℕ
-begun_after begun byte = if is_line_feed byte then [] else (if nat_lt (length begun) 401 then begun ++ byte ∷ [] else begun)
+begun_after begun byte = if is_line_feed byte then [] else (if nat_lt (length begun) KEPT then begun ++ byte ∷ [] else begun)

@@ -1,10 +1,11 @@
 -- A source and a sink in memory. This project's own.
 use Rattle.std.specs.Prelude.{ℕ, ◌+◌, ◌≤◌, Bool, ◌==◌, List, min}
 use Rattle.std.specs.List.{list_any}
+use Rattle.floor_text.specs.Outside.{last_count}
 
 -- one more, unless the count stands at the end of its type
 abbrev pub count_up : ℕ → ℕ
-count_up n = min (n + 1) 18446744073709551615
+count_up n = min (n + 1) last_count
 
 -- whether the number of the call after so many calls is among those that fail
 abbrev pub next_fails : List ℕ → ℕ → Bool

@@ -1,9 +1,13 @@
 -- The outside: where bytes come from and go to, and how often it failed. This project's own.
 use Rattle.std.specs.Prelude.{◌≡◌, ℕ, ◌<◌, ◌≤◌, ◌⊎◌, ◌++◌, List, length, take, drop, Option, Some, Result, IsErr, MatchResult}
 
+-- the last value of a count, where it can rise no more
+abbrev pub last_count : ℕ
+last_count = 18446744073709551615
+
 -- A count of faults rose: it is greater than before, or it stands at its last value, where it can rise no more.
 abbrev pub Rose : ℕ → ℕ → Type 0
-Rose before now = (before < now) ⊎ (18446744073709551615 ≤ now)
+Rose before now = (before < now) ⊎ (last_count ≤ now)
 
 -- A failure has its cause in this very object: its count never falls, and it rose where the call failed.
 pub record HasCause {T E : Type 0} (before now : ℕ) (result : Result T E) : Type 0 where

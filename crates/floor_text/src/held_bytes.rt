@@ -5,15 +5,10 @@ ghost use Rattle.floor_text.specs.HeldBytes.{IsFirstFeed, Fills, Gives};
 ghost use Rattle.floor_text.specs.Lines.{HasNoFeed, is_line_feed};
 ghost use Rattle.floor_text.specs.Outside.{HasCause};
 
+use crate::limits::{BLOCK, KEPT};
 use crate::outside::{Failed, Source};
 use std::alloc::{AllocError, Global};
 use std::marker::Model;
-
-/// How many bytes are asked of a source at once.
-pub const BLOCK: usize = 65_536;
-
-/// As many bytes of a line begun are kept as show that it is too long.
-const KEPT: usize = 401;
 
 /// Bytes that wait, in a buffer of one size. The line handed out last stays in it for a while.
 #[derive(Drop)]
@@ -59,7 +54,7 @@ fn take_at<S: Source>(
 }
 
 impl HeldBytes {
-    /// No bytes. It takes the room that it needs.
+    /// Makes a buffer in which no byte waits. It takes the room that it needs.
     pub fn new(alloc: Global) -> Result<HeldBytes, AllocError>
         ensures { IfOk result (λ bytes. (bytes.held ≡ []) × (bytes.line ≡ [])) }
     {
@@ -72,21 +67,21 @@ impl HeldBytes {
         })
     }
 
-    /// How many bytes wait.
+    /// Counts the bytes that wait.
     pub fn len(&self) -> usize
         ensures { result ≡ length self.now.held }
     {
         self.end - self.start
     }
 
-    /// The line handed out last.
+    /// Gives the line handed out last.
     pub fn line(&self) -> &[u8]
         ensures { result.now ≡ self.now.line }
     {
         &self.buffer[self.line_start..self.line_end]
     }
 
-    /// The place of the first line feed from one place up to another.
+    /// Finds the index of the first line feed from one index up to another.
     pub fn feed_between(&self, from: usize, to: usize) -> Option<usize>
         requires order { from ≤ to }
         requires within { to ≤ length self.now.held }
@@ -112,11 +107,11 @@ impl HeldBytes {
     /// Asks the source for so many bytes and puts them behind the first 401 that wait. Answers how many
     /// came.
     pub fn fill<S: Source>(&mut self, source: &mut S, ask: usize) -> Result<usize, Failed>
-        requires { ask ≤ 65536 }
-        ensures count { IfOk result (λ n. (n ≤ ask) × (length self.new.held ≡ length (take 401 self.old.held) + n)) }
-        ensures front { take (length (take 401 self.old.held)) self.new.held ≡ take 401 self.old.held }
-        ensures bytes { IfOk result (λ n. IfSome (S.left source.old) (λ bytes. Fills (take 401 self.old.held) bytes (S.left source.new) self.new.held ask n)) }
-        ensures kept { OnErr result (self.new.held ≡ take 401 self.old.held) }
+        requires { ask ≤ BLOCK }
+        ensures count { IfOk result (λ n. (n ≤ ask) × (length self.new.held ≡ length (take KEPT self.old.held) + n)) }
+        ensures front { take (length (take KEPT self.old.held)) self.new.held ≡ take KEPT self.old.held }
+        ensures bytes { IfOk result (λ n. IfSome (S.left source.old) (λ bytes. Fills (take KEPT self.old.held) bytes (S.left source.new) self.new.held ask n)) }
+        ensures kept { OnErr result (self.new.held ≡ take KEPT self.old.held) }
         ensures left { OnErr result (S.left source.new ≡ S.left source.old) }
         ensures cause { HasCause (S.faults source.old) (S.faults source.new) result }
     {

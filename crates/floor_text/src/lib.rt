@@ -9,6 +9,7 @@
 
 mod adapters;
 mod held_bytes;
+mod limits;
 mod line_cutter;
 mod line_reader;
 mod list;
@@ -21,6 +22,7 @@ mod refusal;
 mod tests;
 
 pub use adapters::{ReaderSource, WriterSink};
+pub use limits::{GREATEST_NUMBER, LONGEST_LINE, LONGEST_NAME};
 pub use line_cutter::{Cut, LineCutter};
 pub use line_reader::{LineReader, Next, ReadEnd};
 pub use list::List;

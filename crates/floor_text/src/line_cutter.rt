@@ -3,15 +3,10 @@
 ghost use Rattle.std.specs.Prelude.{◌≡◌, ◌≤◌, ◌↔◌, ◌<◌, ℕ, List, [], ◌∷◌, ◌++◌, length, Some, IsSome, IfOk};
 ghost use Rattle.floor_text.specs.Lines.{HasNoFeed, cut_line, lines_of_bytes};
 
+use crate::limits::{KEPT, LONGEST_LINE};
 use std::alloc::{AllocError, Global};
 use std::marker::Model;
 use std::mem;
-
-/// The longest line, in bytes without its line feed.
-const LONGEST: usize = 400;
-
-/// As many bytes of a longer line are kept as show that it is longer.
-const KEPT: usize = 401;
 
 /// What ended at a line feed or at the end.
 #[derive(Clone, Copy, Debug, PartialEq, Eq)]
@@ -44,7 +39,7 @@ impl Model for LineCutter {
 impl LineCutter {
     ghost use Rattle.floor_text.specs.LineCutter.{lines_of_cut, begun_after};
 
-    /// A cutter to which no byte came. It takes the room that it needs.
+    /// Makes a cutter to which no byte came. It takes the room that it needs.
     pub fn new(alloc: Global) -> Result<LineCutter, AllocError>
         ensures { IfOk result (λ cutter. (cutter.begun ≡ []) × (cutter.line ≡ [])) }
     {
@@ -60,7 +55,7 @@ impl LineCutter {
         ensures lines { (rest : List ℕ) → lines_of_bytes (self.old.begun ++ byte ∷ rest)
             ≡ lines_of_cut result self.new.line ++ lines_of_bytes (self.new.begun ++ rest) }
         ensures answers { IsSome result ↔ (byte ≡ 10) }
-        ensures short { (result ≡ Some Cut.Line) ↔ ((byte ≡ 10) × (length self.old.begun ≤ 400)) }
+        ensures short { (result ≡ Some Cut.Line) ↔ ((byte ≡ 10) × (length self.old.begun ≤ LONGEST_LINE)) }
         ensures line { result ≡ Some Cut.Line → self.new.line ≡ self.old.begun }
         ensures begun { self.new.begun ≡ begun_after self.old.begun byte }
     {
@@ -77,7 +72,7 @@ impl LineCutter {
     pub fn end(&mut self) -> Option<Cut>
         ensures lines { lines_of_bytes self.old.begun ≡ lines_of_cut result self.new.line }
         ensures answers { IsSome result ↔ (0 < length self.old.begun) }
-        ensures short { (result ≡ Some Cut.Line) ↔ ((0 < length self.old.begun) × (length self.old.begun ≤ 400)) }
+        ensures short { (result ≡ Some Cut.Line) ↔ ((0 < length self.old.begun) × (length self.old.begun ≤ LONGEST_LINE)) }
         ensures line { result ≡ Some Cut.Line → self.new.line ≡ self.old.begun }
         ensures begun { self.new.begun ≡ [] }
     {
@@ -87,7 +82,7 @@ impl LineCutter {
         Some(self.cut())
     }
 
-    /// The bytes of the line handed out last. They stay until the next byte comes.
+    /// Gives the bytes of the line handed out last. They stay until the next byte comes.
     pub fn line(&self) -> &[u8]
         ensures { result.now ≡ self.now.line }
     {
@@ -98,10 +93,10 @@ impl LineCutter {
     fn cut(&mut self) -> Cut
         ensures feed { HasNoFeed self.old.begun }
         ensures line { lines_of_cut (Some result) self.new.line ≡ cut_line self.old.begun ∷ [] }
-        ensures short { (result ≡ Cut.Line) ↔ (length self.old.begun ≤ 400) }
+        ensures short { (result ≡ Cut.Line) ↔ (length self.old.begun ≤ LONGEST_LINE) }
         ensures begun { self.new.begun ≡ [] }
     {
-        if self.begun.len() > LONGEST {
+        if self.begun.len() > LONGEST_LINE {
             self.begun.clear();
             return Cut::TooLong;
         }

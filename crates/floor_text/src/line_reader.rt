@@ -6,13 +6,11 @@ ghost use Rattle.floor_text.specs.Lines.{HasNoFeed, cut_line, lines_of_bytes};
 ghost use Rattle.floor_text.specs.Outside.{Rose};
 ghost use Rattle.floor_text.specs.Reading.{bytes_ahead, held_within};
 
-use crate::held_bytes::{BLOCK, HeldBytes};
+use crate::held_bytes::HeldBytes;
+use crate::limits::{BLOCK, LONGEST_LINE};
 use crate::outside::{Failed, Source};
 use std::alloc::{AllocError, Global};
 use std::marker::Model;
-
-/// The longest line, in bytes without its line feed.
-const LONGEST: usize = 400;
 
 /// What a reader found.
 #[derive(Clone, Copy, Debug, PartialEq, Eq)]
@@ -59,7 +57,7 @@ impl Model for LineReader {
 impl LineReader {
     ghost use Rattle.floor_text.specs.LineReader.{Reads, lines_of_next};
 
-    /// A reader that took nothing yet, and will take at most one byte more than the limit. It takes the
+    /// Makes a reader that took nothing yet, and will take at most one byte more than the limit. It takes the
     /// room that it needs.
     pub fn new(alloc: Global, limit: u64) -> Result<LineReader, AllocError>
         ensures { IfOk result (λ reader. reader ≡ record { held = []; line = []; taken = 0; limit = limit }) }
@@ -106,7 +104,7 @@ impl LineReader {
         }
     }
 
-    /// The bytes of the line handed out last, after `Line` until the next call of `next_line`.
+    /// Gives the bytes of the line handed out last, after `Line` until the next call of `next_line`.
     pub fn line(&self) -> &[u8]
         ensures { result.now ≡ self.now.line }
     {
@@ -144,7 +142,7 @@ impl LineReader {
         ensures line_or_long { result ≢ Next.End }
     {
         self.bytes.hand_out(line, ending);
-        if line > LONGEST {
+        if line > LONGEST_LINE {
             return Next::TooLong;
         }
         Next::Line

@@ -5,21 +5,20 @@ ghost use Rattle.std.specs.List.{list_all};
 ghost use Rattle.std.specs.Str.{bytes_eq};
 ghost use Rattle.floor_text.specs.Names.{is_name, is_name_byte};
 
+use crate::limits::LONGEST_NAME;
 use std::marker::Model;
-
-/// The longest name, in characters.
-const LONGEST: usize = 16;
 
 /// A player's name: a letter, then letters, digits or `_`, 1 to 16 characters, and not `floor`.
 /// Case counts. Contracts see it as its bytes.
 #[derive(Clone, Copy, Debug)]
 pub struct Name {
-    bytes: [u8; 16],
+    bytes: [u8; LONGEST_NAME],
     len: usize,
 }
 
 impl Model for Name {
     ghost use Rattle.std.specs.Prelude.{◌-◌, ◌++◌, ℕ, List, length, take, replicate};
+    ghost use Rattle.floor_text.specs.declared.limits.TheConstants.{LONGEST_NAME};
     ghost use Rattle.floor_text.specs.Names.{IsKept, length_kept, padded_again};
 
     ghost Value = { List ℕ };
@@ -28,7 +27,7 @@ impl Model for Name {
 
     ghost invariant = { λ n. IsKept n.bytes n.len };
 
-    ghost inverse = { λ name. record { bytes = name ++ replicate (16 - length name) 0; len = length name } };
+    ghost inverse = { λ name. record { bytes = name ++ replicate (LONGEST_NAME - length name) 0; len = length name } };
 
     ghost inverse_ok = { λ n kept i. record { bytes = padded_again kept i; len = length_kept kept i } };
 }
@@ -53,7 +52,7 @@ fn is_name(bytes: &[u8]) -> bool
     };
     first.is_ascii_alphabetic()
         && are_name_bytes(bytes)
-        && bytes.len() <= LONGEST
+        && bytes.len() <= LONGEST_NAME
         && bytes != b"floor".as_slice()
 }
 
@@ -66,7 +65,7 @@ impl Name {
         if !is_name(bytes) {
             return None;
         }
-        let mut padded = [0; LONGEST];
+        let mut padded = [0; LONGEST_NAME];
         padded[..bytes.len()].copy_from_slice(bytes);
         Some(Name {
             bytes: padded,
@@ -74,7 +73,7 @@ impl Name {
         })
     }
 
-    /// The name's bytes.
+    /// Gives the name's bytes.
     pub fn bytes(&self) -> &[u8]
         ensures same { result.now ≡ self.now }
         ensures name { IsTrue (is_name self.now) }

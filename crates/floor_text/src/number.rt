@@ -6,8 +6,7 @@ ghost use Rattle.std.specs.Fmt.{decimal};
 ghost use Rattle.std.specs.List.{list_all};
 ghost use Rattle.floor_text.specs.Numbers.{IsLineNumber, is_spelled, number_of};
 
-/// The greatest number that a line may hold.
-const GREATEST: u64 = 9_007_199_254_740_991;
+use crate::limits::GREATEST_NUMBER;
 
 fn are_digits(bytes: &[u8]) -> bool
     ensures { result ≡ list_all is_ascii_digit bytes.now }
@@ -39,7 +38,7 @@ pub fn read_number(bytes: &[u8]) -> Option<u64>
     let mut number = 0u64;
     for digit in bytes {
         number = 10 * number + u64::from(digit - b'0');
-        if number > GREATEST {
+        if number > GREATEST_NUMBER {
             return None;
         }
     }

@@ -2,8 +2,9 @@
 use Rattle.std.specs.Prelude.{ℕ, ◌-◌, ◌%◌, Bool, ◌==◌, ◌&&◌, nat_le, List, length, slice_get}
 use Rattle.std.specs.Option.{option_map_or}
 use Rattle.card_set.specs.declared.game.Game.{Game}
+use Rattle.level_plan.specs.declared.bounds.TheConstants.{FEWEST_SEATS, GREATEST_AMOUNT, MOST_LEVELS, MOST_SEATS, MOST_TABLES}
 use Rattle.level_plan.specs.declared.plan.Blind.{Blind}
-use Rattle.level_plan.specs.Items.{is_between, greatest_amount, are_levels, are_shares}
+use Rattle.level_plan.specs.Items.{is_between, are_levels, are_shares}
 
 -- What a plan says.
 pub record PlanTerms : Type 0 where
@@ -22,4 +23,4 @@ unit_of_level blinds level = option_map_or (λ blind. blind.unit) (slice_get bli
 
 -- Each item is lawful, `late` is one of the levels, of which there are at most 40, and the stack is a multiple of that level's unit.
 abbrev pub is_right : PlanTerms → Bool
-is_right plan = is_between 1 64 plan.tables && (is_between 2 10 plan.seats && (is_between 1 greatest_amount plan.stack && (nat_le plan.buyin greatest_amount && (is_between 1 (length plan.blinds) plan.late && (nat_le (length plan.blinds) 40 && (are_levels plan.blinds && (are_shares plan.shares && plan.stack % unit_of_level plan.blinds plan.late == 0)))))))
+is_right plan = is_between 1 MOST_TABLES plan.tables && (is_between FEWEST_SEATS MOST_SEATS plan.seats && (is_between 1 GREATEST_AMOUNT plan.stack && (nat_le plan.buyin GREATEST_AMOUNT && (is_between 1 (length plan.blinds) plan.late && (nat_le (length plan.blinds) MOST_LEVELS && (are_levels plan.blinds && (are_shares plan.shares && plan.stack % unit_of_level plan.blinds plan.late == 0)))))))

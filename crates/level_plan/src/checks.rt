@@ -5,13 +5,8 @@ ghost use Rattle.std.specs.List.{list_all};
 ghost use Rattle.level_plan.specs.Items.{is_between, is_next_unit, is_blind, may_follow, is_falling, are_shares};
 ghost use Rattle.level_plan.specs.Plans.{unit_of_level};
 
+use crate::bounds::{GREATEST_AMOUNT, MOST_SHARES, WHOLE_POOL};
 use crate::plan::Blind;
-
-/// The greatest stack, buy-in, blind and unit, in chips.
-pub const GREATEST_AMOUNT: u64 = 1_000_000_000;
-
-/// The most levels of a plan.
-pub const MOST_LEVELS: usize = 40;
 
 /// Whether a number is from `low` to `high`, both included.
 pub fn is_between(low: u64, high: u64, n: u64) -> bool
@@ -51,7 +46,7 @@ pub fn may_follow(blinds: &[Blind], blind: Blind) -> bool
     }
 }
 
-/// The unit of a level, from level 1 on; 1 where there is no such level.
+/// Gives the unit of a level, from level 1 on; 1 where there is no such level.
 pub fn unit_of_level(blinds: &[Blind], level: u64) -> u64
     requires { 1 ≤ level }
     ensures { result ≡ unit_of_level blinds.now level }
@@ -71,17 +66,17 @@ fn is_falling(numbers: &[u64]) -> bool
 
 /// Whether each share is 1 to 1000 thousandths.
 fn are_thousandths(shares: &[u64]) -> bool
-    ensures { result ≡ list_all (is_between 1 1000) shares.now }
+    ensures { result ≡ list_all (is_between 1 WHOLE_POOL) shares.now }
 {
-    shares.iter().all(|share| is_between(1, 1000, *share))
+    shares.iter().all(|share| is_between(1, WHOLE_POOL, *share))
 }
 
 /// Whether the shares are together at most the whole pool, 1000.
 fn is_within_pool(shares: &[u64]) -> bool
     requires { sum shares.now < 2 ^ 64 }
-    ensures { result ≡ nat_le (sum shares.now) 1000 }
+    ensures { result ≡ nat_le (sum shares.now) WHOLE_POOL }
 {
-    shares.iter().sum::<u64>() <= 1000
+    shares.iter().sum::<u64>() <= WHOLE_POOL
 }
 
 /// Whether the shares are lawful: 1 to 64 of them, each 1 to 1000, none greater than the one before,
@@ -89,7 +84,7 @@ fn is_within_pool(shares: &[u64]) -> bool
 pub fn are_shares(shares: &[u64]) -> bool
     ensures { result ≡ are_shares shares.now }
 {
-    is_between(1, 64, shares.len() as u64)
+    is_between(1, MOST_SHARES as u64, shares.len() as u64)
         && are_thousandths(shares)
         && is_falling(shares)
         && is_within_pool(shares)

@@ -5,9 +5,8 @@ ghost use Rattle.level_plan.specs.Items.{is_blind, may_follow, are_shares};
 ghost use Rattle.level_plan.specs.Drafts.{empty_draft, is_wrong_line, item_of_line, line_fault, draft_after, go_fault, plan_of, IsFault};
 ghost use Rattle.level_plan.specs.Plans.{is_right};
 
-use crate::checks::{
-    GREATEST_AMOUNT, MOST_LEVELS, are_shares, is_between, is_blind, may_follow, unit_of_level,
-};
+use crate::bounds::{FEWEST_SEATS, GREATEST_AMOUNT, MOST_LEVELS, MOST_SEATS, MOST_TABLES};
+use crate::checks::{are_shares, is_between, is_blind, may_follow, unit_of_level};
 use crate::line::{PlanFault, PlanItem, PlanLine};
 use crate::plan::{Blind, Plan};
 use card_set::Game;
@@ -41,7 +40,7 @@ impl Model for PlanDraft {
     ghost invariant = { λ fields. IsLawful (draft_of fields) };
 }
 
-/// A list of the same items.
+/// Copies a list.
 fn copy_of<T: Copy>(alloc: Global, list: &List<T>) -> Result<List<T>, AllocError>
     ensures { IfOk result (λ copy. copy ≡ list.now) }
 {
@@ -49,7 +48,7 @@ fn copy_of<T: Copy>(alloc: Global, list: &List<T>) -> Result<List<T>, AllocError
 }
 
 impl PlanDraft {
-    /// A draft of which nothing is given. It takes no memory.
+    /// Makes a draft of which nothing is given. It takes no memory.
     pub fn new(alloc: Global) -> PlanDraft
         ensures { result ≡ empty_draft }
     {
@@ -72,11 +71,11 @@ impl PlanDraft {
     {
         match line {
             PlanLine::Game(_) => self.game.is_some(),
-            PlanLine::Tables(n) => self.tables.is_some() || !is_between(1, 64, *n),
-            PlanLine::Seats(n) => self.seats.is_some() || !is_between(2, 10, *n),
+            PlanLine::Tables(n) => self.tables.is_some() || !is_between(1, MOST_TABLES, *n),
+            PlanLine::Seats(n) => self.seats.is_some() || !is_between(FEWEST_SEATS, MOST_SEATS, *n),
             PlanLine::Stack(n) => self.stack.is_some() || !is_between(1, GREATEST_AMOUNT, *n),
             PlanLine::Buyin(n) => self.buyin.is_some() || *n > GREATEST_AMOUNT,
-            PlanLine::Late(n) => self.late.is_some() || !is_between(1, 40, *n),
+            PlanLine::Late(n) => self.late.is_some() || !is_between(1, MOST_LEVELS as u64, *n),
             PlanLine::Blinds { small, big, unit } => {
                 let blind = Blind {
                     small: *small,
@@ -92,7 +91,7 @@ impl PlanDraft {
 
     /// Adds the next level. Want of memory leaves the draft as it was.
     fn add_level(&mut self, blind: Blind) -> Result<(), AllocError>
-        requires room { length self.old.blinds < 40 }
+        requires room { length self.old.blinds < MOST_LEVELS }
         requires lawful { is_blind blind ≡ true }
         requires follows { may_follow self.old.blinds blind ≡ true }
         ensures ok { OnOk result (self.new ≡ record self.old { blinds = self.old.blinds ++ blind ∷ [] }) }
@@ -152,7 +151,7 @@ impl PlanDraft {
         Ok(())
     }
 
-    /// The plan, if it is whole and right. It is `Wrong` with the first missing item, of game, tables, seats,
+    /// Makes the plan, if it is whole and right. It is `Wrong` with the first missing item, of game, tables, seats,
     /// stack, buyin, late, blinds and shares; else with `Late` where `late` is above the number of levels;
     /// else with `Stack` where the stack is no multiple of the unit of level `late`. `NoMemory` is want of
     /// memory for a plan that is right.
@@ -179,7 +178,7 @@ impl PlanDraft {
         })
     }
 
-    /// The wrong item of what is given, where that is no right plan.
+    /// Finds the wrong item of what is given, where that is no right plan.
     fn fault(&self) -> Option<PlanItem>
         ensures { result ≡ go_fault self.now }
     {

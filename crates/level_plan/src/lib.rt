@@ -5,6 +5,7 @@
 //! is right by its type.
 #![tactic(auto)]
 
+mod bounds;
 mod checks;
 mod draft;
 mod line;
@@ -12,6 +13,9 @@ mod plan;
 #[cfg(test)]
 mod tests;
 
+pub use bounds::{
+    FEWEST_SEATS, GREATEST_AMOUNT, MOST_LEVELS, MOST_SEATS, MOST_SHARES, MOST_TABLES, WHOLE_POOL,
+};
 pub use draft::PlanDraft;
 pub use line::{PlanFault, PlanItem, PlanLine};
 pub use plan::{Blind, Plan};

@@ -65,7 +65,7 @@ pub enum PlanLine {
 impl PlanLine {
     ghost use Rattle.level_plan.specs.Drafts.{item_of_line};
 
-    /// The item that the line gives.
+    /// Names the item that the line gives.
     pub(crate) fn item(&self) -> PlanItem
         ensures { result ≡ item_of_line self.now }
     {

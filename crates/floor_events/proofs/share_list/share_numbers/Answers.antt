@@ -1,5 +1,6 @@
 use Rattle.std.proofs.Common.{◌≡◌, [], length, take, sym, ap, ◌∙◌, arith}
 use Rattle.std.proofs.lemmas.List.{length-take}
+use Rattle.level_plan.specs.declared.bounds.TheConstants.{MOST_SHARES}
 use Rattle.floor_events.specs.Fields.{numbers_of}
 use Rattle.floor_events.proofs.Shares.{with_front, shares_too_many, shares_unread, shares_none, shares_all}
 use Rattle.floor_events.proofs.share_list.share_numbers.Goals as goal
@@ -7,7 +8,7 @@ use Rattle.floor_events.proofs.share_list.share_numbers.Goals as goal
 pub returns-then-count-eq-MOST_SHARES-clause-shares : goal.returns-then-count-eq-MOST_SHARES-clause-shares
 returns-then-count-eq-MOST_SHARES-clause-shares c =
     let front = take c.loop-word.count c.loop-word.shares in
-    let full : length front ≡ 64 = omega (arith, length-take c.loop-word.count c.loop-word.shares) in
+    let full : length front ≡ MOST_SHARES = omega (arith, length-take c.loop-word.count c.loop-word.shares) in
     let read = ap (λ words. with_front front (numbers_of words)) (sym c.in-Some.ensures) ∙ c.loop-word.invariant.2 in
     shares_too_many front c.in-Some.word.now c.next_word.new.self c.args.line.now full read
 

@@ -2,7 +2,7 @@ use Rattle.std.proofs.Common.{◌≡◌, ◌∙◌, refl, ap, [], ◌∷◌}
 use Rattle.std.specs.Prelude.{Some, None}
 use Rattle.floor_text.specs.declared.refusal.Refusal.TheVariants.{Syntax}
 use Rattle.floor_events.specs.declared.answer.Answer.TheVariants.{No}
-use Rattle.floor_events.specs.Grammar.{item_of_line}
+use Rattle.floor_events.specs.Grammar.{item_of_bytes}
 use Rattle.floor_events.specs.Spelling.{answer_text}
 use Rattle.floor_offline.specs.Replay.{answer_to_item, state_after_item}
 use Rattle.floor_offline.proofs.Promises.{keeps_lines, says_nothing, text_from-cons}
@@ -30,15 +30,15 @@ returns-clause-keeps g c = elim c.match-branch-2.branch [
       (λ items. text_from-cons c.args.tournament.now None items))
   | in-Line+in_ok-answer-in-Line w ↦
       let line = c.next_line.new.self.line in
-      let answer : c.match-branch-2.answer ≡ answer_to_item c.args.tournament.now (item_of_line line) =
-      w.answer-is ∙ w.in_ok-answer-in-Line.ensures.answer ∙ ap (λ bytes. answer_to_item c.args.tournament.now (item_of_line bytes)) w.line.ensures in
-      let state : c.match-branch-2.tournament ≡ state_after_item c.args.tournament.now (item_of_line line) =
-      w.tournament-is ∙ w.in_ok-answer-in-Line.ensures.state ∙ ap (λ bytes. state_after_item c.args.tournament.now (item_of_line bytes)) w.line.ensures in
+      let answer : c.match-branch-2.answer ≡ answer_to_item c.args.tournament.now (item_of_bytes line) =
+      w.answer-is ∙ w.in_ok-answer-in-Line.ensures.answer ∙ ap (λ bytes. answer_to_item c.args.tournament.now (item_of_bytes bytes)) w.line.ensures in
+      let state : c.match-branch-2.tournament ≡ state_after_item c.args.tournament.now (item_of_bytes line) =
+      w.tournament-is ∙ w.in_ok-answer-in-Line.ensures.state ∙ ap (λ bytes. state_after_item c.args.tournament.now (item_of_bytes bytes)) w.line.ensures in
       rw state
-      (keeps_lines c.args.tournament.now (state_after_item c.args.tournament.now (item_of_line line)) c.args.reader.now c.next_line.new.self
+      (keeps_lines c.args.tournament.now (state_after_item c.args.tournament.now (item_of_bytes line)) c.args.reader.now c.next_line.new.self
       (g.I.Source.left c.args.input.now) (g.I.Source.left c.next_line.new.source) (g.O.Sink.written c.args.out.now) (g.O.Sink.written c.put_answer.new.out)
-      (Some line ∷ []) (answer_text (answer_to_item c.args.tournament.now (item_of_line line)))
+      (Some line ∷ []) (answer_text (answer_to_item c.args.tournament.now (item_of_bytes line)))
       (rw w.in-Line.is at c.in_ok-next_line.ensures.reads)
       (rw answer at c.in_ok-put_answer.ensures.ok)
-      (λ items. text_from-cons c.args.tournament.now (item_of_line line) items))
+      (λ items. text_from-cons c.args.tournament.now (item_of_bytes line) items))
 ]

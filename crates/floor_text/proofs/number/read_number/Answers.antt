@@ -10,8 +10,8 @@ pub returns-then-not-is_spelled-clause-only : goal.returns-then-not-is_spelled-c
 returns-then-not-is_spelled-clause-only c =
     λ n small same. let spelled = spelled_from_decimal c.args.bytes.now n (omega arith) same in cc
 
-pub returns-then-number-gt-GREATEST-clause-only : goal.returns-then-number-gt-GREATEST-clause-only
-returns-then-number-gt-GREATEST-clause-only c =
+pub returns-then-number-gt-GREATEST_NUMBER-clause-only : goal.returns-then-number-gt-GREATEST_NUMBER-clause-only
+returns-then-number-gt-GREATEST_NUMBER-clause-only c =
     λ n small same.
     let spelled : is_spelled c.args.bytes.now ≡ true = sym c.is_spelled.ensures ∙ c.if-not-is_spelled.false in
     let next = digits_value_next c.args.bytes.now c.loop-digit.digit-index (digits_from_spelled c.args.bytes.now spelled) c.loop-digit-test.true in
@@ -41,8 +41,8 @@ returns-clause-only c =
 pub returns-then-not-is_spelled-clause-exact : goal.returns-then-not-is_spelled-clause-exact
 returns-then-not-is_spelled-clause-exact c = sym (number_of-unspelled c.args.bytes.now cc)
 
-pub returns-then-number-gt-GREATEST-clause-exact : goal.returns-then-number-gt-GREATEST-clause-exact
-returns-then-number-gt-GREATEST-clause-exact c =
+pub returns-then-number-gt-GREATEST_NUMBER-clause-exact : goal.returns-then-number-gt-GREATEST_NUMBER-clause-exact
+returns-then-number-gt-GREATEST_NUMBER-clause-exact c =
     let spelled : is_spelled c.args.bytes.now ≡ true = sym c.is_spelled.ensures ∙ c.if-not-is_spelled.false in
     let next = digits_value_next c.args.bytes.now c.loop-digit.digit-index (digits_from_spelled c.args.bytes.now spelled) c.loop-digit-test.true in
     sym (number_of-great c.args.bytes.now (c.loop-digit.digit-index + 1) (digits_value 10 (take (c.loop-digit.digit-index + 1) c.args.bytes.now)) refl (omega arith))
