@@ -6,10 +6,6 @@ use Rattle.floor_text.specs.declared.line_reader.ReadEnd.TheVariants.{ReadFault,
 use Rattle.floor_offline.specs.declared.fault.Fault.{Fault}
 use Rattle.floor_offline.specs.declared.fault.Fault.TheVariants as faults
 
--- the most bytes that an input may have
-abbrev pub input_limit : ℕ
-input_limit = 268435456
-
 -- the exit status of a run that ended by a fault
 abbrev pub fault_status : Fault → ℕ
 fault_status faults.Usage = 2

@@ -5,7 +5,7 @@ ghost use Rattle.floor_text.specs.Outside.{Rose};
 ghost use Rattle.floor_text.specs.Reading.{bytes_ahead};
 ghost use Rattle.floor_events.specs.Spelling.{answer_text};
 ghost use Rattle.floor_events.specs.Grammar.{item_of_bytes};
-ghost use Rattle.floor_offline.specs.Endings.{input_limit, IsOfWriting};
+ghost use Rattle.floor_offline.specs.Endings.{IsOfWriting};
 ghost use Rattle.floor_offline.specs.Replay.{answer_to_item, state_after_item, final_text, replay_text};
 ghost use Rattle.floor_offline.specs.Promise.{whole_text, Keeps, Counts, GivesMore};
 
@@ -16,7 +16,7 @@ use floor_text::{LineReader, Next, Refusal, Sink, Source};
 use std::alloc::{AllocError, Global};
 
 /// The most bytes that an input may have.
-const INPUT_LIMIT: u64 = 268_435_456;
+pub const INPUT_LIMIT: u64 = 268_435_456;
 
 /// The answer to a line of at most 400 bytes.
 fn answer_line(
@@ -117,8 +117,8 @@ fn answer_next<I: Source, O: Sink>(
 pub fn replay<I: Source, O: Sink>(alloc: Global, input: &mut I, out: &mut O) -> Result<(), Fault>
     ensures end { OnOk result (IfSome (I.left input.old) (λ _. I.left input.new ≡ Some [])) }
     ensures text { OnOk result (IfSome (I.left input.old) (λ bytes. IfSome (O.written out.old) (λ before. O.written out.new ≡ Some (before ++ replay_text bytes)))) }
-    ensures within { OnOk result (IfSome (I.left input.old) (λ bytes. length bytes ≤ input_limit)) }
-    ensures too_long { IsErrOf result Fault.InputTooLong → GivesMore input_limit (I.left input.old) (I.left input.new) }
+    ensures within { OnOk result (IfSome (I.left input.old) (λ bytes. length bytes ≤ INPUT_LIMIT)) }
+    ensures too_long { IsErrOf result Fault.InputTooLong → GivesMore INPUT_LIMIT (I.left input.old) (I.left input.new) }
     ensures read { IsErrOf result Fault.Read → Rose (I.faults input.old) (I.faults input.new) }
     ensures write { IsErrOf result Fault.Write → Rose (O.faults out.old) (O.faults out.new) }
     ensures words { IsErrOf result Fault.Usage → ⊥ }
