@@ -52,3 +52,21 @@ pub(crate) fn add_note(
     let added = inside.value_mut().notes.push(note).is_ok();
     (lock.leave(inside), added)
 }
+
+/// Adds a note, if there is memory for it, and promises nothing of it: here `leave` alone sees to the history.
+pub(crate) fn jot(
+    rt: &impl Wait,
+    lock: &HistoryLock<Diary>,
+    pass: Pass<Diary>,
+    page: u32,
+) -> Pass<Diary>
+    requires { lock_of pass ≡ lock_id lock.now }
+{
+    let mut inside = lock.enter(rt, pass);
+    let jotted = Note {
+        caller: inside.number(),
+        page,
+    };
+    let _ = inside.value_mut().notes.push(jotted);
+    lock.leave(inside)
+}

@@ -13,7 +13,7 @@ use std::sync::Wait;
 const LOW: u64 = 0xffff_ffff;
 
 impl<V: Grows> HistoryLock<V> {
-    /// The count of entries, as it was loaded now. It waits for nobody, and takes no memory.
+    /// Loads the count of entries now. It waits for nobody, and takes no memory.
     pub fn news(&self, pass: &mut Pass<V>) -> u64
         requires { lock_of pass.old ≡ lock_id self.now }
 
@@ -34,7 +34,12 @@ impl<V: Grows> HistoryLock<V> {
     /// It parks only while no wake was called since it began, so a wake between its last load and the park ends the park.
     pub fn await_news<R: Wait>(&self, rt: &R, pass: Pass<V>) -> Pass<V>
         requires { lock_of pass ≡ lock_id self.now }
-        ensures { IsSameButKnown pass result }
+
+        // What the pass knows from now on was loaded in this call.
+        ensures not_below_known { known pass ≤ known result }
+        ensures not_below_seen { length (seen pass) ≤ known result }
+
+        ensures same { IsSameButKnown pass result }
     {
         let mut pass = pass;
         let steps = &self.table.shared;

@@ -3,7 +3,7 @@ ghost use Rattle.std.specs.Prelude.{◌≡◌, ◌<◌, ◌≤◌, [], All, IfOk
 ghost use Rattle.history_lock.specs.Passes.{lock_id, lock_of};
 
 use super::*;
-use crate::diary::{Diary, Note, add_note};
+use crate::diary::{Diary, Note, add_note, jot};
 use std::alloc::{AllocError, Global};
 use std::process::Abort;
 use std::sync::Wait;
@@ -145,6 +145,19 @@ fn news_counts_what_another_added(rt: HostRuntime) -> Result<(), Fail> {
     passes.push(first)?;
     passes.push(second)?;
     assert!(rt; lock.close(passes).is_ok());
+    Ok(())
+}
+
+#[test]
+fn a_note_is_jotted_down(rt: HostRuntime) -> Result<(), Fail> {
+    let (lock, mut passes) = open(rt.alloc(), 2)?;
+    let second = passes.remove(1);
+    let first = passes.remove(0);
+    let _first = jot(&rt, &lock, first, 7);
+    let inside = lock.enter(&rt, second);
+    let note = inside.value().notes.get(0).copied();
+    assert!(rt; note == Some(Note { caller: 0, page: 7 }));
+    let _second = lock.leave(inside);
     Ok(())
 }
 
