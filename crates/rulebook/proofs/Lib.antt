@@ -1,2 +1,3 @@
 pub mod OccupiedSeats
+pub mod Searches
 pub mod Walks
