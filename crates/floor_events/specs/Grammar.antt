@@ -30,8 +30,10 @@ unfoldable pub fields2 : {A B : Type 0} → (List ℕ → Option A) → (List �
 fields2 first second make words = option_and_then (λ read. fields1 second (make read.0) read.1) (next_by first words)
 
 -- three fields of one word each
-unfoldable pub fields3 : {A B C : Type 0} → (List ℕ → Option A) → (List ℕ → Option B) → (List ℕ → Option C) → (A → B → C → Event) → Reader
-fields3 first second third make words = option_and_then (λ read. fields2 second third (make read.0) read.1) (next_by first words)
+unfoldable pub fields3 : {A B C : Type 0} → (List ℕ → Option A) → (List ℕ → Option B) → (List ℕ → Option C)
+    → (A → B → C → Event) → Reader
+fields3 first second third make words =
+    option_and_then (λ read. fields2 second third (make read.0) read.1) (next_by first words)
 
 -- one field of all words that are left
 unfoldable pub rest0 : {A : Type 0} → (List (List ℕ) → Option A) → (A → Event) → Reader
@@ -42,8 +44,10 @@ unfoldable pub rest1 : {A B : Type 0} → (List ℕ → Option A) → (List (Lis
 rest1 first last make words = option_and_then (λ read. rest0 last (make read.0) read.1) (next_by first words)
 
 -- two fields of one word each, and one of all words that are left
-unfoldable pub rest2 : {A B C : Type 0} → (List ℕ → Option A) → (List ℕ → Option B) → (List (List ℕ) → Option C) → (A → B → C → Event) → Reader
-rest2 first second last make words = option_and_then (λ read. rest1 second last (make read.0) read.1) (next_by first words)
+unfoldable pub rest2 : {A B C : Type 0} → (List ℕ → Option A) → (List ℕ → Option B) → (List (List ℕ) → Option C)
+    → (A → B → C → Event) → Reader
+rest2 first second last make words =
+    option_and_then (λ read. rest1 second last (make read.0) read.1) (next_by first words)
 
 -- the rows of the events that hold a list, for which memory is wanted
 abbrev pub list_rows : List (List ℕ × Reader)
@@ -58,8 +62,11 @@ plain_rows =
     (codes "seats", fields1 number_of (λ n. events.Plan (lines.Seats n))) ∷
     (codes "stack", fields1 number_of (λ n. events.Plan (lines.Stack n))) ∷
     (codes "buyin", fields1 number_of (λ n. events.Plan (lines.Buyin n))) ∷
-    (codes "late", fields1 number_of (λ n. events.Plan (lines.Late n))) ∷
-    (codes "blinds", fields3 number_of number_of number_of (λ small big unit. events.Plan (lines.Blinds small big unit))) ∷
+    (codes "late", fields1 number_of (λ n. events.Plan (lines.Late n))) ∷ (
+      codes "blinds",
+      fields3 number_of number_of number_of
+          (λ small big unit. events.Plan (lines.Blinds small big unit)),
+    ) ∷
     (codes "go", fields0 events.Go) ∷
     (codes "enter", fields3 name_of number_of number_of events.Enter) ∷
     (codes "begin", fields2 number_of row_of events.Begin) ∷

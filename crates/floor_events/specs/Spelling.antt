@@ -116,7 +116,8 @@ IsWritable (found.Event event) = IsWritableEvent event
 -- an answer's text, with its line feed
 abbrev pub answer_text : Answer → List ℕ
 answer_text answers.Ok = line_of_words (codes "ok" ∷ [])
-answer_text (answers.No refusal) = line_of_words (codes "no" ∷ decimal (refusal_number refusal) ∷ refusal_name refusal ∷ [])
+answer_text (answers.No refusal) =
+    line_of_words (codes "no" ∷ decimal (refusal_number refusal) ∷ refusal_name refusal ∷ [])
 answer_text (answers.PlanWrong item) = line_of_words (codes "no" ∷ codes "4" ∷ codes "PlanWrong" ∷ item_word item ∷ [])
 
 -- a stack at rest, or the word `play` for a player who is in a started hand
@@ -126,7 +127,9 @@ stack_word (Some stack) = decimal stack
 
 -- the line of a player who is in
 abbrev pub seat_line : ReportSeat → List ℕ
-seat_line seat = line_of_words (codes "*" ∷ codes "seat" ∷ decimal seat.place.table ∷ decimal seat.place.seat ∷ seat.name ∷ stack_word seat.stack ∷ [])
+seat_line seat =
+    let place = decimal seat.place.table ∷ decimal seat.place.seat ∷ [] in
+    line_of_words (codes "*" ∷ codes "seat" ∷ place ++ seat.name ∷ stack_word seat.stack ∷ [])
 
 -- the line of a player who is out, or of the winner
 abbrev pub out_line : ReportOut → List ℕ
@@ -153,4 +156,5 @@ report_end = line_of_words (codes "*" ∷ codes "end" ∷ [])
 
 -- a report's text: its first lines, the players who are in, those who are out, and the end
 abbrev pub report_text : Report → List ℕ
-report_text report = report_head report ++ (flat_map seat_line report.seats ++ (flat_map out_line report.outs ++ report_end))
+report_text report =
+    report_head report ++ (flat_map seat_line report.seats ++ (flat_map out_line report.outs ++ report_end))

@@ -24,7 +24,8 @@ fn is(word: &[u8], text: &[u8]) -> bool
 /// Reads an event without a list by its first word, and leaves the words behind its fields.
 #[tactic(auto, unfolding(crate::specs::Grammar::fields0, crate::specs::Grammar::fields1, crate::specs::Grammar::fields2, crate::specs::Grammar::fields3, crate::specs::Grammar::rest0, crate::specs::Grammar::rest1, crate::specs::Grammar::rest2))]
 fn read_fields(word: &[u8], line: &mut Words<'_>) -> Option<Event>
-    ensures { option_and_then (λ event. then_some (no_word line.new) event) result ≡ event_by plain_rows word.now line.old }
+    ensures { option_and_then (λ event. then_some (no_word line.new) event) result
+        ≡ event_by plain_rows word.now line.old }
 {
     match word {
         _ if is(word, b"game") => Some(Event::Plan(PlanLine::Game(line.game()?))),
@@ -108,7 +109,8 @@ pub fn read_item(alloc: Global, line: &[u8]) -> Result<Option<Item>, AllocError>
     // What is read is writable and spelled so.
     ensures found { IfOk result (λ found. IfSome found (λ item. IsWritable item × (line.now ≡ item_text item))) }
     // What is writable and spelled so is read.
-    ensures only { (item : Item) → IsWritable item → line.now ≡ item_text item → IfOk result (λ found. found ≡ Some item) }
+    ensures only { (item : Item) → IsWritable item → line.now ≡ item_text item
+        → IfOk result (λ found. found ≡ Some item) }
 {
     read_line(alloc, line)
 }

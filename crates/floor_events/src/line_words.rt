@@ -73,7 +73,8 @@ impl<'a> Words<'a> {
     /// Takes the next word as a number.
     #[tactic(auto, unfolding(crate::specs::Fields::next_by))]
     pub fn number(&mut self) -> Option<u64>
-        ensures { MatchOption result (next_by number_of self.old ≡ None) (λ n. next_by number_of self.old ≡ Some (n, self.new)) }
+        ensures { MatchOption result (next_by number_of self.old ≡ None)
+            (λ n. next_by number_of self.old ≡ Some (n, self.new)) }
     {
         read_number(self.next_word()?)
     }
@@ -81,7 +82,8 @@ impl<'a> Words<'a> {
     /// Takes the next word as a player's name.
     #[tactic(auto, unfolding(crate::specs::Fields::next_by))]
     pub fn name(&mut self) -> Option<Name>
-        ensures { MatchOption result (next_by name_of self.old ≡ None) (λ name. next_by name_of self.old ≡ Some (name, self.new)) }
+        ensures { MatchOption result (next_by name_of self.old ≡ None)
+            (λ name. next_by name_of self.old ≡ Some (name, self.new)) }
     {
         read_name(self.next_word()?)
     }
@@ -89,7 +91,8 @@ impl<'a> Words<'a> {
     /// Takes the next word as a game.
     #[tactic(auto, unfolding(crate::specs::Fields::next_by))]
     pub fn game(&mut self) -> Option<Game>
-        ensures { MatchOption result (next_by game_of self.old ≡ None) (λ game. next_by game_of self.old ≡ Some (game, self.new)) }
+        ensures { MatchOption result (next_by game_of self.old ≡ None)
+            (λ game. next_by game_of self.old ≡ Some (game, self.new)) }
     {
         read_game(self.next_word()?)
     }
@@ -97,7 +100,8 @@ impl<'a> Words<'a> {
     /// Takes the next word as a row of cards.
     #[tactic(auto, unfolding(crate::specs::Fields::next_by))]
     pub fn row(&mut self) -> Option<CardRow>
-        ensures { MatchOption result (next_by row_of self.old ≡ None) (λ row. next_by row_of self.old ≡ Some (row, self.new)) }
+        ensures { MatchOption result (next_by row_of self.old ≡ None)
+            (λ row. next_by row_of self.old ≡ Some (row, self.new)) }
     {
         read_row(self.next_word()?)
     }

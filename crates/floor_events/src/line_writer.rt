@@ -62,7 +62,8 @@ pub fn push_line(out: &mut Vec<u8>, words: &[Word<'_>]) -> Result<(), AllocError
 
 /// Writes lines of words one after another.
 pub fn push_lines(out: &mut Vec<u8>, lines: &[&[Word<'_>]]) -> Result<(), AllocError>
-    ensures ok { OnOk result (out.new.items ≡ out.old.items ++ flat_map (λ line. line_of_words (map word_text line.now)) lines.now) }
+    ensures ok { OnOk result (out.new.items ≡ out.old.items
+        ++ flat_map (λ line. line_of_words (map word_text line.now)) lines.now) }
     ensures kept { Extends out.old.items out.new.items }
 {
     for line in lines {

@@ -35,7 +35,8 @@ fn share_numbers(line: &mut Words<'_>, shares: &mut [u64; MOST_SHARES]) -> Optio
 /// memory is wanted only where they are.
 #[tactic(auto, unfolding(crate::specs::Grammar::rest0))]
 pub fn read_shares(alloc: Global, line: &mut Words<'_>) -> Result<Option<Event>, AllocError>
-    ensures exact { IfOk result (λ found. found ≡ rest0 shares_of (λ shares. events.Plan (lines.Shares shares)) line.old) }
+    ensures exact { IfOk result
+        (λ found. found ≡ rest0 shares_of (λ shares. events.Plan (lines.Shares shares)) line.old) }
     ensures err { OnErr result (IsSome (rest0 shares_of (λ shares. events.Plan (lines.Shares shares)) line.old)) }
 {
     let mut shares = [0; MOST_SHARES];

@@ -11,6 +11,7 @@ lines_of_cut None line = []
 lines_of_cut (Some Line) line = Some line ∷ []
 lines_of_cut (Some TooLong) line = None ∷ []
 
--- what is begun after one more byte: nothing after a line feed; else the byte is added, unless as many are there as are kept
+-- what is begun after one more byte: nothing after a line feed; else the byte is added, unless enough are there
 abbrev pub begun_after : List ℕ → ℕ → List ℕ
-begun_after begun byte = if is_line_feed byte then [] else (if nat_lt (length begun) KEPT then begun ++ byte ∷ [] else begun)
+begun_after begun byte =
+    if is_line_feed byte then [] else (if nat_lt (length begun) KEPT then begun ++ byte ∷ [] else begun)

@@ -14,10 +14,12 @@ lines_of_next (Ok End) line = []
 lines_of_next (Err fault) line = []
 
 -- a call that handed out some lines, of a source that had some bytes left before it
-pub record Reads (old new : Reading) (bytes : List ℕ) (left : Option (List ℕ)) (handed : List (Option (List ℕ))) : Type 0 where
+pub record Reads (old new : Reading) (bytes : List ℕ) (left : Option (List ℕ)) (handed : List (Option (List ℕ)))
+    : Type 0 where
   -- the bytes taken in the call are the source's first, as many as the count of taken bytes rose by
   pub later : old.taken ≤ new.taken
   pub within : new.taken ≤ old.taken + length bytes
   pub rest : left ≡ Some (drop (new.taken - old.taken) bytes)
   -- the lines of all that was there are those handed out, and those of what is still there
-  pub lines : lines_of_bytes (old.held ++ bytes) ≡ handed ++ lines_of_bytes (new.held ++ drop (new.taken - old.taken) bytes)
+  pub lines : lines_of_bytes (old.held ++ bytes)
+      ≡ handed ++ lines_of_bytes (new.held ++ drop (new.taken - old.taken) bytes)

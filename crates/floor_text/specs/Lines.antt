@@ -15,7 +15,8 @@ HasNoFeed bytes = list_any is_line_feed bytes ≡ false
 abbrev pub cut_line : List ℕ → Option (List ℕ)
 cut_line bytes = if nat_le (length bytes) LONGEST_LINE then Some bytes else None
 
--- the parts of a stream but for the last one, where that is empty: what follows the last line feed is a line only where a byte follows
+-- the parts of a stream but for the last one, where that is empty: what follows the last line feed is a line only
+-- where a byte follows
 abbrev pub without_empty_last : List (List ℕ) → List (List ℕ)
 without_empty_last [] = []
 without_empty_last ([] ∷ []) = []

@@ -18,7 +18,8 @@ pub record MemoryOut : Type 0 where
   pub calls : ℕ
   pub faults : ℕ
 
--- a sink: the bytes that were put, how many it has room for, the numbers of its calls that fail, and how many calls were made and failed
+-- a sink: the bytes that were put, how many it has room for, the numbers of its calls that fail, and how many calls
+-- were made and failed
 pub record MemoryIn : Type 0 where
   pub bytes : List ℕ
   pub room : ℕ

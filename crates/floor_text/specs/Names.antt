@@ -12,7 +12,8 @@ is_name_byte byte = is_ascii_alphanumeric byte || byte == 95
 
 -- a name: a letter, then letters, digits or `_`, 1 to 16 characters; the word `floor` is no name
 abbrev pub is_name : List ℕ → Bool
-is_name bytes = is_ascii_alphabetic (slice_index bytes 0) && (list_all is_name_byte bytes && (nat_le (length bytes) LONGEST_NAME && not (bytes_eq bytes (codes "floor"))))
+is_name bytes = is_ascii_alphabetic (slice_index bytes 0)
+    && (list_all is_name_byte bytes && (nat_le (length bytes) LONGEST_NAME && not (bytes_eq bytes (codes "floor"))))
 
 -- a name is kept in 16 bytes, with zeros behind it
 pub record IsKept (bytes : List ℕ) (len : ℕ) : Type 0 where
@@ -22,7 +23,11 @@ pub record IsKept (bytes : List ℕ) (len : ℕ) : Type 0 where
   pub name : IsTrue (is_name (take len bytes))
 
 pub length_kept : {bytes : List ℕ} {len : ℕ} → IsKept bytes len → length (take len bytes) ≡ len
-length_kept {bytes} {len} kept = let room : length bytes ≡ LONGEST_NAME = kept.room in let within : len ≤ LONGEST_NAME = kept.within in omega (arith, length-take len bytes)
+length_kept {bytes} {len} kept =
+    let room : length bytes ≡ LONGEST_NAME = kept.room in
+    let within : len ≤ LONGEST_NAME = kept.within in
+    omega (arith, length-take len bytes)
 
-pub padded_again : {bytes : List ℕ} {len : ℕ} → IsKept bytes len → take len bytes ++ replicate (LONGEST_NAME - length (take len bytes)) 0 ≡ bytes
+pub padded_again : {bytes : List ℕ} {len : ℕ} → IsKept bytes len
+    → take len bytes ++ replicate (LONGEST_NAME - length (take len bytes)) 0 ≡ bytes
 padded_again {bytes} {len} kept = rw (length_kept kept) (sym kept.padded)

@@ -17,4 +17,5 @@ is_spelled (first ∷ second ∷ rest) = not (first == 48) && list_all is_ascii_
 
 -- the number that the bytes spell, or None where they spell no number of a line
 unfoldable pub number_of : List ℕ → Option ℕ
-number_of bytes = if is_spelled bytes && nat_le (digits_value 10 bytes) GREATEST_NUMBER then Some (digits_value 10 bytes) else None
+number_of bytes =
+    if is_spelled bytes && nat_le (digits_value 10 bytes) GREATEST_NUMBER then Some (digits_value 10 bytes) else None

@@ -24,4 +24,5 @@ pub record Takes (old : List ℕ) (new : Option (List ℕ)) (buffer : List ℕ) 
 
 -- what a sink that tells its bytes has after a put: all of the bytes, or where it failed a front of them
 abbrev pub Puts : {E : Type 0} → List ℕ → List ℕ → Option (List ℕ) → Result (Unit {0}) E → Type 0
-Puts old bytes new result = MatchResult result (λ _. new ≡ Some (old ++ bytes)) (λ _. (n : ℕ) × (new ≡ Some (old ++ take n bytes)))
+Puts old bytes new result =
+    MatchResult result (λ _. new ≡ Some (old ++ bytes)) (λ _. (n : ℕ) × (new ≡ Some (old ++ take n bytes)))

@@ -42,7 +42,8 @@ impl<R: Read> Source for ReaderSource<R> {
 /// Reads what the reader has, into the first places of the buffer. `None` where it failed.
 fn read_once<R: Read>(reader: &mut R, buffer: &mut [u8]) -> Option<usize>
     ensures count { IfSome result (λ n. n ≤ length buffer.new) }
-    ensures bytes { IfSome result (λ n. IfSome (R.remaining reader.old) (λ bytes. Takes bytes (R.remaining reader.new) buffer.new n)) }
+    ensures bytes { IfSome result (λ n. IfSome (R.remaining reader.old)
+        (λ bytes. Takes bytes (R.remaining reader.new) buffer.new n)) }
     ensures kept { IsNone result → Keeps (R.remaining reader.old) (R.remaining reader.new) }
 {
     for _turn in 0..u64::MAX {
@@ -107,7 +108,8 @@ fn write_whole<W: Write>(writer: &mut W, bytes: &[u8]) -> Result<(), Failed>
 /// Writes some of the bytes. `None` where the writer failed or took none of them.
 fn write_once<W: Write>(writer: &mut W, bytes: &[u8]) -> Option<usize>
     ensures count { IfSome result (λ n. (0 < n) × (n ≤ length bytes.now)) }
-    ensures some { IfSome result (λ n. IfSome (W.contents writer.old) (λ before. W.contents writer.new ≡ Some (before ++ take n bytes.now))) }
+    ensures some { IfSome result (λ n. IfSome (W.contents writer.old)
+        (λ before. W.contents writer.new ≡ Some (before ++ take n bytes.now))) }
     ensures none { IsNone result → IfSome (W.contents writer.old) (λ before. W.contents writer.new ≡ Some before) }
 {
     for _turn in 0..u64::MAX {

@@ -26,7 +26,10 @@ impl Model for HeldBytes {
 
     ghost Value = { Holding };
 
-    ghost view = { λ h. record { held = slice_range h.buffer.items h.start h.end; line = slice_range h.buffer.items h.line_start h.line_end } };
+    ghost view = { λ h. record {
+      held = slice_range h.buffer.items h.start h.end;
+      line = slice_range h.buffer.items h.line_start h.line_end;
+    } };
 
     ghost invariant = { λ h. IsHolding (vec_len h.buffer) h.start h.end h.line_start h.line_end };
 }
@@ -46,7 +49,8 @@ fn take_at<S: Source>(
     requires { at + ask ≤ length buffer.old }
     ensures count { IfOk result (λ n. n ≤ ask) }
     ensures front { take at buffer.new ≡ take at buffer.old }
-    ensures bytes { IfOk result (λ n. IfSome (S.left source.old) (λ bytes. Gives bytes (S.left source.new) (drop at buffer.new) ask n)) }
+    ensures bytes { IfOk result (λ n. IfSome (S.left source.old)
+        (λ bytes. Gives bytes (S.left source.new) (drop at buffer.new) ask n)) }
     ensures left { OnErr result (S.left source.new ≡ S.left source.old) }
     ensures cause { HasCause (S.faults source.old) (S.faults source.new) result }
 {
@@ -85,7 +89,8 @@ impl HeldBytes {
     pub fn feed_between(&self, from: usize, to: usize) -> Option<usize>
         requires order { from ≤ to }
         requires within { to ≤ length self.now.held }
-        ensures { MatchOption result (HasNoFeed (slice_range self.now.held from to)) (λ at. IsFirstFeed (slice_range self.now.held from to) (at - from) × (from ≤ at)) }
+        ensures { MatchOption result (HasNoFeed (slice_range self.now.held from to))
+            (λ at. IsFirstFeed (slice_range self.now.held from to) (at - from) × (from ≤ at)) }
     {
         match first_feed(&self.buffer[self.start + from..self.start + to]) {
             Some(at) => Some(from + at),
@@ -110,7 +115,8 @@ impl HeldBytes {
         requires { ask ≤ BLOCK }
         ensures count { IfOk result (λ n. (n ≤ ask) × (length self.new.held ≡ length (take KEPT self.old.held) + n)) }
         ensures front { take (length (take KEPT self.old.held)) self.new.held ≡ take KEPT self.old.held }
-        ensures bytes { IfOk result (λ n. IfSome (S.left source.old) (λ bytes. Fills (take KEPT self.old.held) bytes (S.left source.new) self.new.held ask n)) }
+        ensures bytes { IfOk result (λ n. IfSome (S.left source.old)
+            (λ bytes. Fills (take KEPT self.old.held) bytes (S.left source.new) self.new.held ask n)) }
         ensures kept { OnErr result (self.new.held ≡ take KEPT self.old.held) }
         ensures left { OnErr result (S.left source.new ≡ S.left source.old) }
         ensures cause { HasCause (S.faults source.old) (S.faults source.new) result }

@@ -72,7 +72,8 @@ impl LineCutter {
     pub fn end(&mut self) -> Option<Cut>
         ensures lines { lines_of_bytes self.old.begun ≡ lines_of_cut result self.new.line }
         ensures answers { IsSome result ↔ (0 < length self.old.begun) }
-        ensures short { (result ≡ Some Cut.Line) ↔ ((0 < length self.old.begun) × (length self.old.begun ≤ LONGEST_LINE)) }
+        ensures short { (result ≡ Some Cut.Line)
+            ↔ ((0 < length self.old.begun) × (length self.old.begun ≤ LONGEST_LINE)) }
         ensures line { result ≡ Some Cut.Line → self.new.line ≡ self.old.begun }
         ensures begun { self.new.begun ≡ [] }
     {

@@ -49,7 +49,12 @@ impl Model for LineReader {
 
     ghost Value = { Reading };
 
-    ghost view = { λ r. record { held = r.bytes.held; line = r.bytes.line; taken = r.limit - r.within + (if r.over then 1 else 0); limit = r.limit } };
+    ghost view = { λ r. record {
+      held = r.bytes.held;
+      line = r.bytes.line;
+      taken = r.limit - r.within + (if r.over then 1 else 0);
+      limit = r.limit;
+    } };
 
     ghost invariant = { λ r. IsReading r.bytes.held r.limit r.within r.over };
 }
@@ -74,7 +79,8 @@ impl LineReader {
     /// `InputTooLong` comes where more bytes were taken than the limit allows and each line whose line
     /// feed is within the limit was handed out; then nothing more is taken.
     pub fn next_line<S: Source>(&mut self, source: &mut S) -> Result<Next, ReadEnd>
-        ensures reads { IfSome (S.left source.old) (λ bytes. Reads self.old self.new bytes (S.left source.new) (lines_of_next result self.new.line)) }
+        ensures reads { IfSome (S.left source.old)
+            (λ bytes. Reads self.old self.new bytes (S.left source.new) (lines_of_next result self.new.line)) }
         ensures taken { (self.old.taken ≤ self.new.taken) × (self.new.taken ≤ self.new.limit + 1) }
         ensures limit { self.new.limit ≡ self.old.limit }
         ensures shorter { IfOk result (λ next. next ≢ Next.End → bytes_ahead self.new < bytes_ahead self.old) }
@@ -85,8 +91,10 @@ impl LineReader {
 
         // The byte past the limit is never handed out, and it is the cause of `InputTooLong`.
         ensures within_limit { IfOk result (λ _. self.new.limit < self.new.taken → 0 < length self.new.held) }
-        ensures input_too_long { IfErr result (λ end. (end ≡ ReadEnd.InputTooLong) ↔ (self.new.limit < self.new.taken)) }
-        ensures none_left { result ≡ Err ReadEnd.InputTooLong → HasNoFeed (take (length self.new.held - 1) self.new.held) }
+        ensures input_too_long { IfErr result
+            (λ end. (end ≡ ReadEnd.InputTooLong) ↔ (self.new.limit < self.new.taken)) }
+        ensures none_left { result ≡ Err ReadEnd.InputTooLong
+            → HasNoFeed (take (length self.new.held - 1) self.new.held) }
 
         ensures faults { S.faults source.old ≤ S.faults source.new }
         ensures read_fault { result ≡ Err ReadEnd.ReadFault → Rose (S.faults source.old) (S.faults source.new) }
@@ -121,7 +129,8 @@ impl LineReader {
     fn feed_from(&self, searched: usize) -> Option<usize>
         requires within { searched ≤ held_within self.now }
         requires before { HasNoFeed (take searched self.now.held) }
-        ensures found { MatchOption result (HasNoFeed (take (held_within self.now) self.now.held)) (λ at. (at < held_within self.now) × IsFirstFeed self.now.held at) }
+        ensures found { MatchOption result (HasNoFeed (take (held_within self.now) self.now.held))
+            (λ at. (at < held_within self.now) × IsFirstFeed self.now.held at) }
         ensures most { self.now.taken ≤ self.now.limit + 1 }
     {
         let mut to = self.bytes.len();
@@ -177,7 +186,8 @@ impl LineReader {
         ensures within { IfOk result (λ n. self.old.taken ≤ self.old.limit) }
         ensures source_end { result ≡ Ok 0 → IfSome (S.left source.old) (λ _. S.left source.new ≡ Some []) }
         ensures same { OnErr result (self.new.taken ≡ self.old.taken) }
-        ensures input_too_long { IfErr result (λ end. (end ≡ ReadEnd.InputTooLong) ↔ (self.new.limit < self.new.taken)) }
+        ensures input_too_long { IfErr result
+            (λ end. (end ≡ ReadEnd.InputTooLong) ↔ (self.new.limit < self.new.taken)) }
         ensures none_left { result ≡ Err ReadEnd.InputTooLong → self.new.held ≡ self.old.held }
         ensures faults { S.faults source.old ≤ S.faults source.new }
         ensures read_fault { result ≡ Err ReadEnd.ReadFault → Rose (S.faults source.old) (S.faults source.new) }

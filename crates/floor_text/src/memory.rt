@@ -59,7 +59,12 @@ impl Model for MemSource {
 
     ghost Value = { MemoryOut };
 
-    ghost view = { λ s. record { left = drop s.given s.bytes.items; failing = s.calls.failing.items; calls = s.calls.made; faults = s.calls.faults } };
+    ghost view = { λ s. record {
+      left = drop s.given s.bytes.items;
+      failing = s.calls.failing.items;
+      calls = s.calls.made;
+      faults = s.calls.faults;
+    } };
 
     ghost invariant = { λ s. IsMemoryOut s.given (vec_len s.bytes) };
 }
@@ -89,7 +94,8 @@ impl Source for MemSource {
     /// its count of faults rises exactly then.
     fn take(&mut self, buffer: &mut [u8]) -> Result<usize, Failed>
         ensures count { IfOk result (λ n. n ≤ length buffer.new) }
-        ensures bytes { IfOk result (λ n. IfSome (Some self.old.left) (λ bytes. Takes bytes (Some self.new.left) buffer.new n)) }
+        ensures bytes { IfOk result (λ n. IfSome (Some self.old.left)
+            (λ bytes. Takes bytes (Some self.new.left) buffer.new n)) }
         ensures kept { OnErr result (Some self.new.left ≡ Some self.old.left) }
         ensures cause { HasCause self.old.faults self.new.faults result }
 
@@ -127,7 +133,13 @@ impl Model for MemSink {
 
     ghost Value = { MemoryIn };
 
-    ghost view = { λ s. record { bytes = s.bytes.items; room = s.room; failing = s.calls.failing.items; calls = s.calls.made; faults = s.calls.faults } };
+    ghost view = { λ s. record {
+      bytes = s.bytes.items;
+      room = s.room;
+      failing = s.calls.failing.items;
+      calls = s.calls.made;
+      faults = s.calls.faults;
+    } };
 
     ghost invariant = { λ s. IsMemoryIn (vec_len s.bytes) (vec_capacity s.bytes) s.room };
 }
@@ -136,7 +148,13 @@ impl MemSink {
     /// An empty sink, which takes room for so many bytes. The calls whose numbers, from 1, are in
     /// `failing` fail and put nothing, and so do those that find too little room.
     pub fn new(alloc: Global, room: usize, failing: Vec<u64>) -> Result<MemSink, AllocError>
-        ensures { IfOk result (λ sink. sink ≡ record { bytes = []; room = room; failing = failing.items; calls = 0; faults = 0 }) }
+        ensures { IfOk result (λ sink. sink ≡ record {
+          bytes = [];
+          room = room;
+          failing = failing.items;
+          calls = 0;
+          faults = 0;
+        }) }
     {
         Ok(MemSink {
             bytes: Vec::with_capacity(alloc, room)?,

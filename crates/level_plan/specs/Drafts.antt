@@ -27,7 +27,16 @@ pub record Draft : Type 0 where
 
 -- Before any line nothing is given.
 abbrev pub empty_draft : Draft
-empty_draft = record { game = None; tables = None; seats = None; stack = None; buyin = None; late = None; blinds = []; shares = None }
+empty_draft = record {
+  game = None;
+  tables = None;
+  seats = None;
+  stack = None;
+  buyin = None;
+  late = None;
+  blinds = [];
+  shares = None;
+}
 
 -- The item that a line gives.
 abbrev pub item_of_line : PlanLine → PlanItem
@@ -65,12 +74,22 @@ draft_after draft (lines.Seats n) = record draft { seats = Some n }
 draft_after draft (lines.Stack n) = record draft { stack = Some n }
 draft_after draft (lines.Buyin n) = record draft { buyin = Some n }
 draft_after draft (lines.Late n) = record draft { late = Some n }
-draft_after draft (lines.Blinds small big unit) = record draft { blinds = draft.blinds ++ record { small = small; big = big; unit = unit } ∷ [] }
+draft_after draft (lines.Blinds small big unit) =
+    record draft { blinds = draft.blinds ++ record { small = small; big = big; unit = unit } ∷ [] }
 draft_after draft (lines.Shares shares) = record draft { shares = Some shares }
 
 -- The plan that the draft's items make, once none is missing.
 abbrev pub plan_of : Draft → PlanTerms
-plan_of draft = record { game = unwrap_or draft.game Holdem; tables = unwrap_or draft.tables 0; seats = unwrap_or draft.seats 0; stack = unwrap_or draft.stack 0; buyin = unwrap_or draft.buyin 0; late = unwrap_or draft.late 0; blinds = draft.blinds; shares = unwrap_or draft.shares [] }
+plan_of draft = record {
+  game = unwrap_or draft.game Holdem;
+  tables = unwrap_or draft.tables 0;
+  seats = unwrap_or draft.seats 0;
+  stack = unwrap_or draft.stack 0;
+  buyin = unwrap_or draft.buyin 0;
+  late = unwrap_or draft.late 0;
+  blinds = draft.blinds;
+  shares = unwrap_or draft.shares [];
+}
 
 -- The first item whose test holds.
 abbrev pub first_item : List (PlanItem × Bool) → Option PlanItem

@@ -6,8 +6,26 @@ use Rattle.level_plan.specs.Plans.{PlanTerms}
 
 -- A draft's fields without its allocator.
 abbrev pub draft_of : draft_fields.Inside → Draft
-draft_of draft = record { game = draft.game; tables = draft.tables; seats = draft.seats; stack = draft.stack; buyin = draft.buyin; late = draft.late; blinds = draft.blinds; shares = draft.shares }
+draft_of draft = record {
+  game = draft.game;
+  tables = draft.tables;
+  seats = draft.seats;
+  stack = draft.stack;
+  buyin = draft.buyin;
+  late = draft.late;
+  blinds = draft.blinds;
+  shares = draft.shares;
+}
 
 -- A plan's fields.
 abbrev pub terms_of : plan_fields.Inside → PlanTerms
-terms_of plan = record { game = plan.game; tables = plan.tables; seats = plan.seats; stack = plan.stack; buyin = plan.buyin; late = plan.late; blinds = plan.blinds; shares = plan.shares }
+terms_of plan = record {
+  game = plan.game;
+  tables = plan.tables;
+  seats = plan.seats;
+  stack = plan.stack;
+  buyin = plan.buyin;
+  late = plan.late;
+  blinds = plan.blinds;
+  shares = plan.shares;
+}

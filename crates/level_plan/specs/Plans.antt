@@ -21,6 +21,16 @@ pub record PlanTerms : Type 0 where
 abbrev pub unit_of_level : List Blind → ℕ → ℕ
 unit_of_level blinds level = option_map_or (λ blind. blind.unit) (slice_get blinds (level - 1)) 1
 
--- Each item is lawful, `late` is one of the levels, of which there are at most 40, and the stack is a multiple of that level's unit.
+-- Each item is lawful, `late` is one of the levels, of which there are at most 40, and the stack is a multiple of that
+-- level's unit.
 abbrev pub is_right : PlanTerms → Bool
-is_right plan = is_between 1 MOST_TABLES plan.tables && (is_between FEWEST_SEATS MOST_SEATS plan.seats && (is_between 1 GREATEST_AMOUNT plan.stack && (nat_le plan.buyin GREATEST_AMOUNT && (is_between 1 (length plan.blinds) plan.late && (nat_le (length plan.blinds) MOST_LEVELS && (are_levels plan.blinds && (are_shares plan.shares && plan.stack % unit_of_level plan.blinds plan.late == 0)))))))
+is_right plan =
+    is_between 1 MOST_TABLES plan.tables
+    && (is_between FEWEST_SEATS MOST_SEATS plan.seats
+    && (is_between 1 GREATEST_AMOUNT plan.stack
+    && (nat_le plan.buyin GREATEST_AMOUNT
+    && (is_between 1 (length plan.blinds) plan.late
+    && (nat_le (length plan.blinds) MOST_LEVELS
+    && (are_levels plan.blinds
+    && (are_shares plan.shares
+    && plan.stack % unit_of_level plan.blinds plan.late == 0)))))))

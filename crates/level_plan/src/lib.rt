@@ -1,7 +1,8 @@
 //! Plans of a tournament, given line by line.
 //!
-//! It stands on floor_text and card_set. `PlanDraft::line` takes a plan line, or names its item where the line is wrong and
-//! changes nothing. `PlanDraft::go` names the first item that is missing or wrong, else gives the `Plan`, which
+//! It stands on floor_text and card_set. `PlanDraft::line` takes a plan line, or names its item where the line is
+//! wrong and changes nothing. `PlanDraft::go` names the first item that is missing or wrong, else gives the `Plan`,
+//! which
 //! is right by its type.
 #![tactic(auto)]
 

@@ -10,5 +10,6 @@ ghost use Rattle.rulebook.specs.Seats.{clockwise_after, people_clockwise_after};
 pub fn search_is_the_walk<A>()
     ensures { (seat_of : A → ℕ) (wanted : A → Bool) (people : List A) (seats seat : ℕ) → seat ≤ seats
         → are_rising (map seat_of people) ≡ true → are_at_table seat_of seats people ≡ true
-        → find wanted (people_clockwise_after seat_of people seat) ≡ found_along seat_of wanted people (clockwise_after seats seat) }
+        → find wanted (people_clockwise_after seat_of people seat)
+        ≡ found_along seat_of wanted people (clockwise_after seats seat) }
 {}
