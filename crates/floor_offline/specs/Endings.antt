@@ -39,7 +39,8 @@ fault_of_read_end InputTooLong = faults.InputTooLong
 -- A line was put whole, or a front of it and then the sink failed in this call.
 abbrev pub PutsLine : List ℕ → List ℕ → Option (List ℕ) → ℕ → ℕ → Type 0
 PutsLine before line written faults_before faults_now =
-    (written ≡ Some (before ++ line)) ⊎ ((n : ℕ) × (written ≡ Some (before ++ take n line)) × Rose faults_before faults_now)
+    (written ≡ Some (before ++ line))
+    ⊎ ((n : ℕ) × (written ≡ Some (before ++ take n line)) × Rose faults_before faults_now)
 
 -- the faults of writing: the sink failed, or memory ran out
 abbrev pub IsOfWriting : Fault → Type 0

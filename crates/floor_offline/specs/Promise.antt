@@ -7,7 +7,9 @@ use Rattle.floor_offline.specs.Replay.{items_of_bytes, text_from}
 -- the whole text of a run: what is written, and then what the bytes that are held and left will be answered
 unfoldable pub whole_text : State → List ℕ → Option (List ℕ) → Option (List ℕ) → Option (List ℕ)
 whole_text state held left written =
-    option_and_then (λ bytes. option_map (λ text. text ++ text_from state (items_of_bytes (held ++ bytes))) written) left
+    option_and_then
+    (λ bytes. option_map (λ text. text ++ text_from state (items_of_bytes (held ++ bytes))) written)
+    left
 
 -- what was told is told still, and is the same
 abbrev pub Keeps : Option (List ℕ) → Option (List ℕ) → Type 0

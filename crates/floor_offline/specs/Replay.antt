@@ -48,7 +48,8 @@ final_text state = report_text (report_of state)
 
 -- what items are answered from a state on: the text of each answer, and then of the report
 abbrev pub text_from : State → List (Option Item) → List ℕ
-text_from state items = flat_map answer_text (answers_to_items state items) ++ final_text (state_after_items state items)
+text_from state items =
+    flat_map answer_text (answers_to_items state items) ++ final_text (state_after_items state items)
 
 -- what a stream is answered from the first state on
 abbrev pub replay_text : List ℕ → List ℕ

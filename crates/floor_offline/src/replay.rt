@@ -46,7 +46,8 @@ fn put_text<O: Sink>(text: &[u8], out: &mut O) -> Result<(), Fault>
 
 /// Puts an answer, by one put.
 fn put_answer<O: Sink>(text: &mut Vec<u8>, answer: &Answer, out: &mut O) -> Result<(), Fault>
-    ensures ok { OnOk result (IfSome (O.written out.old) (λ before. O.written out.new ≡ Some (before ++ answer_text answer.now))) }
+    ensures ok { OnOk result (IfSome (O.written out.old)
+        (λ before. O.written out.new ≡ Some (before ++ answer_text answer.now))) }
     ensures later { O.faults out.old ≤ O.faults out.new }
     ensures write { IsErrOf result Fault.Write → Rose (O.faults out.old) (O.faults out.new) }
     ensures others { IfErr result IsOfWriting }
@@ -63,7 +64,8 @@ fn put_report<O: Sink>(
     text: &mut Vec<u8>,
     out: &mut O,
 ) -> Result<(), Fault>
-    ensures ok { OnOk result (IfSome (O.written out.old) (λ before. O.written out.new ≡ Some (before ++ final_text tournament.now))) }
+    ensures ok { OnOk result (IfSome (O.written out.old)
+        (λ before. O.written out.new ≡ Some (before ++ final_text tournament.now))) }
     ensures later { O.faults out.old ≤ O.faults out.new }
     ensures write { IsErrOf result Fault.Write → Rose (O.faults out.old) (O.faults out.new) }
     ensures others { IfErr result IsOfWriting }
@@ -83,7 +85,8 @@ fn answer_next<I: Source, O: Sink>(
     out: &mut O,
 ) -> Result<bool, Fault>
     // What is written and what is to come make the same text.
-    ensures keeps { OnOk result (Keeps (whole_text tournament.old reader.old.held (I.left input.old) (O.written out.old))
+    ensures keeps { OnOk result (Keeps
+        (whole_text tournament.old reader.old.held (I.left input.old) (O.written out.old))
         (whole_text tournament.new reader.new.held (I.left input.new) (O.written out.new))) }
     ensures shorter { result ≡ Ok true → bytes_ahead reader.new < bytes_ahead reader.old }
 
@@ -93,7 +96,8 @@ fn answer_next<I: Source, O: Sink>(
     ensures within { result ≡ Ok false → reader.new.taken ≤ reader.new.limit }
 
     // The bytes taken are counted, whatever comes.
-    ensures counts { (first : Option (List ℕ)) → Counts first (I.left input.old) reader.old.taken → Counts first (I.left input.new) reader.new.taken }
+    ensures counts { (first : Option (List ℕ)) → Counts first (I.left input.old) reader.old.taken
+        → Counts first (I.left input.new) reader.new.taken }
     ensures limit { reader.new.limit ≡ reader.old.limit }
     ensures too_long { IsErrOf result Fault.InputTooLong → reader.new.limit < reader.new.taken }
 
@@ -116,7 +120,8 @@ fn answer_next<I: Source, O: Sink>(
 /// Answers all lines of the input, and puts the report behind the answers.
 pub fn replay<I: Source, O: Sink>(alloc: Global, input: &mut I, out: &mut O) -> Result<(), Fault>
     ensures end { OnOk result (IfSome (I.left input.old) (λ _. I.left input.new ≡ Some [])) }
-    ensures text { OnOk result (IfSome (I.left input.old) (λ bytes. IfSome (O.written out.old) (λ before. O.written out.new ≡ Some (before ++ replay_text bytes)))) }
+    ensures text { OnOk result (IfSome (I.left input.old)
+        (λ bytes. IfSome (O.written out.old) (λ before. O.written out.new ≡ Some (before ++ replay_text bytes)))) }
     ensures within { OnOk result (IfSome (I.left input.old) (λ bytes. length bytes ≤ INPUT_LIMIT)) }
     ensures too_long { IsErrOf result Fault.InputTooLong → GivesMore INPUT_LIMIT (I.left input.old) (I.left input.new) }
     ensures read { IsErrOf result Fault.Read → Rose (I.faults input.old) (I.faults input.new) }

@@ -47,7 +47,8 @@ pub fn run_offline<I: Source, O: Sink, E: Sink>(
 
     // Status 0: the input was read to its end, and what was put is its replay.
     ensures read_to_end { result ≡ 0 → IfSome (I.left input.old) (λ _. I.left input.new ≡ Some []) }
-    ensures replayed { result ≡ 0 → IfSome (I.left input.old) (λ bytes. IfSome (O.written out.old) (λ before. O.written out.new ≡ Some (before ++ replay_text bytes))) }
+    ensures replayed { result ≡ 0 → IfSome (I.left input.old)
+        (λ bytes. IfSome (O.written out.old) (λ before. O.written out.new ≡ Some (before ++ replay_text bytes))) }
     ensures within_limit { result ≡ 0 → IfSome (I.left input.old) (λ bytes. length bytes ≤ INPUT_LIMIT) }
 
     // Status 2: exactly where the words are no written command, and then nothing is touched but err.
@@ -66,7 +67,8 @@ pub fn run_offline<I: Source, O: Sink, E: Sink>(
 
     // Err holds nothing at status 0, and else the status's line.
     ensures quiet { result ≡ 0 → err.new ≡ err.old }
-    ensures told { result ≢ 0 → IfSome (E.written err.old) (λ before. PutsLine before (status_line result) (E.written err.new) (E.faults err.old) (E.faults err.new)) }
+    ensures told { result ≢ 0 → IfSome (E.written err.old)
+        (λ before. PutsLine before (status_line result) (E.written err.new) (E.faults err.old) (E.faults err.new)) }
 {
     let ran = if is_replay(words) {
         replay(alloc, input, out)

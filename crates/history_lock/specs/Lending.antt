@@ -6,5 +6,6 @@ use Rattle.history_lock.specs.declared.inside.Inside.{Inside}
 use Rattle.history_lock.specs.contracts.inside.Inside.{the_row}
 
 -- Only the value changes, to the last one behind r.
-abbrev pub LendsValue : (V E : RattleType) (g : Ghosts V.Denot E.Denot) → MutBor (Inside V.Denot E.Denot g) → MutBor V.Denot → Fml
+abbrev pub LendsValue : (V E : RattleType) (g : Ghosts V.Denot E.Denot) → MutBor (Inside V.Denot E.Denot g)
+    → MutBor V.Denot → Fml
 LendsValue V E g s r = Lends (the_row V E g) V s r (λ w. record s.now { value = w })

@@ -93,4 +93,5 @@ module _ {Val E : Type 0} {g : Ghosts Val E} where
 
   -- The passes have the numbers from 0 on, in order, and are fresh.
   abbrev pub AreFresh : TableId → List E → List (Pass Val E g) → Type 0
-  AreFresh lock history passes = (k : ℕ) (pass : Pass Val E g) → slice_get passes k ≡ Some pass → IsFresh lock k history pass
+  AreFresh lock history passes =
+      (k : ℕ) (pass : Pass Val E g) → slice_get passes k ≡ Some pass → IsFresh lock k history pass

@@ -14,43 +14,58 @@ abbrev pub AreWords : List ℕ → ℕ → ℕ → ℕ → ℕ → Type 0
 AreWords words ticket serving count calls = words ≡ ticket ∷ serving ∷ count ∷ calls ∷ []
 
 module _ {E : Type 0} where
-  -- The difference of the two tickets is the number of views with a ticket, at most n. The tickets differ, and lie in that range.
+  -- The difference of the two tickets is the number of views with a ticket, at most n. The tickets differ, and lie in
+  -- that range.
   pub record TicketsAreInRange (n ticket serving : ℕ) (views : List (View E)) : Type 0 where
     pub difference : ticket ≡ (serving + waiting views) % 2 ^ 64
     pub few : waiting views ≤ n
-    pub in_range : (j : ℕ) (v : View E) (t : ℕ) → HasView views j v → v.ticket ≡ Some t → (i : ℕ) × (i < waiting views) × (t ≡ (serving + i) % 2 ^ 64)
-    pub differ : (i j : ℕ) (v w : View E) (t : ℕ) → HasView views i v → HasView views j w → v.ticket ≡ Some t → w.ticket ≡ Some t → i ≡ j
+    pub in_range : (j : ℕ) (v : View E) (t : ℕ) → HasView views j v → v.ticket ≡ Some t
+        → (i : ℕ) × (i < waiting views) × (t ≡ (serving + i) % 2 ^ 64)
+    pub differ : (i j : ℕ) (v w : View E) (t : ℕ) → HasView views i v → HasView views j w → v.ticket ≡ Some t
+        → w.ticket ≡ Some t → i ≡ j
 
-  -- Each seen list begins the history `now`, and one of them is `now`. Its length fits a word, and no view knows of more entries.
+  -- Each seen list begins the history `now`, and one of them is `now`. Its length fits a word, and no view knows of
+  -- more entries.
   pub record NowIsLongest (now : List E) (views : List (View E)) : Type 0 where
     pub fits : length now < 2 ^ 64
     pub begin_it : (j : ℕ) (v : View E) → HasView views j v → Each (λ (x : Share E). IsPrefix x.seen now) v.shares
     pub is_seen : (j : ℕ) × (v : View E) × HasView views j v × AtLeastOne (λ (x : Share E). x.seen ≡ now) v.shares
     pub known : (j : ℕ) (v : View E) → HasView views j v → v.known ≤ length now
 
-  -- Each of the n numbers has one share, in the view that keeps it. Its own list is what `now` has of this number. All other entries are the opener's.
-  pub record NumbersAreKept (caller_of : E → ℕ) (n : ℕ) (now : List E) (keeper : ℕ → ℕ) (views : List (View E)) : Type 0 where
-    pub kept : (k : ℕ) → k < n → (v : View E) × HasView views (keeper k) v × AtLeastOne (λ (x : Share E). x.number ≡ k) v.shares
-    pub own : (j : ℕ) (v : View E) → HasView views j v → Each (λ (x : Share E). (x.number < n) × (keeper x.number ≡ j) × (x.own ≡ entries_by caller_of x.number now)) v.shares
+  -- Each of the n numbers has one share, in the view that keeps it. Its own list is what `now` has of this number. All
+  -- other entries are the opener's.
+  pub record NumbersAreKept (caller_of : E → ℕ) (n : ℕ) (now : List E) (keeper : ℕ → ℕ) (views : List (View E))
+      : Type 0 where
+    pub kept : (k : ℕ) → k < n → (v : View E) × HasView views (keeper k) v
+        × AtLeastOne (λ (x : Share E). x.number ≡ k) v.shares
+    pub own : (j : ℕ) (v : View E) → HasView views j v
+        → Each (λ (x : Share E). (x.number < n) × (keeper x.number ≡ j)
+        × (x.own ≡ entries_by caller_of x.number now)) v.shares
     pub once : share_count views ≡ n
     pub others : Each (λ (e : E). (caller_of e < n) ⊎ (caller_of e ≡ OPENER)) now
 
   -- At most one view is served, and its ticket is the one that is served.
   pub record OneIsServed (serving : ℕ) (views : List (View E)) : Type 0 where
     pub ticket : (j : ℕ) (v : View E) → HasView views j v → v.served ≡ true → v.ticket ≡ Some serving
-    pub one : (i j : ℕ) (v w : View E) → HasView views i v → HasView views j w → v.served ≡ true → w.served ≡ true → i ≡ j
+    pub one : (i j : ℕ) (v w : View E) → HasView views i v → HasView views j w → v.served ≡ true → w.served ≡ true
+        → i ≡ j
 
-  -- Where no view is served, the slot is at home with a value whose history is `now`. Where one is, the slot is out with its seat, which has seen `now`.
-  pub record SlotIsRight {Val : Type 0} (history : Val → List E) (now : List E) (homes : List (maybe.Option (Option Val))) (views : List (View E)) : Type 0 where
-    pub home : ((j : ℕ) (v : View E) → HasView views j v → v.served ≡ false) → (x : Val) × (homes ≡ maybe.some (Some x) ∷ []) × (history x ≡ now)
-    pub out : (j : ℕ) (v : View E) → HasView views j v → v.served ≡ true → (homes ≡ maybe.none ∷ []) × Each (λ (x : Share E). x.seen ≡ now) v.shares
+  -- Where no view is served, the slot is at home with a value whose history is `now`. Where one is, the slot is out
+  -- with its seat, which has seen `now`.
+  pub record SlotIsRight {Val : Type 0} (history : Val → List E) (now : List E)
+      (homes : List (maybe.Option (Option Val))) (views : List (View E)) : Type 0 where
+    pub home : ((j : ℕ) (v : View E) → HasView views j v → v.served ≡ false)
+        → (x : Val) × (homes ≡ maybe.some (Some x) ∷ []) × (history x ≡ now)
+    pub out : (j : ℕ) (v : View E) → HasView views j v → v.served ≡ true
+        → (homes ≡ maybe.none ∷ []) × Each (λ (x : Share E). x.seen ≡ now) v.shares
 
   -- A view with no share, as it is left once its pass was taken in, has no ticket.
   abbrev pub SpentIsIdle : List (View E) → Type 0
   SpentIsIdle views = (j : ℕ) (v : View E) → HasView views j v → v.shares ≡ [] → v.ticket ≡ None
 
   -- The rule of a lock with n passes. `now` is the history, which `count` counts.
-  pub record IsKept {Val : Type 0} (history : Val → List E) (caller_of : E → ℕ) (n : ℕ) (s : State (Option Val) (View E)) : Type 0 where
+  pub record IsKept {Val : Type 0} (history : Val → List E) (caller_of : E → ℕ) (n : ℕ)
+      (s : State (Option Val) (View E)) : Type 0 where
     pub now : List E
     pub ticket : ℕ
     pub serving : ℕ

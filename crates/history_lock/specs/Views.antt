@@ -51,7 +51,12 @@ module _ {E : Type 0} where
 
   -- A pass at rest, with this number and what it knows: it has one share and no ticket.
   abbrev pub resting_view : ℕ → ℕ → View E → View E
-  resting_view number known v = record v { shares = record (first_share v.shares) { number = number } ∷ []; known = known; ticket = None; served = false }
+  resting_view number known v = record v {
+    shares = record (first_share v.shares) { number = number } ∷ [];
+    known = known;
+    ticket = None;
+    served = false;
+  }
 
   -- A pass that has drawn this ticket, and was not served yet.
   abbrev pub ticketed_view : ℕ → View E → View E
@@ -63,7 +68,8 @@ module _ {E : Type 0} where
 
   -- A pass that is served, with this number and what it knows.
   abbrev pub inside_view : ℕ → ℕ → View E → View E
-  inside_view number known v = record v { shares = record (first_share v.shares) { number = number } ∷ []; known = known; served = true }
+  inside_view number known v =
+      record v { shares = record (first_share v.shares) { number = number } ∷ []; known = known; served = true }
 
   -- The j-th view is v.
   abbrev pub HasView : List (View E) → ℕ → View E → Type 0

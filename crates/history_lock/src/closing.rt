@@ -45,11 +45,13 @@ impl<V: Grows> HistoryLock<V> {
         ensures seen { IfOk result (λ value. All (λ p. IsPrefix (seen p) (V.history value)) passes.items) }
 
         // Its entries of the pass's number are just the pass's own, in order.
-        ensures own { IfOk result (λ value. All (λ p. entries_by V.caller_of (pass_number p) (V.history value) ≡ own p) passes.items) }
+        ensures own { IfOk result (λ value. All
+            (λ p. entries_by V.caller_of (pass_number p) (V.history value) ≡ own p) passes.items) }
 
         // Each number below n is that of a pass that was given, and all other entries are the opener's.
         ensures numbers { IfOk result (λ _. (k : ℕ) → k < pass_count self → Any (λ p. pass_number p ≡ k) passes.items) }
-        ensures others { IfOk result (λ value. All (λ e. (V.caller_of e < pass_count self) ⊎ (V.caller_of e ≡ OPENER)) (V.history value)) }
+        ensures others { IfOk result (λ value. All
+            (λ e. (V.caller_of e < pass_count self) ⊎ (V.caller_of e ≡ OPENER)) (V.history value)) }
     {
         if passes.len() < self.passes as usize {
             return Err(NotAll { lock: self, passes });

@@ -19,10 +19,12 @@ use std::sync::Wait;
 
 // Waits until the ticket is served, and takes the value out of the slot.
 fn wait_turn<V: Grows, R: Wait>(rt: &R, steps: &Steps<V>, place: &mut Place<V>, ticket: u64) -> V
-    requires table { (place.old.table_id ≡ steps.now.table_id) × (steps.now.table_id.words ≡ 4) × (steps.now.table_id.slots ≡ 1) }
+    requires table { (place.old.table_id ≡ steps.now.table_id) × (steps.now.table_id.words ≡ 4)
+        × (steps.now.table_id.slots ≡ 1) }
     requires ready { (place.old.me.0 ≡ ticketed_view ticket place.old.me.0) × (place.old.me.1 ≡ []) }
     ensures seat { (place.new.table_id ≡ place.old.table_id) × (place.new.id ≡ place.old.id) }
-    ensures served { place.new.me ≡ (served_view place.old.me.0 (first_share place.old.me.0.shares) (V.history result), (0, None) ∷ []) }
+    ensures served { place.new.me
+        ≡ (served_view place.old.me.0 (first_share place.old.me.0.shares) (V.history result), (0, None) ∷ []) }
     ensures found { IsFound V.history V.caller_of (first_share place.old.me.0.shares) place.old.me.0.known result }
 {
     let backoff = Backoff::new();
@@ -44,11 +46,20 @@ fn publish<V: Grows, J: Leaving<V::Entry>>(
 )
     requires left { V.history left.now.value ≡ J.left }
     requires count { count ≡ length (V.history left.now.value) }
-    requires table { (place.old.table_id ≡ steps.now.table_id) × (steps.now.table_id.words ≡ 4) × (steps.now.table_id.slots ≡ 1) }
+    requires table { (place.old.table_id ≡ steps.now.table_id) × (steps.now.table_id.words ≡ 4)
+        × (steps.now.table_id.slots ≡ 1) }
     requires served { (place.old.me.0 ≡ let_in_view place.old.me.0) × (place.old.me.1 ≡ (0, None) ∷ []) }
-    requires grown { IsGrownBy V.caller_of (first_share place.old.me.0.shares).number (first_share place.old.me.0.shares).seen (V.history left.now.value) }
+    requires grown { IsGrownBy V.caller_of (first_share place.old.me.0.shares).number
+        (first_share place.old.me.0.shares).seen (V.history left.now.value) }
     ensures seat { (place.new.table_id ≡ place.old.table_id) × (place.new.id ≡ place.old.id) }
-    ensures left { place.new.me ≡ (record place.old.me.0 { shares = share_left (first_share place.old.me.0.shares) (V.history left.now.value) ∷ [] }, (0, None) ∷ []) }
+    ensures left { place.new.me
+        ≡ (
+          record place.old.me.0 {
+            shares = share_left (first_share place.old.me.0.shares) (V.history left.now.value)
+                ∷ [];
+          },
+          (0, None) ∷ [],
+        ) }
 {
     steps.store::<Publish<J>>(place, COUNT, count);
 }
@@ -69,7 +80,8 @@ impl<V: Grows> HistoryLock<V> {
 
         ensures holds { inside_holds result ≡ holds pass + 1 }
         ensures found { found result ≡ V.history (value_of result) }
-        ensures same { (inside_lock result ≡ lock_of pass) × (inside_number result ≡ pass_number pass) × (inside_own result ≡ own pass) × (inside_known result ≡ known pass) }
+        ensures same { (inside_lock result ≡ lock_of pass) × (inside_number result ≡ pass_number pass)
+            × (inside_own result ≡ own pass) × (inside_known result ≡ known pass) }
     {
         let (number, known, mut place) = pass.into_parts();
         let steps = &self.table.shared;
@@ -94,9 +106,11 @@ impl<V: Grows> HistoryLock<V> {
         ensures seen { seen result ≡ V.history (value_of inside) }
 
         // Its own list is longer by what was added in this hold.
-        ensures own { (added : List V.Entry) → V.history (value_of inside) ≡ found inside ++ added → own result ≡ inside_own inside ++ added }
+        ensures own { (added : List V.Entry) → V.history (value_of inside) ≡ found inside ++ added
+            → own result ≡ inside_own inside ++ added }
 
-        ensures same { (lock_of result ≡ inside_lock inside) × (pass_number result ≡ inside_number inside) × (holds result ≡ inside_holds inside) × (known result ≡ inside_known inside) }
+        ensures same { (lock_of result ≡ inside_lock inside) × (pass_number result ≡ inside_number inside)
+            × (holds result ≡ inside_holds inside) × (known result ≡ inside_known inside) }
     {
         let Inside { value, turn } = inside;
         let Turn {

@@ -1,4 +1,5 @@
-//! `value_mut` has a file of its own: its clause names the row of `Inside`, which the file that declares it cannot import.
+//! `value_mut` has a file of its own: its clause names the row of `Inside`, which the file that declares it cannot
+//! import.
 ghost use Rattle.std.specs.Prelude.{◌≡◌};
 ghost use Rattle.std.specs.Borrow.{sem};
 ghost use Rattle.history_lock.specs.Passes.{value_of};

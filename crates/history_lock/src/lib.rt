@@ -14,7 +14,8 @@
 //! | `HistoryLock::close` | the value comes exactly where all passes are given, and its history fits each of them |
 //! | `Inside::value`, `Inside::value_mut` | the value inside, and what a write through it leaves |
 //!
-//! `specs/Rule.antt` has the rule that holds between any two steps, and `specs/Steps.antt` what each kind of step tells.
+//! `specs/Rule.antt` has the rule that holds between any two steps, and `specs/Steps.antt` what each kind of step
+//! tells.
 #![tactic(auto)]
 
 mod closing;

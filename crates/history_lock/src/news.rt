@@ -31,7 +31,8 @@ impl<V: Grows> HistoryLock<V> {
 
     /// Waits for a greater count than the pass knows, or for a wake, and may answer earlier.
     ///
-    /// It parks only while no wake was called since it began, so a wake between its last load and the park ends the park.
+    /// It parks only while no wake was called since it began, so a wake between its last load and the park ends the
+    /// park.
     pub fn await_news<R: Wait>(&self, rt: &R, pass: Pass<V>) -> Pass<V>
         requires { lock_of pass ≡ lock_id self.now }
 
