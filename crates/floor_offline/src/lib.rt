@@ -13,4 +13,6 @@ pub use laws::lines_are_a_run;
 pub use run::run_offline;
 
 #[cfg(test)]
+mod scripts;
+#[cfg(test)]
 mod tests;
