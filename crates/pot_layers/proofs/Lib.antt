@@ -1,0 +1,9 @@
+pub mod Tests
+pub mod Heights
+pub mod Stretches
+pub mod Nearest
+pub mod PayersSoFar
+pub mod Cuts
+pub mod Rounds
+pub mod Raised
+pub mod Told

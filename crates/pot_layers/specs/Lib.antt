@@ -1,0 +1,5 @@
+pub mod Layers
+pub mod Running
+pub mod Shares
+pub mod Standings
+pub mod Tallies
