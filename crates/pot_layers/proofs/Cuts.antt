@@ -1,26 +1,29 @@
 -- The pots as they are cut, one amount of a live player after another.
-use Rattle.std.proofs.Common.{◌≡◌, ◌∙◌, ◌⊎◌, ℕ, zero, suc, ◌+◌, ◌-◌, ◌<◌, ◌≤◌, List, [], ◌∷◌, ◌++◌, Bool, true, false, Some, None, length, refl, ap, sym, subst, inl, inr, arith}
-use Rattle.std.specs.Prelude.{◌&&◌, ◌||◌, ◌==◌, not, nat_le, nat_lt, count_by, map, fold, reverse, Option}
+use Rattle.std.proofs.Common.{◌≡◌, ◌∙◌, ◌⊎◌, ℕ, ◌+◌, ◌-◌, ◌%◌, ◌<◌, ◌≤◌, List, [], ◌∷◌, ◌++◌, Bool, true, false, Some, None, length, refl, ap, sym, subst, inl, inr, arith}
+use Rattle.std.specs.Prelude.{◌&&◌, ◌||◌, ◌==◌, not, nat_le, nat_lt, count_by, map, fold, reverse}
 use Rattle.std.specs.List.{list_all, list_any}
 use Rattle.std.proofs.lemmas.Bool.Decides.{nat_tests}
 use Rattle.std.proofs.lemmas.List.{length-append}
-use Rattle.std.proofs.lemmas.List.Folds.{list_all-map}
+use Rattle.std.proofs.lemmas.List.Folds.{list_all-map, list_all-append}
 use Rattle.pot_layers.specs.declared.put.Put.{Put}
 use Rattle.pot_layers.specs.declared.pot_list.Pot.{Pot}
 use Rattle.pot_layers.specs.declared.standing.Standing.{Standing}
 use Rattle.pot_layers.specs.Layers.{is_eligible, live_payers, greatest_put, is_contested, pots_to, layers}
 use Rattle.pot_layers.specs.Tallies.{total_put, total_to}
+use Rattle.pot_layers.specs.PotTests.{are_whole_pots, are_whole_puts}
 use Rattle.pot_layers.specs.Standings.{puts_of, standing_of, is_above, nearer}
-use Rattle.pot_layers.proofs.Tests.{and-left, and-right, list_all-always, list_any-none, reverse-cons}
+use Rattle.pot_layers.proofs.ListTests.{and-left, and-right, list_all-always, list_any-none, reverse-cons}
 use Rattle.pot_layers.proofs.Heights.{is_within, is_live_at, total_to-grows, total_to-greatest, greatest_put-most}
 use Rattle.pot_layers.proofs.Stretches.{pot_of, IsTop, next-cut, above-top}
-use Rattle.pot_layers.proofs.Nearest.{stands_at, IsNearest, nearest-found, none-above, above-falls, outside-puts_of, within-puts_of, there-puts_of}
+use Rattle.pot_layers.proofs.Units.{total_to-whole, total_put-whole, there-whole, whole-minus, eqb_true, last-whole}
+use Rattle.pot_layers.proofs.Nearest.{stands_at, nearest-found, none-above, above-falls, outside-puts_of, within-puts_of, there-puts_of}
 
 -- The heights up to one are cut.
 pub record IsCut (standings : List Standing) (pots : List Pot) (below total : ℕ) : Type 0 where
   pub so_far : pots ≡ reverse (pots_to (puts_of standings) below)
   pub paid : total ≡ total_to (puts_of standings) below
   pub top : (below ≡ 0) ⊎ IsTop (puts_of standings) below
+  pub units : (unit : ℕ) → are_whole_puts unit (puts_of standings) ≡ true → (are_whole_pots unit pots ≡ true) × (total % unit ≡ 0)
   pub room : length pots + count_by (is_above below) standings ≤ 10
 
 -- What is known once the nearest live player above is found.
@@ -60,7 +63,7 @@ cuts-next standings pots below paid next right cut found =
     let all_right : list_all (stands_right puts) standings ≡ true = subst (λ (s : List Standing). list_all (stands_right puts) s ≡ true) (sym right) (all-stand_right puts puts) in
     let nearest = nearest-found (stands_right puts) below None standings next (λ before was. absurd cc) all_right found in
     let higher = higher-amount next.put.live below next.put.amount nearest.above in
-    let there : list_any (stands_at next.put.amount) standings ≡ true = elim nearest.there [ | inl none ↦ absurd cc | inr some ↦ some ] in
+    let there : list_any (stands_at next.put.amount) standings ≡ true = elim nearest.there [ inl none ↦ absurd cc | inr some ↦ some ] in
     let total = right-total puts next nearest.passes in
     let fewer = above-falls standings below next.put.amount higher there in
     let stands : list_any (is_live_at next.put.amount) puts ≡ true = there-puts_of standings next.put.amount there in
@@ -78,6 +81,13 @@ cuts-next standings pots below paid next right cut found =
             ∙ ap reverse (sym pot);
         paid = total;
         top = inr (record { amount = total_to puts next.put.amount - total_to puts below; rest = pots_to puts below; cut = pot; within = omega arith; there = stands });
+        units = λ unit whole.
+            let before = cut.units unit whole in
+            let after : next.total % unit ≡ 0 = rw total (total_to-whole puts next.put.amount unit whole (there-whole puts next.put.amount unit whole stands)) in (
+              list_all-append (λ (p : Pot). p.amount % unit == 0) pots (pot_of (next.total - paid) (live_payers puts next.put.amount) ∷ [])
+                  ∙ rw (before.0, eqb_true (next.total - paid) unit (whole-minus next.total paid unit (rw (total, cut.paid) (total_to-grows puts below next.put.amount (omega arith))) after before.1)),
+              after,
+            );
         room = rw length-append (omega (arith, cut.room, fewer));
       };
     }
@@ -90,6 +100,7 @@ pub record IsWhole (standings : List Standing) (pots : List Pot) (total paid : �
   pub least : paid ≤ total
   pub within : last.amount ≤ paid
   pub all : below ++ record last { amount = last.amount + (total - paid) } ∷ [] ≡ layers (puts_of standings)
+  pub units : (unit : ℕ) → are_whole_puts unit (puts_of standings) ≡ true → are_whole_pots unit (layers (puts_of standings)) ≡ true
 
 nobody-in : (live : Bool) (amount : ℕ) → (not live || nat_le amount 0) ≡ true → (live && nat_le 1 amount) ≡ false
 nobody-in true amount within = grind (arith, nat_tests)
@@ -128,15 +139,23 @@ is-whole standings pots below paid total cut none contested whole = elim cut.top
       let greatest = total_to-greatest puts in
       let grows = total_to-grows puts below (greatest_put puts) least in
       let left : total - paid ≡ total_to puts (greatest_put puts) - total_to puts below = rw (cut.paid, whole, ← greatest) in
+      let ends : pots ≡ reverse top.rest ++ pot_of top.amount (live_payers puts below) ∷ [] = cut.so_far ∙ ap reverse top.cut ∙ reverse-cons (pot_of top.amount (live_payers puts below)) top.rest in
+      let all_is : reverse top.rest ++ pot_of (top.amount + (total - paid)) (live_payers puts below) ∷ [] ≡ layers puts =
+      sym (reverse-cons (pot_of (top.amount + (total - paid)) (live_payers puts below)) top.rest)
+      ∙ ap (λ left. reverse (pot_of (top.amount + left) (live_payers puts below) ∷ top.rest)) left
+      ∙ ap reverse (sym all) in
       record {
         below = reverse top.rest;
         last = pot_of top.amount (live_payers puts below);
-        ends = cut.so_far ∙ ap reverse top.cut ∙ reverse-cons (pot_of top.amount (live_payers puts below)) top.rest;
+        ends = ends;
         least = rw (cut.paid, whole, ← greatest) grows;
         within = rw cut.paid top.within;
-        all =
-            sym (reverse-cons (pot_of (top.amount + (total - paid)) (live_payers puts below)) top.rest)
-            ∙ ap (λ left. reverse (pot_of (top.amount + left) (live_payers puts below) ∷ top.rest)) left
-            ∙ ap reverse (sym all);
+        all = all_is;
+        units = λ unit whole_puts.
+            let before = cut.units unit whole_puts in
+            let total_is : total % unit ≡ 0 = rw whole (total_put-whole puts unit whole_puts) in
+            subst (λ (p : List Pot). are_whole_pots unit p ≡ true) all_is
+            (last-whole unit (reverse top.rest) top.amount (total - paid) (live_payers puts below) (subst (λ (p : List Pot). are_whole_pots unit p ≡ true) ends before.0)
+            (whole-minus total paid unit (rw (cut.paid, whole, ← greatest) grows) total_is before.1));
       }
 ]

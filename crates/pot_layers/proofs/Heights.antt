@@ -1,6 +1,6 @@
 -- Who pays a height, and how much is put in up to it.
-use Rattle.std.proofs.Common.{◌≡◌, ◌∙◌, ℕ, zero, suc, ◌+◌, ◌-◌, ◌<◌, ◌≤◌, List, [], ◌∷◌, Bool, true, false, cond, refl, ap, sym, arith}
-use Rattle.std.specs.Prelude.{◌&&◌, ◌||◌, ◌==◌, not, nat_le, min, max, sum_by, count_by, map, fold}
+use Rattle.std.proofs.Common.{◌≡◌, ◌∙◌, ℕ, suc, ◌+◌, ◌<◌, ◌≤◌, List, [], ◌∷◌, Bool, true, false, cond, refl, arith}
+use Rattle.std.specs.Prelude.{◌&&◌, ◌||◌, ◌==◌, not, nat_le, min, max, fold}
 use Rattle.std.specs.List.{list_all, list_any}
 use Rattle.std.proofs.lemmas.Bool.Decides.{nat_tests}
 use Rattle.std.proofs.lemmas.List.Sums.{sum_by-cons, sum_by-le-sum_by}
@@ -8,7 +8,7 @@ use Rattle.std.proofs.lemmas.List.Folds.{list_all-map}
 use Rattle.pot_layers.specs.declared.put.Put.{Put}
 use Rattle.pot_layers.specs.Layers.{has_paid, is_eligible, payments, live_payers, greatest_put, are_same_seats, is_nobody}
 use Rattle.pot_layers.specs.Tallies.{total_put, total_to}
-use Rattle.pot_layers.proofs.Tests.{and-left, and-right, list_all-implied, list_all-always, map-agree, sum_by-agree, list_any-implied}
+use Rattle.pot_layers.proofs.ListTests.{list_all-implied, map-agree, sum_by-agree}
 
 -- A player's part of a height.
 min-suc : (amount height : ℕ) → min amount (suc height) ≡ min amount height + cond (nat_le (suc height) amount) 1 0

@@ -1,5 +1,5 @@
 -- A set of seats that is filled seat by seat.
-use Rattle.std.proofs.Common.{◌≡◌, ◌∙◌, ℕ, zero, suc, ◌+◌, ◌-◌, ◌<◌, add-one, sym, List, [], ◌∷◌, ◌++◌, Bool, true, false, length, take, get_or, set, replicate, refl, ap, arith}
+use Rattle.std.proofs.Common.{◌≡◌, ◌∙◌, ℕ, zero, suc, ◌+◌, ◌-◌, ◌<◌, add-one, sym, List, [], ◌∷◌, ◌++◌, Bool, true, false, length, take, get_or, set, replicate, ap, arith}
 use Rattle.std.specs.Prelude.{map}
 use Rattle.button_blinds.specs.SeatSets.{with_seat}
 

@@ -1,6 +1,6 @@
 -- What each player's total becomes where one puts in more, or folds.
-use Rattle.std.proofs.Common.{◌≡◌, ◌∙◌, ℕ, zero, suc, ◌+◌, ◌-◌, ◌<◌, ◌≤◌, List, [], ◌∷◌, Bool, true, false, ◌++◌, length, get_or, set, take, drop, min, refl, ap, sym, subst, arith}
-use Rattle.std.specs.Prelude.{map, sum_by}
+use Rattle.std.proofs.Common.{◌≡◌, ◌∙◌, ℕ, zero, suc, ◌+◌, ◌-◌, ◌<◌, ◌≤◌, List, [], ◌∷◌, false, ◌++◌, length, get_or, set, take, drop, min, refl, ap, sym, subst, arith}
+use Rattle.std.specs.Prelude.{map}
 use Rattle.std.proofs.lemmas.List.{length-set, length-map}
 use Rattle.std.proofs.lemmas.List.Sums.{sum_by-cons, get_or-le-sum_by}
 use Rattle.pot_layers.specs.declared.put.Put.{Put}

@@ -1,20 +1,19 @@
 -- The pots of heights one by one, by stretches of heights with the same live payers.
-use Rattle.std.proofs.Common.{◌≡◌, ◌∙◌, ◌⊎◌, ℕ, zero, suc, ◌+◌, ◌-◌, ◌<◌, ◌≤◌, List, [], ◌∷◌, ◌++◌, Bool, true, false, refl, ap, sym, inl, inr, arith}
-use Rattle.std.specs.Prelude.{◌||◌, reverse}
+use Rattle.std.proofs.Common.{◌≡◌, ◌∙◌, ◌⊎◌, ℕ, zero, suc, ◌+◌, ◌-◌, ◌<◌, ◌≤◌, List, ◌∷◌, Bool, true, false, refl, ap, sym, inl, inr, arith}
 use Rattle.std.specs.List.{list_all, list_any}
 use Rattle.std.proofs.lemmas.Bool.{cases_lt}
 use Rattle.pot_layers.specs.declared.put.Put.{Put}
 use Rattle.pot_layers.specs.declared.pot_list.Pot.{Pot}
-use Rattle.pot_layers.specs.Layers.{payments, live_payers, greatest_put, are_same_seats, is_nobody, lay, pots_to, layers}
-use Rattle.pot_layers.specs.Tallies.{total_put, total_to}
-use Rattle.pot_layers.proofs.Heights.{is_outside, is_within, is_live_at, total_to-suc, total_to-grows, total_to-greatest, live_payers-between, live_payers-above, live_payers-somebody, live_payers-differ, are_same_seats-self}
+use Rattle.pot_layers.specs.Layers.{payments, live_payers, are_same_seats, is_nobody, lay, pots_to}
+use Rattle.pot_layers.specs.Tallies.{total_to}
+use Rattle.pot_layers.proofs.Heights.{is_outside, is_within, is_live_at, total_to-suc, total_to-grows, live_payers-between, live_payers-above, live_payers-somebody, live_payers-differ, are_same_seats-self}
 
 -- A pot of so many chips for these players.
 abbrev pub pot_of : ℕ → List Bool → Pot
 pot_of amount eligible = record { amount = amount; eligible = eligible }
 
 -- A height with the same live payers as the top pot joins it.
-lay-same : (amount paid : ℕ) (eligible : List Bool) (below : List Pot) → lay (pot_of amount eligible ∷ below) paid eligible ≡ pot_of (amount + paid) eligible ∷ below
+pub lay-same : (amount paid : ℕ) (eligible : List Bool) (below : List Pot) → lay (pot_of amount eligible ∷ below) paid eligible ≡ pot_of (amount + paid) eligible ∷ below
 lay-same amount paid eligible below = rw (are_same_seats-self eligible)
 
 -- A height without a live payer joins the top pot.

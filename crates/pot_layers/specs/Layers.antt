@@ -1,5 +1,5 @@
 -- The pots of a hand: what all players have put in, cut by heights. The Poker TDA Rules and Robert's Rules of Poker: who is all-in can win, from each player, no more than he has put in himself; what is above goes into side pots, each kept apart.
-use Rattle.std.specs.Prelude.{ℕ, zero, suc, ◌+◌, max, Bool, true, false, not, ◌&&◌, ◌||◌, if◌then◌else◌, nat_le, nat_lt, List, [], ◌∷◌, map, reverse, fold, count_by}
+use Rattle.std.specs.Prelude.{ℕ, zero, suc, ◌+◌, max, Bool, true, false, not, ◌&&◌, ◌||◌, if◌then◌else◌, nat_le, List, [], ◌∷◌, map, reverse, fold, count_by}
 use Rattle.std.specs.List.{list_all, list_any}
 use Rattle.pot_layers.specs.declared.put.Put.{Put}
 use Rattle.pot_layers.specs.declared.pot_list.Pot.{Pot}

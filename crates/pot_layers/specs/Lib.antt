@@ -1,4 +1,5 @@
 pub mod Layers
+pub mod PotTests
 pub mod Running
 pub mod Shares
 pub mod Standings

@@ -1,5 +1,5 @@
 -- What a tally has been told: by seat, what was put in and who has folded.
-use Rattle.std.specs.Prelude.{ℕ, zero, suc, ◌+◌, min, true, false, List, [], ◌∷◌, replicate, sum_by, map}
+use Rattle.std.specs.Prelude.{ℕ, zero, suc, ◌+◌, min, true, false, List, [], ◌∷◌, replicate, sum_by}
 use Rattle.pot_layers.specs.declared.put.Put.{Put}
 
 -- Nobody has put in a chip, and nobody has folded.

@@ -1,7 +1,8 @@
 //! The pots of what the players have put in.
 
-ghost use Rattle.std.specs.Prelude.{◌≡◌, ◌<◌, ◌^◌, true};
+ghost use Rattle.std.specs.Prelude.{◌≡◌, ◌<◌, ◌^◌, ℕ, true};
 ghost use Rattle.pot_layers.specs.Layers.{layers, is_contested};
+ghost use Rattle.pot_layers.specs.PotTests.{total_of, live_seats, are_for, have_somebody, are_whole_pots, are_whole_puts};
 ghost use Rattle.pot_layers.specs.Tallies.{total_put};
 
 use crate::{PotTally, Pots, Put};
@@ -11,7 +12,11 @@ use crate::{PotTally, Pots, Put};
 pub fn pots(puts: &[Put; 10]) -> Pots
     requires contested { is_contested puts.now ≡ true }
     requires fits { total_put puts.now < 2 ^ 53 }
-    ensures { result ≡ layers puts.now }
+    ensures pots { result ≡ layers puts.now }
+    ensures sum { total_of result ≡ total_put puts.now }
+    ensures live { are_for (live_seats puts.now) result ≡ true }
+    ensures somebody { have_somebody result ≡ true }
+    ensures units { (unit : ℕ) → are_whole_puts unit puts.now ≡ true → are_whole_pots unit result ≡ true }
 {
     PotTally::of(puts).pots()
 }

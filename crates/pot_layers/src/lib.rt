@@ -6,11 +6,14 @@
 #![tactic(auto)]
 
 mod cutting;
+pub mod laws;
 mod pot_list;
 mod pot_tally;
 mod put;
 mod shares;
 mod standing;
+#[cfg(test)]
+mod tests;
 
 pub use cutting::pots;
 pub use pot_list::{Pot, Pots};

@@ -1,7 +1,8 @@
 //! The pots while chips come in and players fold.
 
-ghost use Rattle.std.specs.Prelude.{◌≡◌, ◌+◌, ◌-◌, ◌<◌, ◌≤◌, ◌^◌, true};
+ghost use Rattle.std.specs.Prelude.{◌≡◌, ◌+◌, ◌-◌, ◌<◌, ◌≤◌, ◌^◌, ℕ, true};
 ghost use Rattle.pot_layers.specs.Layers.{layers, is_contested};
+ghost use Rattle.pot_layers.specs.PotTests.{total_of, live_seats, are_for, have_somebody, are_whole_pots, are_whole_puts};
 ghost use Rattle.pot_layers.specs.Tallies.{nothing_put, put_in_at, folded_at, total_put};
 
 use crate::standing::{Standing, fold, live_payers, nearest_above, put_in};
@@ -87,7 +88,11 @@ impl PotTally {
     /// The pots of what is put in so far.
     pub fn pots(&self) -> Pots
         requires { is_contested self.now ≡ true }
-        ensures { result ≡ layers self.now }
+        ensures pots { result ≡ layers self.now }
+        ensures sum { total_of result ≡ total_put self.now }
+        ensures live { are_for (live_seats self.now) result ≡ true }
+        ensures somebody { have_somebody result ≡ true }
+        ensures units { (unit : ℕ) → are_whole_puts unit self.now ≡ true → are_whole_pots unit result ≡ true }
     {
         let mut pots = Pots::empty();
         let mut below = 0;

@@ -1,5 +1,4 @@
-use Rattle.std.proofs.Common.{◌≡◌, ◌∙◌, ◌+◌, ◌*◌, ◌/◌, ◌%◌, cond, ap, sym, arith}
-use Rattle.std.specs.Prelude.{nat_lt}
+use Rattle.std.proofs.Common.{◌∙◌, ◌*◌, ◌/◌, ap, sym, arith}
 use Rattle.std.proofs.lemmas.Bool.Decides.{nat_tests}
 use Rattle.pot_layers.proofs.Rounds.{units_to-quotient}
 use Rattle.pot_layers.proofs.shares.share.Goals.{then-index-units, else-index-units}

@@ -1,8 +1,6 @@
-use Rattle.std.proofs.Common.{◌≡◌, ◌∙◌, ◌≤◌, ◌+◌, get_or, length, ap, arith}
+use Rattle.std.proofs.Common.{◌≡◌, ◌∙◌, get_or, length, ap, arith}
 use Rattle.std.proofs.lemmas.List.Edits.{map_over_more}
-use Rattle.pot_layers.specs.declared.standing.Standing.{Standing}
-use Rattle.pot_layers.specs.Standings.{puts_of, grown}
-use Rattle.pot_layers.specs.Tallies.{total_put}
+use Rattle.pot_layers.specs.Standings.{grown}
 use Rattle.pot_layers.proofs.Raised.{no_standing, total-within, at-turn, same-item, length-at_turn}
 use Rattle.pot_layers.proofs.standing.grow.Goals as goal
 

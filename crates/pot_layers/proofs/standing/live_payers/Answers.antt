@@ -1,4 +1,4 @@
-use Rattle.std.proofs.Common.{◌≡◌, ◌∙◌, true, false, sym, arith}
+use Rattle.std.proofs.Common.{◌∙◌, sym, arith}
 use Rattle.pot_layers.specs.declared.standing.Standing.{Standing}
 use Rattle.pot_layers.specs.Layers.{is_eligible}
 use Rattle.pot_layers.proofs.PayersSoFar.{so_far-yes, so_far-no}

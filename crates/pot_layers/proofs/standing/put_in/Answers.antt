@@ -1,11 +1,10 @@
-use Rattle.std.proofs.Common.{◌≡◌, ◌∙◌, ◌≤◌, ◌+◌, ◌<◌, ℕ, List, length, get_or, ap, sym, arith}
+use Rattle.std.proofs.Common.{◌≡◌, ◌≤◌, ◌+◌, ◌<◌, ℕ, List, length, get_or, ap, arith}
 use Rattle.std.proofs.lemmas.List.{length-map}
 use Rattle.pot_layers.specs.declared.standing.Standing.{Standing}
-use Rattle.pot_layers.specs.declared.put.Put.{Put}
 use Rattle.pot_layers.specs.Standings.{puts_of}
 use Rattle.pot_layers.specs.Tallies.{total_put}
 use Rattle.pot_layers.proofs.Heights.{total_to-le}
-use Rattle.pot_layers.proofs.Raised.{no_put, no_standing, amount-within, get_or-puts_of, puts_of-put_in, AreRight-put_in}
+use Rattle.pot_layers.proofs.Raised.{no_standing, amount-within, get_or-puts_of, puts_of-put_in, AreRight-put_in}
 use Rattle.pot_layers.proofs.standing.put_in.Goals as goal
 
 own-within : (standings : List Standing) (index : ℕ) → index < 10 → length standings ≡ 10 → (get_or standings index no_standing).put.amount ≤ total_put (puts_of standings)

@@ -1,6 +1,6 @@
 use Rattle.std.proofs.Common.{◌≡◌, ◌∙◌, ◌+◌, ◌-◌, ◌<◌, length, ap, sym, arith}
 use Rattle.std.proofs.lemmas.List.{length-map}
-use Rattle.pot_layers.specs.Tallies.{total_put, put_in_at}
+use Rattle.pot_layers.specs.Tallies.{total_put}
 use Rattle.pot_layers.specs.Standings.{puts_of}
 use Rattle.pot_layers.proofs.Raised.{total_put-put_in_at}
 use Rattle.pot_layers.proofs.pot_tally.PotTally.add.Goals as goal

@@ -1,4 +1,4 @@
-use Rattle.std.proofs.Common.{◌≡◌, ◌∙◌, ◌-◌, ap, sym}
+use Rattle.std.proofs.Common.{◌∙◌, ◌-◌, ap, sym}
 use Rattle.pot_layers.specs.Tallies.{total_put}
 use Rattle.pot_layers.specs.Standings.{puts_of}
 use Rattle.pot_layers.proofs.Raised.{total_put-folded_at}

@@ -1,12 +1,13 @@
-use Rattle.std.proofs.Common.{◌≡◌, ◌∙◌, ◌+◌, ◌<◌, ◌≤◌, List, [], ◌∷◌, ◌++◌, length, subst, sym, ap, refl, inl, arith}
+use Rattle.std.proofs.Common.{◌≡◌, ◌∙◌, sym, ap, refl, inl, arith}
 use Rattle.std.proofs.lemmas.List.{length-append}
+use Rattle.std.proofs.Math.Nat.{zero-mod}
 use Rattle.std.proofs.lemmas.List.Sums.{count_by-le-length}
-use Rattle.pot_layers.specs.declared.pot_list.Pot.{Pot}
-use Rattle.pot_layers.specs.Layers.{layers, pots_to, is_contested}
+use Rattle.pot_layers.specs.Layers.{layers, pots_to}
 use Rattle.pot_layers.specs.Standings.{puts_of, is_above}
-use Rattle.pot_layers.proofs.Tests.{same-last}
+use Rattle.pot_layers.proofs.ListTests.{same-last}
 use Rattle.pot_layers.proofs.Heights.{total_to-zero}
-use Rattle.pot_layers.proofs.Cuts.{IsCut, cuts-next, is-whole}
+use Rattle.pot_layers.proofs.Cuts.{cuts-next, is-whole}
+use Rattle.pot_layers.proofs.PotLaws.{total_of-layers, layers-live, layers-somebody}
 use Rattle.pot_layers.proofs.pot_tally.PotTally.pots.Goals as goal
 
 pub loop-next-init : goal.loop-next-init
@@ -15,6 +16,7 @@ loop-next-init c = record {
   so_far = c.empty-pots.ensures;
   paid = sym (total_to-zero (puts_of c.self.inside.standings));
   top = inl refl;
+  units = λ unit whole. (rw c.empty-pots.ensures, zero-mod unit);
   room = rw c.empty-pots.ensures (omega (arith, count_by-le-length (is_above 0) c.self.inside.standings, c.self.invariant.right.seats));
 }
 
@@ -51,4 +53,11 @@ add_to_last-requires-clause-fits c = λ below last is.
 pub returns : goal.returns
 returns c =
     let whole = is-whole c.self.inside.standings c.loop-next.pots c.loop-next.below c.loop-next.paid c.self.inside.total c.loop-next.invariant (sym c.in_default.ensures) (rw c.self.view_is c.requires) c.self.invariant.whole in
-    c.add_to_last.ensures whole.below whole.last whole.ends ∙ whole.all ∙ ap layers c.self.view_is
+    let cut : c.add_to_last.new.self ≡ layers c.args.self.now = c.add_to_last.ensures whole.below whole.last whole.ends ∙ whole.all ∙ ap layers c.self.view_is in
+    record {
+      pots = cut;
+      sum = rw cut (total_of-layers c.args.self.now);
+      live = rw cut (layers-live c.args.self.now);
+      somebody = rw cut (layers-somebody c.args.self.now c.requires);
+      units = λ unit is. rw (cut, ← c.self.view_is) (whole.units unit (rw c.self.view_is is));
+    }
