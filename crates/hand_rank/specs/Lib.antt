@@ -1,0 +1,3 @@
+pub mod BestHigh
+pub mod Padded
+pub mod Values

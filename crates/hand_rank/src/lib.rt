@@ -1,0 +1,15 @@
+//! The value of a player's best five cards, in hold'em and in Omaha.
+//!
+//! It stands on `card_set` and `card_choices`. `best_holdem` and `best_omaha` give the greatest value over all choices
+//! of cards that a player may show, and `HighValue` is ordered as the lists are that contracts see.
+#![tactic(auto)]
+
+mod best;
+mod category;
+mod five_cards;
+mod high_value;
+mod numbers;
+
+pub use best::{best_holdem, best_omaha};
+pub use category::Category;
+pub use high_value::HighValue;
