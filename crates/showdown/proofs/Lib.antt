@@ -1,0 +1,7 @@
+pub mod Writes
+pub mod Turns
+pub mod Payments
+pub mod Best
+pub mod PotAwards
+pub mod SameSeats
+pub mod AllPots
