@@ -5,3 +5,4 @@ pub mod Best
 pub mod PotAwards
 pub mod SameSeats
 pub mod AllPots
+pub mod AwardLaws

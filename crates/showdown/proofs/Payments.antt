@@ -23,25 +23,17 @@ paid-next amount unit count awards order index within low =
     ∙ ap (λ (paid : List ℕ). pay_in_turn amount unit count paid (suc index) (drop (suc index) order)) (sym (award_to-index awards (get_or order index 0) (share_of amount unit count index) low))
     ∙ sym (ap (pay_in_turn amount unit count awards index) (drop-cons order index 0 within))
 
+le : (a b : ℕ) → nat_le a b ≡ true → a ≤ b
+le a b is = grind (arith, nat_tests)
+
+-- A seat of tables is from 1 to 10.
+pub first-seat : (seat : ℕ) → is_seat seat ≡ true → (1 ≤ seat) × (seat ≤ 10)
+first-seat seat is = (le 1 seat (and-left (nat_le 1 seat) (nat_le seat 10) is), le seat 10 (and-right (nat_le 1 seat) (nat_le seat 10) is))
+
 -- A seat of an order of seats.
 pub seat-at : (order : List ℕ) (index : ℕ) → list_all is_seat order ≡ true → index < length order → (1 ≤ get_or order index 0) × (get_or order index 0 ≤ 10)
 seat-at [] index all within = absurd (omega arith)
-seat-at (seat ∷ more) zero all within = bounds seat (and-left (is_seat seat) (list_all is_seat more) all)
-  where
-    bounds : (n : ℕ) → is_seat n ≡ true → (1 ≤ n) × (n ≤ 10)
-    bounds n is = (low (nat_le 1 n) (nat_le n 10) n is, high (nat_le 1 n) (nat_le n 10) n is)
-      where
-        low : (a b : Bool) (n : ℕ) → (nat_le 1 n && nat_le n 10) ≡ true → 1 ≤ n
-        low a b n is = le 1 n (and-left (nat_le 1 n) (nat_le n 10) is)
-          where
-            le : (a b : ℕ) → nat_le a b ≡ true → a ≤ b
-            le a b is = grind (arith, nat_tests)
-
-        high : (a b : Bool) (n : ℕ) → (nat_le 1 n && nat_le n 10) ≡ true → n ≤ 10
-        high a b n is = le n 10 (and-right (nat_le 1 n) (nat_le n 10) is)
-          where
-            le : (a b : ℕ) → nat_le a b ≡ true → a ≤ b
-            le a b is = grind (arith, nat_tests)
+seat-at (seat ∷ more) zero all within = first-seat seat (and-left (is_seat seat) (list_all is_seat more) all)
 seat-at (seat ∷ more) (suc index) all within = seat-at more index (and-right (is_seat seat) (list_all is_seat more) all) (omega arith)
 
 -- The awards grow by what is paid.

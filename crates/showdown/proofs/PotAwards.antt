@@ -43,7 +43,8 @@ wins-some : (side : Side) (hands : List (Option Hand)) (hand : Option Hand) → 
 wins-some side hands None is = absurd cc
 wins-some side hands (Some own) is = refl
 
-map-at : (test : Option Hand → Bool) (hands : List (Option Hand)) (index : ℕ) → get_or (map test hands) index false ≡ true → test (get_or hands index None) ≡ true
+-- The test of the hand at an index.
+pub map-at : (test : Option Hand → Bool) (hands : List (Option Hand)) (index : ℕ) → get_or (map test hands) index false ≡ true → test (get_or hands index None) ≡ true
 map-at test [] index is = absurd cc
 map-at test (hand ∷ more) zero is = is
 map-at test (hand ∷ more) (suc index) is = map-at test more index is

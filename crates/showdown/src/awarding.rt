@@ -23,8 +23,7 @@ fn split(amount: u64, unit: u64, awards: &mut [u64; 10], order: &[u8])
     requires whole { amount % unit ≡ 0 }
     requires seats { list_all is_seat order.now ≡ true }
     requires fits { sum awards.old + amount < 2 ^ 53 }
-    ensures split { awards.new ≡ split amount unit awards.old order.now }
-    ensures sum { 1 ≤ length order.now → sum awards.new ≡ sum awards.old + amount }
+    ensures { awards.new ≡ split amount unit awards.old order.now }
 {
     for (index, seat) in order.iter().enumerate() {
         awards[*seat as usize - 1] += share(amount, unit, order.len() as u64, index as u64);
@@ -50,8 +49,7 @@ fn award_pot(
     requires somebody { list_any is_some (in_play pot.eligible hands.now) ≡ true }
     requires whole { pot.amount % unit ≡ 0 }
     requires fits { sum awards.old + pot.amount < 2 ^ 53 }
-    ensures award { awards.new ≡ award_pot hands.now unit button seats awards.old pot }
-    ensures sum { sum awards.new ≡ sum awards.old + pot.amount }
+    ensures { awards.new ≡ award_pot hands.now unit button seats awards.old pot }
 {
     let rivals = in_play(pot.eligible, hands);
     let highs = winners(Side::High, &rivals);

@@ -8,6 +8,7 @@
 mod awarding;
 mod hand;
 mod in_turn;
+pub mod laws;
 mod live;
 #[cfg(test)]
 mod tests;

@@ -9,5 +9,6 @@ use Rattle.showdown.proofs.awarding.award.Given as goal
 abbrev pub invariant-loop-index : goal.invariant-loop-index
 invariant-loop-index l = record {
   awards : l.awards ≡ awards_of (hands_of l.fn.game l.fn.board l.live) l.unit l.button l.seats (take l.index l.pots);
+  ten : length l.awards ≡ 10;
   paid : sum l.awards ≡ total_of (take l.index l.pots);
 }

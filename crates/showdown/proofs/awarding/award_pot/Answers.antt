@@ -1,5 +1,6 @@
 use Rattle.std.proofs.Common.{◌≡◌, ◌∙◌, ◌+◌, ◌%◌, ◌≤◌, ◌<◌, ℕ, List, Bool, true, false, length, refl, ap, sym, subst, arith}
 use Rattle.std.specs.Prelude.{◌==◌, ◌||◌, sum}
+use Rattle.std.specs.List.{list_all}
 use Rattle.std.proofs.lemmas.Bool.Decides.{nat_tests}
 use Rattle.button_blinds.specs.SeatSets.{seat_count}
 use Rattle.pot_layers.specs.Layers.{are_same_seats}
@@ -7,8 +8,9 @@ use Rattle.pot_layers.specs.Shares.{high_half, low_half}
 use Rattle.pot_layers.proofs.ShareLaws.{halves-sum}
 use Rattle.showdown.specs.declared.hand.Side.TheVariants.{High, Low}
 use Rattle.showdown.specs.Winners.{in_play, winners}
-use Rattle.showdown.specs.Awards.{in_turn, split, award_pot}
-use Rattle.showdown.proofs.PotAwards.{award_pot-once, award_pot-halves, share_of-whole, high-some, low-some}
+use Rattle.showdown.specs.Awards.{is_seat, in_turn, split, award_pot}
+use Rattle.showdown.proofs.PotAwards.{award_pot-once, award_pot-halves, share_of-whole, high-some}
+use Rattle.showdown.proofs.AwardLaws.{sum-split}
 use Rattle.showdown.proofs.SameSeats.{pointwise-same}
 use Rattle.showdown.proofs.awarding.award_pot.Goals.{then-count-eq0-via-then-count-eq0, then-count-eq0-via-else-count-eq0+then-eq}
 use Rattle.showdown.proofs.awarding.award_pot.Goals as goal
@@ -23,8 +25,8 @@ or-right : (a b : Bool) → b ≡ true → (a || b) ≡ true
 or-right true b is = refl
 or-right false b is = is
 
-pub returns-then-count-eq0-clause-award : goal.returns-then-count-eq0-clause-award
-returns-then-count-eq0-clause-award c =
+pub returns-then-count-eq0 : goal.returns-then-count-eq0
+returns-then-count-eq0 c =
     let highs = c.winners-highs.ensures ∙ ap (winners High) c.in_play-rivals.ensures.rivals in
     let lows = c.winners-lows.ensures ∙ ap (winners Low) c.in_play-rivals.ensures.rivals in
     let once : (seat_count (winners Low (in_play c.args.pot.eligible c.args.hands.now)) == 0 || are_same_seats (winners High (in_play c.args.pot.eligible c.args.hands.now)) (winners Low (in_play c.args.pot.eligible c.args.hands.now))) ≡ true =
@@ -33,15 +35,9 @@ returns-then-count-eq0-clause-award c =
       | then-count-eq0-via-else-count-eq0+then-eq w ↦
           or-right (seat_count c.winners-lows.result == 0) (are_same_seats c.winners-highs.result c.winners-lows.result) (sym (pointwise-same c.winners-highs.result c.winners-lows.result) ∙ sym w.eq.ensures ∙ w.if-eq.true)
     ]) in
-    c.split.ensures.split
+    c.split.ensures
     ∙ ap (split c.args.pot.amount c.args.unit c.args.awards.now) (c.as_slice.ensures ∙ c.of-high_order.ensures.seats ∙ ap (in_turn c.args.seats c.args.button) highs)
     ∙ award_pot-once c.args.hands.now c.args.unit c.args.button c.args.seats c.args.awards.now c.args.pot once
-
-pub returns-then-count-eq0-clause-sum : goal.returns-then-count-eq0-clause-sum
-returns-then-count-eq0-clause-sum c =
-    let highs = c.winners-highs.ensures ∙ ap (winners High) c.in_play-rivals.ensures.rivals in
-    let order = c.as_slice.ensures ∙ c.of-high_order.ensures.seats ∙ ap (in_turn c.args.seats c.args.button) highs in
-    c.split.ensures.sum (subst (λ (o : List ℕ). 1 ≤ length o) (sym order) (high-some c.args.hands.now c.args.pot.eligible c.args.seats c.args.button c.requires.table (c.requires.button_low, c.requires.button_high) c.requires.somebody))
 
 pub split-requires-2-clause-whole : goal.split-requires-2-clause-whole
 split-requires-2-clause-whole c = rw c.halves-high.ensures.high (share_of-whole c.args.pot.amount c.args.unit 2 0)
@@ -56,33 +52,25 @@ pub split-requires-3-clause-fits : goal.split-requires-3-clause-fits
 split-requires-3-clause-fits c =
     let highs = c.winners-highs.ensures ∙ ap (winners High) c.in_play-rivals.ensures.rivals in
     let order = c.as_slice-2.ensures ∙ c.of-high_order.ensures.seats ∙ ap (in_turn c.args.seats c.args.button) highs in
-    let first = c.split-2.ensures.sum (subst (λ (o : List ℕ). 1 ≤ length o) (sym order) (high-some c.args.hands.now c.args.pot.eligible c.args.seats c.args.button c.requires.table (c.requires.button_low, c.requires.button_high) c.requires.somebody)) in
+    let some = high-some c.args.hands.now c.args.pot.eligible c.args.seats c.args.button c.requires.table (c.requires.button_low, c.requires.button_high) c.requires.somebody in
+    let first = ap sum c.split-2.ensures ∙ sum-split c.halves-high.result.0 c.args.unit c.args.awards.now c.as_slice-2.result.now c.told-awards
+        (subst (λ (o : List ℕ). list_all is_seat o ≡ true) (sym c.as_slice-2.ensures) c.of-high_order.ensures.within) (subst (λ (o : List ℕ). 1 ≤ length o) (sym order) some)
+        (rw c.halves-high.ensures.high (share_of-whole c.args.pot.amount c.args.unit 2 0)) in
     omega (arith, first, halves-sum c.args.pot.amount c.args.unit c.requires.whole, c.halves-high.ensures.high, c.halves-high.ensures.low, c.requires.fits)
 
-pub returns-clause-award : goal.returns-clause-award
-returns-clause-award c =
+pub returns : goal.returns
+returns c =
     let highs = c.winners-highs.ensures ∙ ap (winners High) c.in_play-rivals.ensures.rivals in
     let lows = c.winners-lows.ensures ∙ ap (winners Low) c.in_play-rivals.ensures.rivals in
     let halves : (seat_count (winners Low (in_play c.args.pot.eligible c.args.hands.now)) == 0 || are_same_seats (winners High (in_play c.args.pot.eligible c.args.hands.now)) (winners Low (in_play c.args.pot.eligible c.args.hands.now))) ≡ false =
     rw (← highs, ← lows)
     (rw (some-count (seat_count c.winners-lows.result) c.count.result c.count.ensures.count c.if-count-eq0.false)
     (sym (pointwise-same c.winners-highs.result c.winners-lows.result) ∙ sym c.eq.ensures ∙ c.if-eq.false)) in
-    c.split-3.ensures.split
+    c.split-3.ensures
     ∙ ap (λ (n : ℕ). split n c.args.unit c.split-2.new.awards c.as_slice-3.result.now) c.halves-high.ensures.low
     ∙ ap (λ (o : List ℕ). split (low_half c.args.pot.amount c.args.unit) c.args.unit c.split-2.new.awards o) (c.as_slice-3.ensures ∙ c.of.ensures.seats ∙ ap (in_turn c.args.seats c.args.button) lows)
     ∙ ap (λ (a : List ℕ). split (low_half c.args.pot.amount c.args.unit) c.args.unit a (in_turn c.args.seats c.args.button (winners Low (in_play c.args.pot.eligible c.args.hands.now))))
-    (c.split-2.ensures.split
+    (c.split-2.ensures
     ∙ ap (λ (n : ℕ). split n c.args.unit c.args.awards.now c.as_slice-2.result.now) c.halves-high.ensures.high
     ∙ ap (λ (o : List ℕ). split (high_half c.args.pot.amount c.args.unit) c.args.unit c.args.awards.now o) (c.as_slice-2.ensures ∙ c.of-high_order.ensures.seats ∙ ap (in_turn c.args.seats c.args.button) highs))
     ∙ award_pot-halves c.args.hands.now c.args.unit c.args.button c.args.seats c.args.awards.now c.args.pot halves
-
-pub returns-clause-sum : goal.returns-clause-sum
-returns-clause-sum c =
-    let highs = c.winners-highs.ensures ∙ ap (winners High) c.in_play-rivals.ensures.rivals in
-    let lows = c.winners-lows.ensures ∙ ap (winners Low) c.in_play-rivals.ensures.rivals in
-    let high_order = c.as_slice-2.ensures ∙ c.of-high_order.ensures.seats ∙ ap (in_turn c.args.seats c.args.button) highs in
-    let low_order = c.as_slice-3.ensures ∙ c.of.ensures.seats ∙ ap (in_turn c.args.seats c.args.button) lows in
-    let first = c.split-2.ensures.sum (subst (λ (o : List ℕ). 1 ≤ length o) (sym high_order) (high-some c.args.hands.now c.args.pot.eligible c.args.seats c.args.button c.requires.table (c.requires.button_low, c.requires.button_high) c.requires.somebody)) in
-    let somebody : (seat_count (winners Low (in_play c.args.pot.eligible c.args.hands.now)) == 0) ≡ false = rw (← lows) (some-count (seat_count c.winners-lows.result) c.count.result c.count.ensures.count c.if-count-eq0.false) in
-    let second = c.split-3.ensures.sum (subst (λ (o : List ℕ). 1 ≤ length o) (sym low_order) (low-some c.args.hands.now c.args.pot.eligible c.args.seats c.args.button c.requires.table (c.requires.button_low, c.requires.button_high) somebody)) in
-    omega (arith, first, second, halves-sum c.args.pot.amount c.args.unit c.requires.whole, c.halves-high.ensures.high, c.halves-high.ensures.low)

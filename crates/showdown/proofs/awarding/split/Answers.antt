@@ -29,15 +29,8 @@ loop-index-preserved c =
           omega (arith, sum_is, next, c.loop-index.invariant.paid, c.share.ensures);
     }
 
-pub returns-clause-split : goal.returns-clause-split
+pub returns : goal.returns
 unfolding split
-returns-clause-split c =
+returns c =
     let over : drop c.loop-index.index c.args.order.now ≡ [] = drop_of_length-le c.args.order.now c.loop-index-test.false in
     rw over at c.loop-index.invariant.left
-
-pub returns-clause-sum : goal.returns-clause-sum
-returns-clause-sum c = λ some.
-    let all : c.loop-index.index ≡ length c.args.order.now = omega arith in
-    let shares = sum_below-share_of c.args.amount c.args.unit (length c.args.order.now) some c.requires.whole in
-    let paid : sum c.loop-index.awards ≡ sum c.args.awards.now + sum_below (share_of c.args.amount c.args.unit (length c.args.order.now)) (length c.args.order.now) = rw all at c.loop-index.invariant.paid in
-    omega (arith, shares, paid)
