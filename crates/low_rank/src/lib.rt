@@ -6,7 +6,11 @@
 
 mod best;
 mod five_cards;
+mod laws;
 mod low_value;
+#[cfg(test)]
+mod tests;
 
 pub use best::best_low;
+pub use laws::{order_does_not_count, suits_do_not_count};
 pub use low_value::LowValue;
