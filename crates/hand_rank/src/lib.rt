@@ -8,8 +8,12 @@ mod best;
 mod category;
 mod five_cards;
 mod high_value;
+mod laws;
 mod numbers;
+#[cfg(test)]
+mod tests;
 
 pub use best::{best_holdem, best_omaha};
 pub use category::Category;
 pub use high_value::HighValue;
+pub use laws::{order_does_not_count, suits_break_no_tie};
