@@ -2,6 +2,7 @@
 //!
 //! It stands on `card_set` and `card_choices`. `best_low` gives the least value over all choices of cards that a player
 //! may show and that qualify, and `None` exactly where none does. The lesser `LowValue` is better.
+//! `order_does_not_count` and `suits_do_not_count` are laws over all cards.
 #![tactic(auto)]
 
 mod best;
