@@ -1,5 +1,5 @@
 -- Low ranks, and the better of lows.
-use Rattle.std.proofs.Common.{◌≡◌, ℕ, suc, ◌+◌, ◌<◌, ◌≤◌, Bool, true, false, ◌&&◌, ◌||◌, not, cond, eqb, leb, List, [], ◌∷◌, ◌++◌, length, take, drop, get_or, set, refl, sym, ap, ap₂, ◌∙◌, subst, arith, eqb-true, add-one, drop-cons, length-append, length-take-le, append_assoc, append-nil}
+use Rattle.std.proofs.Common.{◌≡◌, ℕ, suc, ◌+◌, ◌<◌, ◌≤◌, Bool, true, false, ◌&&◌, ◌||◌, not, cond, eqb, leb, List, [], ◌∷◌, ◌++◌, length, take, drop, get_or, set, refl, sym, ap, ap₂, ◌∙◌, subst, arith, eqb-true, length-append, length-take-le, append_assoc, append-nil}
 use Rattle.std.specs.Prelude.{map, filter, count_by, Option, Some, None, if◌then◌else◌}
 use Rattle.std.specs.List.{list_all, list_any, flat_map}
 use Rattle.std.proofs.lemmas.List.{map_more, take_more, take_more_set, drop_all, take_all}
@@ -7,6 +7,7 @@ use Rattle.std.proofs.lemmas.Bool.Decides.{nat_tests}
 use Rattle.std.proofs.lemmas.Grind.{flat_map-append}
 use Rattle.std.proofs.lemmas.List.Sums.{sum_by-cons, length-filter}
 use Rattle.card_set.specs.declared.card.Card.{Card}
+use Rattle.card_choices.proofs.Filters.{left_of, left_of-taken, left_of-passed}
 use Rattle.card_choices.proofs.ListOrder.{min_assoc}
 use Rattle.low_rank.specs.Lows.{low_rank, are_different, low_ranks_down, in_falling_order, better_low, best_low_of, low_value}
 
@@ -81,52 +82,44 @@ unfolding in_falling_order
 length-falling ranks different from to =
     length-filter (λ rank. list_any (λ other. eqb other rank) ranks) low_ranks_down ∙ count-low ranks different from to
 
--- what is written of the ranks in falling order, and those that are left
-abbrev pub left_of : List ℕ → List ℕ → ℕ → List ℕ
-left_of ranks items i = filter (λ rank. list_any (λ other. eqb other rank) ranks) (drop i items)
+-- whether a rank is among some
+abbrev pub among : List ℕ → ℕ → Bool
+among ranks rank = list_any (λ other. eqb other rank) ranks
 
-pub left-all : (ranks : List ℕ) → left_of ranks low_ranks_down 0 ≡ in_falling_order ranks
+pub falling-left : (ranks : List ℕ) → left_of (among ranks) low_ranks_down 0 ≡ in_falling_order ranks
 unfolding in_falling_order
-left-all ranks = refl
-
-left-more : (ranks items : List ℕ) (i rank : ℕ) → i < length items → rank ≡ get_or items i 0 → left_of ranks items i ≡ cond (list_any (λ other. eqb other rank) ranks) (rank ∷ left_of ranks items (i + 1)) (left_of ranks items (i + 1))
-left-more ranks items i rank within at =
-    let split : drop i items ≡ rank ∷ drop (i + 1) items = rw (add-one, drop-cons items i 0 within) (ap (λ x. x ∷ drop (suc i) items) (sym at)) in
-    rw split refl
+falling-left ranks = refl
 
 -- there is room for one more
-pub left-room : (ranks items falling : List ℕ) (count i rank : ℕ) → i < length items → rank ≡ get_or items i 0 → list_any (λ other. eqb other rank) ranks ≡ true
-    → count ≤ length falling → length (in_falling_order ranks) ≡ length falling → take count falling ++ left_of ranks items i ≡ in_falling_order ranks → count < length falling
-left-room ranks items falling count i rank within at there few five all =
-    let more : left_of ranks items i ≡ rank ∷ left_of ranks items (i + 1) = left-more ranks items i rank within at ∙ ap (λ b. cond b (rank ∷ left_of ranks items (i + 1)) (left_of ranks items (i + 1))) there in
-    let sum : length (take count falling) + length (left_of ranks items i) ≡ length falling = sym (length-append (take count falling) (left_of ranks items i)) ∙ ap length all ∙ five in
-    let some : length (left_of ranks items i) ≡ suc (length (left_of ranks items (i + 1))) = ap length more in
+pub left-room : (test : ℕ → Bool) (items falling all : List ℕ) (count i : ℕ) → i < length items → test (get_or items i 0) ≡ true
+    → count ≤ length falling → length all ≡ length falling → take count falling ++ left_of test items i ≡ all → count < length falling
+left-room test items falling all count i within there few as_long is =
+    let sum : length (take count falling) + length (left_of test items i) ≡ length falling = sym (length-append (take count falling) (left_of test items i)) ∙ ap length is ∙ as_long in
+    let some : length (left_of test items i) ≡ suc (length (left_of test items (i + 1))) = ap length (left_of-taken test items i within there) in
     let taken : length (take count falling) ≡ count = length-take-le count falling few in
     omega (arith, sum, some, taken)
 
-pub left-taken : (ranks items falling : List ℕ) (count i rank : ℕ) → i < length items → rank ≡ get_or items i 0 → list_any (λ other. eqb other rank) ranks ≡ true
-    → count < length falling → take count falling ++ left_of ranks items i ≡ in_falling_order ranks
-    → take (count + 1) (set falling count rank) ++ left_of ranks items (i + 1) ≡ in_falling_order ranks
-left-taken ranks items falling count i rank within at there room all =
-    let more : left_of ranks items i ≡ rank ∷ left_of ranks items (i + 1) = left-more ranks items i rank within at ∙ ap (λ b. cond b (rank ∷ left_of ranks items (i + 1)) (left_of ranks items (i + 1))) there in
-    ap (λ xs. xs ++ left_of ranks items (i + 1)) (take_more_set falling count rank room)
-    ∙ append_assoc (take count falling) (rank ∷ []) (left_of ranks items (i + 1))
-    ∙ ap (λ xs. take count falling ++ xs) (sym more) ∙ all
+pub left-taken : (test : ℕ → Bool) (items falling all : List ℕ) (count i : ℕ) → i < length items → test (get_or items i 0) ≡ true
+    → count < length falling → take count falling ++ left_of test items i ≡ all
+    → take (count + 1) (set falling count (get_or items i 0)) ++ left_of test items (i + 1) ≡ all
+left-taken test items falling all count i within there room is =
+    ap (λ xs. xs ++ left_of test items (i + 1)) (take_more_set falling count (get_or items i 0) room)
+    ∙ append_assoc (take count falling) (get_or items i 0 ∷ []) (left_of test items (i + 1))
+    ∙ ap (λ xs. take count falling ++ xs) (sym (left_of-taken test items i within there)) ∙ is
 
-pub left-passed : (ranks items falling : List ℕ) (count i rank : ℕ) → i < length items → rank ≡ get_or items i 0 → list_any (λ other. eqb other rank) ranks ≡ false
-    → take count falling ++ left_of ranks items i ≡ in_falling_order ranks → take count falling ++ left_of ranks items (i + 1) ≡ in_falling_order ranks
-left-passed ranks items falling count i rank within at not_there all =
-    let more : left_of ranks items i ≡ left_of ranks items (i + 1) = left-more ranks items i rank within at ∙ ap (λ b. cond b (rank ∷ left_of ranks items (i + 1)) (left_of ranks items (i + 1))) not_there in
-    ap (λ xs. take count falling ++ xs) (sym more) ∙ all
+pub left-passed : (test : ℕ → Bool) (items falling all : List ℕ) (count i : ℕ) → i < length items → test (get_or items i 0) ≡ false
+    → take count falling ++ left_of test items i ≡ all → take count falling ++ left_of test items (i + 1) ≡ all
+left-passed test items falling all count i within not_there is =
+    ap (λ xs. take count falling ++ xs) (sym (left_of-passed test items i within not_there)) ∙ is
 
 -- at the end all is written
-pub left-none : (ranks items falling : List ℕ) (count i : ℕ) → length items ≤ i → count ≤ length falling → length (in_falling_order ranks) ≡ length falling
-    → take count falling ++ left_of ranks items i ≡ in_falling_order ranks → falling ≡ in_falling_order ranks
-left-none ranks items falling count i end few five all =
+pub left-none : (test : ℕ → Bool) (items falling all : List ℕ) (count i : ℕ) → length items ≤ i → count ≤ length falling → length all ≡ length falling
+    → take count falling ++ left_of test items i ≡ all → falling ≡ all
+left-none test items falling all count i end few as_long is =
     let none : drop i items ≡ [] = drop_all i items end in
-    let written : take count falling ≡ in_falling_order ranks = sym (append-nil (take count falling)) ∙ ap (λ xs. take count falling ++ filter (λ rank. list_any (λ other. eqb other rank) ranks) xs) (sym none) ∙ all in
+    let written : take count falling ≡ all = sym (append-nil (take count falling)) ∙ ap (λ xs. take count falling ++ filter test xs) (sym none) ∙ is in
     let taken : length (take count falling) ≡ count = length-take-le count falling few in
-    let whole : count ≡ length falling = omega (arith, taken, ap length written, five) in
+    let whole : count ≡ length falling = omega (arith, taken, ap length written, as_long) in
     sym (take_all count falling (omega arith)) ∙ written
 
 -- one more choice
