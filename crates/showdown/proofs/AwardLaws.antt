@@ -84,7 +84,7 @@ sum-sides amount unit button seats awards highs lows true ten some most whole hi
 sum-sides amount unit button seats awards highs lows false ten some most whole high low =
     let first = sum-split (high_half amount unit) unit awards (in_turn seats button highs) ten (in_turn-seats highs seats button some most) high (share_of-whole amount unit 2 0) in
     let second = sum-split (low_half amount unit) unit (split (high_half amount unit) unit awards (in_turn seats button highs)) (in_turn seats button lows)
-        (length-split (high_half amount unit) unit awards (in_turn seats button highs) ∙ ten) (in_turn-seats lows seats button some most) (low refl) (share_of-whole amount unit 2 1) in
+    (length-split (high_half amount unit) unit awards (in_turn seats button highs) ∙ ten) (in_turn-seats lows seats button some most) (low refl) (share_of-whole amount unit 2 1) in
     omega (arith, first, second, halves-sum amount unit whole)
 
 length-sides : (amount unit button seats : ℕ) (awards : List ℕ) (highs lows : List Bool) (once : Bool)
@@ -129,9 +129,9 @@ sum-pots hands unit button seats awards (pot ∷ more) ten most at table live so
       whole = whole-amount (pot.amount % unit) (and-left (pot.amount % unit == 0) (are_whole_pots unit more) units);
     }) in
     let later = sum-pots hands unit button seats (award_pot hands unit button seats awards pot) more (length-award_pot hands unit button seats awards pot ∙ ten) most at table
-        (and-right (are_all_in pot.eligible (map is_some hands)) (are_for (map is_some hands) more) live)
-        (and-right (not (is_nobody pot.eligible)) (have_somebody more) somebody)
-        (and-right (pot.amount % unit == 0) (are_whole_pots unit more) units) in
+    (and-right (are_all_in pot.eligible (map is_some hands)) (are_for (map is_some hands) more) live)
+    (and-right (not (is_nobody pot.eligible)) (have_somebody more) somebody)
+    (and-right (pot.amount % unit == 0) (are_whole_pots unit more) units) in
     omega (arith, own, later, sum_by-cons (λ (p : Pot). p.amount) pot more)
 
 -- The awards sum to the pots.

@@ -54,8 +54,8 @@ split-requires-3-clause-fits c =
     let order = c.as_slice-2.ensures ∙ c.of-high_order.ensures.seats ∙ ap (in_turn c.args.seats c.args.button) highs in
     let some = high-some c.args.hands.now c.args.pot.eligible c.args.seats c.args.button c.requires.table (c.requires.button_low, c.requires.button_high) c.requires.somebody in
     let first = ap sum c.split-2.ensures ∙ sum-split c.halves-high.result.0 c.args.unit c.args.awards.now c.as_slice-2.result.now c.told-awards
-        (subst (λ (o : List ℕ). list_all is_seat o ≡ true) (sym c.as_slice-2.ensures) c.of-high_order.ensures.within) (subst (λ (o : List ℕ). 1 ≤ length o) (sym order) some)
-        (rw c.halves-high.ensures.high (share_of-whole c.args.pot.amount c.args.unit 2 0)) in
+    (subst (λ (o : List ℕ). list_all is_seat o ≡ true) (sym c.as_slice-2.ensures) c.of-high_order.ensures.within) (subst (λ (o : List ℕ). 1 ≤ length o) (sym order) some)
+    (rw c.halves-high.ensures.high (share_of-whole c.args.pot.amount c.args.unit 2 0)) in
     omega (arith, first, halves-sum c.args.pot.amount c.args.unit c.requires.whole, c.halves-high.ensures.high, c.halves-high.ensures.low, c.requires.fits)
 
 pub returns : goal.returns
