@@ -1,6 +1,6 @@
 -- What holds of all awards.
-use Rattle.std.proofs.Common.{inl, inr, ◌≡◌, ◌∙◌, ℕ, zero, suc, ◌+◌, ◌-◌, ◌*◌, ◌/◌, ◌%◌, ◌<◌, ◌≤◌, ◌≢◌, List, [], ◌∷◌, Bool, true, false, cond, Some, None, length, get_or, set, replicate, get_or-set_other, refl, ap, sym, arith}
-use Rattle.std.specs.Prelude.{◌==◌, ◌&&◌, ◌||◌, not, nat_le, map, filter, fold, sum, sum_by, Option, is_some}
+use Rattle.std.proofs.Common.{inl, inr, ◌≡◌, ◌∙◌, ℕ, zero, suc, ◌+◌, ◌%◌, ◌≤◌, List, [], ◌∷◌, Bool, true, false, cond, None, length, get_or, set, replicate, get_or-set_other, refl, ap, sym, arith}
+use Rattle.std.specs.Prelude.{◌==◌, ◌||◌, not, map, filter, fold, sum, Option, is_some}
 use Rattle.std.specs.List.{list_all, list_any}
 use Rattle.std.proofs.lemmas.Bool.{cases_Bool}
 use Rattle.std.proofs.lemmas.Bool.Decides.{nat_tests}

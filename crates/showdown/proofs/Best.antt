@@ -1,14 +1,13 @@
 -- Somebody has the best hand.
-use Rattle.std.proofs.Common.{◌≡◌, ◌∙◌, ℕ, zero, suc, ◌+◌, ◌<◌, ◌≤◌, List, [], ◌∷◌, Bool, true, false, cond, Some, None, Ordering, length, get_or, refl, ap, sym, inl, inr, arith}
-use Rattle.std.specs.Prelude.{◌&&◌, ◌||◌, not, map, Option, is_some}
+use Rattle.std.proofs.Common.{◌≡◌, ◌∙◌, ℕ, suc, ◌<◌, List, [], ◌∷◌, Bool, true, false, Some, None, Ordering, length, get_or, refl, ap, arith}
+use Rattle.std.specs.Prelude.{◌||◌, Option, is_some}
 use Rattle.std.specs.List.{list_any}
-use Rattle.std.specs.Option.{option_map_or}
-use Rattle.std.specs.Ordering.{nat_cmp, is_lt, is_gt, ordering_reverse}
+use Rattle.std.specs.Ordering.{nat_cmp, is_gt, ordering_reverse}
 use Rattle.std.specs.declared.cmp.Ordering.TheVariants.{Less, Equal, Greater}
 use Rattle.std.specs.Cmp.Lexicographic.{slice_cmp}
 use Rattle.std.proofs.lemmas.Cmp.{upto, tied_itself, nat_list_cmp_total}
 use Rattle.showdown.specs.declared.hand.Hand.{Hand}
-use Rattle.showdown.specs.declared.hand.Side.TheVariants.{High, Low}
+use Rattle.showdown.specs.declared.hand.Side.TheVariants.{High}
 use Rattle.showdown.specs.Winners.{beats, is_beaten, wins}
 
 -- A hand that beats another is not beaten by it.

@@ -1,10 +1,10 @@
 -- What winners in turn are paid.
-use Rattle.std.proofs.Common.{◌≡◌, ◌∙◌, ℕ, zero, suc, ◌+◌, ◌-◌, ◌*◌, ◌/◌, ◌%◌, ◌<◌, ◌≤◌, List, [], ◌∷◌, ◌++◌, Bool, true, false, length, get_or, set, drop, add-one, drop-cons, refl, ap, sym, arith}
-use Rattle.std.specs.Prelude.{◌&&◌, nat_le, sum, sum_by}
+use Rattle.std.proofs.Common.{◌≡◌, ◌∙◌, ℕ, zero, suc, ◌+◌, ◌-◌, ◌%◌, ◌<◌, ◌≤◌, List, [], ◌∷◌, Bool, true, false, length, get_or, set, drop, add-one, drop-cons, refl, ap, sym, arith}
+use Rattle.std.specs.Prelude.{nat_le, sum}
 use Rattle.std.specs.List.{list_all}
 use Rattle.std.proofs.lemmas.Bool.Decides.{nat_tests}
 use Rattle.std.proofs.lemmas.List.Sums.{sum_by-set, get_or-le-sum_by}
-use Rattle.pot_layers.specs.Shares.{share_of, sum_below, high_half, low_half}
+use Rattle.pot_layers.specs.Shares.{share_of, sum_below}
 use Rattle.pot_layers.proofs.ListTests.{and-left, and-right}
 use Rattle.pot_layers.proofs.ShareLaws.{sum_below-share_of}
 use Rattle.showdown.specs.Awards.{is_seat, award_to, pay_in_turn}

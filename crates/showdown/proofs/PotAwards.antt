@@ -1,6 +1,6 @@
 -- What a pot is awarded to.
-use Rattle.std.proofs.Common.{◌≡◌, ◌∙◌, ℕ, zero, suc, ◌+◌, ◌-◌, ◌*◌, ◌/◌, ◌%◌, ◌<◌, ◌≤◌, List, [], ◌∷◌, Bool, true, false, cond, Some, None, length, get_or, refl, ap, sym, subst, arith}
-use Rattle.std.specs.Prelude.{◌==◌, ◌&&◌, ◌||◌, not, map, fold, take, Option, is_some, slice_get}
+use Rattle.std.proofs.Common.{◌≡◌, ◌∙◌, ℕ, zero, suc, ◌/◌, ◌%◌, ◌≤◌, List, [], ◌∷◌, Bool, true, false, cond, Some, None, length, get_or, refl, ap, sym, arith}
+use Rattle.std.specs.Prelude.{◌==◌, ◌||◌, not, map, Option, is_some, slice_get}
 use Rattle.std.specs.List.{list_all, list_any}
 use Rattle.std.proofs.lemmas.Bool.Decides.{nat_tests}
 use Rattle.std.proofs.lemmas.List.{get_or-map}
@@ -12,13 +12,13 @@ use Rattle.pot_layers.specs.declared.pot_list.Pot.{Pot}
 use Rattle.pot_layers.specs.Layers.{are_same_seats, is_nobody}
 use Rattle.pot_layers.specs.PotTests.{are_all_in}
 use Rattle.pot_layers.specs.Shares.{units_to, share_of, high_half, low_half}
-use Rattle.pot_layers.proofs.ListTests.{and-left, and-right, not-true}
+use Rattle.pot_layers.proofs.ListTests.{and-left, and-right}
 use Rattle.showdown.specs.declared.hand.Hand.{Hand}
 use Rattle.showdown.specs.declared.hand.Side.{Side}
 use Rattle.showdown.specs.declared.hand.Side.TheVariants.{High, Low}
 use Rattle.showdown.specs.Winners.{in_play, wins, winners}
 use Rattle.showdown.specs.Awards.{in_turn, split, award_pot}
-use Rattle.showdown.proofs.Writes.{length-in_play, get_or-in_play}
+use Rattle.showdown.proofs.Writes.{get_or-in_play}
 use Rattle.showdown.proofs.Turns.{in_turn-some}
 use Rattle.showdown.proofs.Best.{some-wins}
 

@@ -1,6 +1,6 @@
 -- The seats of a set in turn.
-use Rattle.std.proofs.Common.{◌≡◌, ◌∙◌, ℕ, zero, suc, ◌+◌, ◌-◌, ◌<◌, ◌≤◌, List, [], ◌∷◌, ◌++◌, Bool, true, false, cond, Some, None, length, append_assoc, refl, ap, sym, inl, inr, arith}
-use Rattle.std.specs.Prelude.{◌&&◌, nat_le, find, filter}
+use Rattle.std.proofs.Common.{◌≡◌, ◌∙◌, ℕ, zero, suc, ◌+◌, ◌-◌, ◌<◌, ◌≤◌, List, [], ◌∷◌, ◌++◌, Bool, true, false, cond, None, length, append_assoc, refl, sym, arith}
+use Rattle.std.specs.Prelude.{find, filter}
 use Rattle.std.specs.List.{list_all}
 use Rattle.std.proofs.lemmas.Bool.Decides.{nat_tests}
 use Rattle.rulebook.specs.Seats.{seat_after, walk, clockwise_after}

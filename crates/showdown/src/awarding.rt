@@ -13,7 +13,6 @@ use crate::Live;
 use crate::hand::{Hand, Side, hands_of};
 use crate::in_turn::InTurn;
 use crate::winning::{in_play, winners};
-use button_blinds::SeatSet;
 use card_set::{Card, Game};
 use pot_layers::{Pot, Pots, halves, share};
 

@@ -3,7 +3,7 @@
 ghost use Rattle.std.specs.Prelude.{◌≡◌, ◌++◌, None, option_map, length};
 ghost use Rattle.std.specs.Option.{ForSome};
 ghost use Rattle.card_choices.specs.Choices.{AreDistinct};
-ghost use Rattle.showdown.specs.Hands.{hole_cards, hand_of, hands_of, AreDealtApart};
+ghost use Rattle.showdown.specs.Hands.{hole_cards, high_value, low_value, hand_of, hands_of, AreDealtApart};
 
 use crate::live::Live;
 use card_set::{Card, Game};
@@ -26,25 +26,37 @@ pub(crate) enum Side {
     Low,
 }
 
+/// A live player's high value.
+fn high_value(player: Live, board: [Card; 5], game: Game) -> HighValue
+    requires { AreDistinct (hole_cards game player ++ board) }
+    ensures { result ≡ high_value game board player }
+{
+    let [first, second, _, _] = player.hole;
+    match game {
+        Game::Holdem => best_holdem([first, second], board),
+        Game::Omaha | Game::Hilo => best_omaha(player.hole, board),
+    }
+}
+
+/// A live player's low value, where he has one.
+fn low_value(player: Live, board: [Card; 5], game: Game) -> Option<LowValue>
+    requires { AreDistinct (hole_cards game player ++ board) }
+    ensures { result ≡ low_value game board player }
+{
+    match game {
+        Game::Holdem | Game::Omaha => None,
+        Game::Hilo => best_low(player.hole, board),
+    }
+}
+
 /// A live player's hand.
 fn hand_of(player: Live, board: [Card; 5], game: Game) -> Hand
     requires { AreDistinct (hole_cards game player ++ board) }
     ensures { result ≡ hand_of game board player }
 {
-    let [first, second, _, _] = player.hole;
-    match game {
-        Game::Holdem => Hand {
-            high: best_holdem([first, second], board),
-            low: None,
-        },
-        Game::Omaha => Hand {
-            high: best_omaha(player.hole, board),
-            low: None,
-        },
-        Game::Hilo => Hand {
-            high: best_omaha(player.hole, board),
-            low: best_low(player.hole, board),
-        },
+    Hand {
+        high: high_value(player, board, game),
+        low: low_value(player, board, game),
     }
 }
 

@@ -1,4 +1,4 @@
-use Rattle.std.proofs.Common.{◌≡◌, ◌∙◌, ◌+◌, ◌%◌, ◌≤◌, ◌<◌, ℕ, List, Bool, true, false, length, refl, ap, sym, subst, arith}
+use Rattle.std.proofs.Common.{◌≡◌, ◌∙◌, ◌≤◌, ℕ, List, Bool, true, false, length, refl, ap, sym, subst, arith}
 use Rattle.std.specs.Prelude.{◌==◌, ◌||◌, sum}
 use Rattle.std.specs.List.{list_all}
 use Rattle.std.proofs.lemmas.Bool.Decides.{nat_tests}
@@ -8,7 +8,7 @@ use Rattle.pot_layers.specs.Shares.{high_half, low_half}
 use Rattle.pot_layers.proofs.ShareLaws.{halves-sum}
 use Rattle.showdown.specs.declared.hand.Side.TheVariants.{High, Low}
 use Rattle.showdown.specs.Winners.{in_play, winners}
-use Rattle.showdown.specs.Awards.{is_seat, in_turn, split, award_pot}
+use Rattle.showdown.specs.Awards.{is_seat, in_turn, split}
 use Rattle.showdown.proofs.PotAwards.{award_pot-once, award_pot-halves, share_of-whole, high-some}
 use Rattle.showdown.proofs.AwardLaws.{sum-split}
 use Rattle.showdown.proofs.SameSeats.{pointwise-same}

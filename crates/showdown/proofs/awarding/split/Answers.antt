@@ -1,10 +1,9 @@
-use Rattle.std.proofs.Common.{◌≡◌, ◌∙◌, ◌+◌, ◌-◌, ◌<◌, ◌≤◌, [], drop, length, add-one, ap, arith}
-use Rattle.std.specs.Prelude.{sum, slice_index_or}
+use Rattle.std.proofs.Common.{◌≡◌, ◌∙◌, ◌+◌, ◌-◌, ◌<◌, [], drop, length, add-one, ap, arith}
+use Rattle.std.specs.Prelude.{slice_index_or}
 use Rattle.std.proofs.Math.ListN.{drop_of_length-le}
 use Rattle.std.proofs.lemmas.List.{length-set}
 use Rattle.pot_layers.specs.Shares.{share_of, sum_below}
-use Rattle.pot_layers.proofs.ShareLaws.{sum_below-share_of}
-use Rattle.showdown.specs.Awards.{pay_in_turn, split}
+use Rattle.showdown.specs.Awards.{split}
 use Rattle.showdown.proofs.Payments.{paid-next, seat-at, sum-award, shares-within, award-within}
 use Rattle.showdown.proofs.awarding.split.Goals as goal
 

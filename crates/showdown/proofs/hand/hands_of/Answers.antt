@@ -1,4 +1,4 @@
-use Rattle.std.proofs.Common.{◌≡◌, ◌∙◌, ap, None, length, arith}
+use Rattle.std.proofs.Common.{◌∙◌, ap, None, length, arith}
 use Rattle.showdown.specs.Hands.{hands_of}
 use Rattle.showdown.proofs.Writes.{written-next, written-all, hands_of-at, length-hands_of}
 use Rattle.showdown.proofs.hand.hands_of.Goals as goal

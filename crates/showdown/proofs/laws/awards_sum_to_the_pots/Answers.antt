@@ -1,5 +1,4 @@
 use Rattle.std.proofs.Common.{◌≡◌, true, List, Bool, subst, sym}
-use Rattle.std.specs.Prelude.{map, is_some}
 use Rattle.button_blinds.specs.SeatSets.{AreSeatsOf}
 use Rattle.pot_layers.specs.PotTests.{are_for}
 use Rattle.showdown.specs.Hands.{hands_of}

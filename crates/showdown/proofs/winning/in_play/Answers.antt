@@ -1,4 +1,4 @@
-use Rattle.std.proofs.Common.{◌≡◌, ◌∙◌, ◌+◌, None, true, false, cond, get_or, suc, length, ap, sym, add-one, arith}
+use Rattle.std.proofs.Common.{◌≡◌, ◌∙◌, None, true, false, get_or, length, ap, sym, add-one, arith}
 use Rattle.pot_layers.proofs.Raised.{same-item}
 use Rattle.button_blinds.specs.SeatSets.{has_seat}
 use Rattle.showdown.specs.Winners.{in_play}

@@ -1,7 +1,5 @@
 use Rattle.std.proofs.Common.{◌≡◌, take, false}
-use Rattle.std.specs.List.{list_any}
-use Rattle.std.specs.Option.{option_map_or}
-use Rattle.showdown.specs.Winners.{beats, is_beaten}
+use Rattle.showdown.specs.Winners.{is_beaten}
 use Rattle.showdown.proofs.winning.is_beaten.Given as goal
 
 abbrev pub invariant-loop-rival : goal.invariant-loop-rival

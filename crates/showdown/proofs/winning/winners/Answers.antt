@@ -1,4 +1,4 @@
-use Rattle.std.proofs.Common.{◌≡◌, ◌∙◌, ◌-◌, true, false, ap, sym, arith}
+use Rattle.std.proofs.Common.{◌∙◌, ◌-◌, sym, arith}
 use Rattle.pot_layers.proofs.PayersSoFar.{so_far-yes, so_far-no}
 use Rattle.showdown.specs.Winners.{wins, winners}
 use Rattle.showdown.proofs.Writes.{seats-all}

@@ -4,7 +4,7 @@ use Rattle.card_set.specs.declared.game.Game.{Game}
 use Rattle.card_choices.specs.Choices.{AreDistinct}
 use Rattle.showdown.specs.Hands.{hole_cards}
 use Rattle.showdown.proofs.Writes.{first-two}
-use Rattle.showdown.proofs.hand.hand_of.Goals as goal
+use Rattle.showdown.proofs.hand.high_value.Goals as goal
 
 pub best_holdem-requires : goal.best_holdem-requires
 best_holdem-requires c = record {
