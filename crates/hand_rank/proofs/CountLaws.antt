@@ -1,9 +1,10 @@
 -- How often ranks occur among some cards.
-use Rattle.std.proofs.Common.{◌≡◌, ℕ, suc, ◌+◌, ◌-◌, ◌<◌, ◌≤◌, Bool, true, false, cond, eqb, List, [], ◌∷◌, ◌++◌, length, take, drop, get_or, refl, sym, ap, ap₂, ◌∙◌, arith, length-append, append_assoc, append-nil}
+use Rattle.std.proofs.Common.{◌≡◌, ℕ, zero, suc, ◌&&◌, ltb, ◌+◌, ◌-◌, ◌<◌, ◌≤◌, Bool, true, false, cond, eqb, List, [], ◌∷◌, ◌++◌, length, take, drop, get_or, refl, sym, ap, ap₂, ◌∙◌, arith, length-append, append_assoc, append-nil}
 use Rattle.std.specs.Prelude.{Option, map, filter, count_by, sum_by}
 use Rattle.std.specs.List.{list_all}
+use Rattle.std.proofs.lemmas.Bool.{ltb-true}
 use Rattle.std.proofs.lemmas.Bool.Decides.{nat_tests}
-use Rattle.std.proofs.lemmas.List.{drop_all, take_all}
+use Rattle.std.proofs.lemmas.List.{drop_all, take_all, map-append}
 use Rattle.std.proofs.lemmas.List.Sums.{sum_by-cons, length-filter}
 use Rattle.card_set.specs.declared.card.Card.{Card}
 use Rattle.hand_rank.specs.declared.category.Category.{Category}
@@ -102,3 +103,40 @@ unfolding five_card_value
 value-by cards ranks counts category are_ranks are_counts is =
     let all : counts ≡ map (count_of_rank cards) (distinct_ranks cards) = are_counts ∙ ap (map (count_of_rank cards)) are_ranks in
     ap₂ (λ c rs. value_by c (run_top rs) (are_of_one_suit cards) rs) (is ∙ ap category_of all) are_ranks
+
+-- each rank has a place in a table of 15
+pub rank-in_table : (i : ℕ) → i < length ranks_down → get_or ranks_down i 0 < 15
+rank-in_table i within = below ranks_down refl i within
+  where
+    both : (a b : Bool) → (a && b) ≡ true → (a ≡ true) × (b ≡ true)
+    both true b h = (refl, h)
+    both false b h = absurd cc
+
+    below : (items : List ℕ) → list_all (λ rank. ltb rank 15) items ≡ true → (i : ℕ) → i < length items → get_or items i 0 < 15
+    below [] all i within = absurd (omega arith)
+    below (rank ∷ items) all zero within = ltb-true rank 15 (both (ltb rank 15) (list_all (λ r. ltb r 15) items) all).0
+    below (rank ∷ items) all (suc i) within = below items (both (ltb rank 15) (list_all (λ r. ltb r 15) items) all).1 i (omega arith)
+
+-- one more rank beside how often it occurs
+pub beside-more : (cards : List Card) (ranks times : List ℕ) (rank often : ℕ) → times ≡ map (count_of_rank cards) ranks → count_of_rank cards rank ≡ often → times ++ often ∷ [] ≡ map (count_of_rank cards) (ranks ++ rank ∷ [])
+beside-more cards ranks times rank often beside is =
+    ap₂ (λ xs n. xs ++ n ∷ []) beside (sym is) ∙ sym (map-append (count_of_rank cards) ranks (rank ∷ []))
+
+-- the ranks that occur four times, three times, twice and once, one after another
+pub distinct_ranks-of : (cards : List Card) (none four three two one : List ℕ) → none ≡ [] → four ≡ none ++ ranks_that_occur cards 4 → three ≡ four ++ ranks_that_occur cards 3 → two ≡ three ++ ranks_that_occur cards 2 → one ≡ two ++ ranks_that_occur cards 1 → one ≡ distinct_ranks cards
+unfolding distinct_ranks
+distinct_ranks-of cards none four three two one is_none is_four is_three is_two is_one =
+    is_one ∙ ap (λ xs. xs ++ ranks_that_occur cards 1)
+    (is_two ∙ ap (λ xs. xs ++ ranks_that_occur cards 2)
+    (is_three ∙ ap (λ xs. xs ++ ranks_that_occur cards 3)
+    (is_four ∙ ap (λ xs. xs ++ ranks_that_occur cards 4) is_none)))
+
+pub length-distinct_ranks : (cards : List Card) → length (distinct_ranks cards) ≤ length cards
+unfolding distinct_ranks
+length-distinct_ranks cards =
+    let all = length-distinct cards in
+    let four = ranks_that_occur cards 4 in
+    let three = ranks_that_occur cards 3 in
+    let two = ranks_that_occur cards 2 in
+    let one = ranks_that_occur cards 1 in
+    omega (arith, all, length-append (four ++ three ++ two) one, length-append (four ++ three) two, length-append four three)

@@ -2,6 +2,7 @@
 
 ghost use Rattle.std.specs.Prelude.{◌≡◌, ◌++◌, ◌+◌, ◌<◌, ◌≤◌, ◌==◌, ℕ, length, map, MatchOption, Some, None};
 ghost use Rattle.std.specs.List.{list_all};
+ghost use Rattle.hand_rank.specs.Counts.{AreCountsOf};
 ghost use Rattle.hand_rank.specs.Values.{count_of_rank, ranks_that_occur, distinct_ranks, category_of, run_top, are_of_one_suit, value_of_distinct, five_card_value};
 
 use crate::category::Category;
@@ -12,48 +13,37 @@ use card_set::Card;
 /// The ranks from the ace down to the two.
 const RANKS_DOWN: [u8; 13] = [14, 13, 12, 11, 10, 9, 8, 7, 6, 5, 4, 3, 2];
 
-/// How often a rank occurs.
-fn count_of_rank(cards: &[Card; 5], rank: u8) -> usize
-    ensures { result ≡ count_of_rank cards.now rank }
+/// How often each rank occurs, by its number.
+fn count_ranks(cards: &[Card; 5]) -> [u8; 15]
+    ensures { AreCountsOf result cards.now }
 {
-    cards.iter().filter(|card| card.rank == rank).count()
-}
-
-/// Adds the ranks that occur so often, higher ones first.
-fn add_ranks(ranks: &mut Numbers, cards: &[Card; 5], times: usize)
-    requires { length ranks.old + length (ranks_that_occur cards.now times) ≤ 6 }
-    ensures { ranks.new ≡ ranks.old ++ ranks_that_occur cards.now times }
-{
-    for rank in &RANKS_DOWN {
-        if count_of_rank(cards, *rank) == times {
-            ranks.push(*rank);
-        }
-    }
-}
-
-/// The distinct ranks: those that occur more often first, and higher ones first among equally frequent ones.
-fn distinct_ranks(cards: &[Card; 5]) -> Numbers
-    ensures same { result ≡ distinct_ranks cards.now }
-    ensures few { length result ≤ 5 }
-{
-    let mut ranks = Numbers::new();
-    add_ranks(&mut ranks, cards, 4);
-    add_ranks(&mut ranks, cards, 3);
-    add_ranks(&mut ranks, cards, 2);
-    add_ranks(&mut ranks, cards, 1);
-    ranks
-}
-
-/// How often ranks occur, in their order.
-fn counts(cards: &[Card; 5], ranks: &Numbers) -> Numbers
-    requires { length ranks.now ≤ 5 }
-    ensures { result ≡ map (count_of_rank cards.now) ranks.now }
-{
-    let mut counts = Numbers::new();
-    for rank in ranks.as_slice() {
-        counts.push(count_of_rank(cards, *rank) as u8);
+    let mut counts = [0; 15];
+    for card in cards {
+        counts[card.rank as usize] += 1;
     }
     counts
+}
+
+/// Adds the ranks that occur so often, higher ones first, and beside each how often it occurs.
+fn add_ranks(
+    ranks: &mut Numbers,
+    times: &mut Numbers,
+    cards: &[Card; 5],
+    counts: &[u8; 15],
+    often: u8,
+)
+    requires counted { AreCountsOf counts.now cards.now }
+    requires beside { times.old ≡ map (count_of_rank cards.now) ranks.old }
+    requires room { length ranks.old + length (ranks_that_occur cards.now often) ≤ 6 }
+    ensures ranks { ranks.new ≡ ranks.old ++ ranks_that_occur cards.now often }
+    ensures times { times.new ≡ map (count_of_rank cards.now) ranks.new }
+{
+    for rank in &RANKS_DOWN {
+        if counts[*rank as usize] == often {
+            ranks.push(*rank);
+            times.push(often);
+        }
+    }
 }
 
 /// The category by how often the distinct ranks occur, in their order. `None` where five ranks occur once.
@@ -120,10 +110,15 @@ fn value_of_distinct(top: Option<u8>, one_suit: bool, ranks: &[u8]) -> HighValue
 pub fn five_card_value(cards: &[Card; 5]) -> HighValue
     ensures { result ≡ five_card_value cards.now }
 {
-    let ranks = distinct_ranks(cards);
-    let counts = counts(cards, &ranks);
+    let counts = count_ranks(cards);
+    let mut ranks = Numbers::new();
+    let mut times = Numbers::new();
+    add_ranks(&mut ranks, &mut times, cards, &counts, 4);
+    add_ranks(&mut ranks, &mut times, cards, &counts, 3);
+    add_ranks(&mut ranks, &mut times, cards, &counts, 2);
+    add_ranks(&mut ranks, &mut times, cards, &counts, 1);
     let ranks = ranks.as_slice();
-    match category_of(counts.as_slice()) {
+    match category_of(times.as_slice()) {
         Some(category) => HighValue::of(category, ranks),
         None => value_of_distinct(run_top(ranks), are_of_one_suit(cards), ranks),
     }
