@@ -58,14 +58,10 @@ fn award_pot(
         split(pot.amount, unit, awards, high_order.as_slice());
         return;
     }
+    let low_order = InTurn::of(lows, button, seats);
     let (high, low) = halves(pot.amount, unit);
     split(high, unit, awards, high_order.as_slice());
-    split(
-        low,
-        unit,
-        awards,
-        InTurn::of(lows, button, seats).as_slice(),
-    );
+    split(low, unit, awards, low_order.as_slice());
 }
 
 /// What each player is awarded of the pots, in chips, by seat: index 0 is seat 1. Each pot goes to those of its

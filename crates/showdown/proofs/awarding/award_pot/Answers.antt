@@ -68,7 +68,7 @@ returns c =
     (sym (pointwise-same c.winners-highs.result c.winners-lows.result) ∙ sym c.eq.ensures ∙ c.if-eq.false)) in
     c.split-3.ensures
     ∙ ap (λ (n : ℕ). split n c.args.unit c.split-2.new.awards c.as_slice-3.result.now) c.halves-high.ensures.low
-    ∙ ap (λ (o : List ℕ). split (low_half c.args.pot.amount c.args.unit) c.args.unit c.split-2.new.awards o) (c.as_slice-3.ensures ∙ c.of.ensures.seats ∙ ap (in_turn c.args.seats c.args.button) lows)
+    ∙ ap (λ (o : List ℕ). split (low_half c.args.pot.amount c.args.unit) c.args.unit c.split-2.new.awards o) (c.as_slice-3.ensures ∙ c.of-low_order.ensures.seats ∙ ap (in_turn c.args.seats c.args.button) lows)
     ∙ ap (λ (a : List ℕ). split (low_half c.args.pot.amount c.args.unit) c.args.unit a (in_turn c.args.seats c.args.button (winners Low (in_play c.args.pot.eligible c.args.hands.now))))
     (c.split-2.ensures
     ∙ ap (λ (n : ℕ). split n c.args.unit c.args.awards.now c.as_slice-2.result.now) c.halves-high.ensures.high
