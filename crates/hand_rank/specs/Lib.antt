@@ -1,0 +1,4 @@
+pub mod BestHigh
+pub mod Counts
+pub mod Padded
+pub mod Values

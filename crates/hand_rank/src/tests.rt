@@ -1,0 +1,280 @@
+use crate::{Category, HighValue, best_holdem, best_omaha};
+use card_choices::are_distinct;
+use card_set::{Card, read_card};
+use std::process::Abort;
+
+fn card(rt: &impl Abort, rank: u8, suit: u8) -> Card {
+    read_card(rank, suit).expect(rt, "the text of a card")
+}
+
+fn two_cards(rt: &impl Abort, text: &[u8; 4]) -> [Card; 2] {
+    let [a, b, c, d] = *text;
+    [card(rt, a, b), card(rt, c, d)]
+}
+
+fn four_cards(rt: &impl Abort, text: &[u8; 8]) -> [Card; 4] {
+    let [a, b, c, d, e, f, g, h] = *text;
+    [
+        card(rt, a, b),
+        card(rt, c, d),
+        card(rt, e, f),
+        card(rt, g, h),
+    ]
+}
+
+fn five_cards(rt: &impl Abort, text: &[u8; 10]) -> [Card; 5] {
+    let [a, b, c, d, e, f, g, h, i, j] = *text;
+    [
+        card(rt, a, b),
+        card(rt, c, d),
+        card(rt, e, f),
+        card(rt, g, h),
+        card(rt, i, j),
+    ]
+}
+
+/// The best value in hold'em of the cards that two texts spell, of which none comes twice.
+fn holdem(rt: &impl Abort, hole: &[u8; 4], board: &[u8; 10]) -> HighValue {
+    let hole = two_cards(rt, hole);
+    let board = five_cards(rt, board);
+    assert!(rt; are_distinct(&hole, &board));
+    best_holdem(hole, board)
+}
+
+/// The best value in Omaha of the cards that two texts spell, of which none comes twice.
+fn omaha(rt: &impl Abort, hole: &[u8; 8], board: &[u8; 10]) -> HighValue {
+    let hole = four_cards(rt, hole);
+    let board = five_cards(rt, board);
+    assert!(rt; are_distinct(&hole, &board));
+    best_omaha(hole, board)
+}
+
+/// Tests that a value has a category and, behind it, these ranks.
+fn is_value(rt: &impl Abort, value: HighValue, category: Category, ranks: &[u8]) {
+    let numbers = value.numbers();
+    assert!(rt; numbers.len() == ranks.len() + 1, "{numbers:?}");
+    assert!(rt; numbers[0] == category.number(), "{numbers:?}");
+    let behind = &numbers[1..];
+    assert!(rt; behind == ranks, "{numbers:?}");
+}
+
+#[test]
+fn values_of_holdem(rt: HostRuntime) {
+    for (hole, board, category, ranks) in [
+        (
+            b"AhKh",
+            b"QhJhTh2c3d",
+            Category::StraightFlush,
+            [14].as_slice(),
+        ),
+        (
+            b"2c3d",
+            b"AhKhQhJhTh",
+            Category::StraightFlush,
+            [14].as_slice(),
+        ),
+        (
+            b"Ah2h",
+            b"3h4h5hKcKd",
+            Category::StraightFlush,
+            [5].as_slice(),
+        ),
+        (
+            b"9c9d",
+            b"9h9sKcQdJh",
+            Category::FourOfAKind,
+            [9, 13].as_slice(),
+        ),
+        (
+            b"AcKd",
+            b"9c9d9h9sQc",
+            Category::FourOfAKind,
+            [9, 14].as_slice(),
+        ),
+        (
+            b"9c9d",
+            b"9hKcKd3h2s",
+            Category::FullHouse,
+            [9, 13].as_slice(),
+        ),
+        (
+            b"9c9d",
+            b"9hKcKdKh2s",
+            Category::FullHouse,
+            [13, 9].as_slice(),
+        ),
+        (
+            b"9c9d",
+            b"9hKcKdQhQs",
+            Category::FullHouse,
+            [9, 13].as_slice(),
+        ),
+        (
+            b"Ah9h",
+            b"7h5h3hKcKd",
+            Category::Flush,
+            [14, 9, 7, 5, 3].as_slice(),
+        ),
+        (
+            b"AhKh",
+            b"9h7h5h3h2c",
+            Category::Flush,
+            [14, 13, 9, 7, 5].as_slice(),
+        ),
+        (b"AcTd", b"KcQdJh3h2s", Category::Straight, [14].as_slice()),
+        (b"Ah2d", b"3c4s5hKdKc", Category::Straight, [5].as_slice()),
+        (b"6h2c", b"3c4s5hKdKc", Category::Straight, [6].as_slice()),
+        (
+            b"9c9d",
+            b"9hKcQd3h2s",
+            Category::ThreeOfAKind,
+            [9, 13, 12].as_slice(),
+        ),
+        (
+            b"9c9d",
+            b"KcKd3h3sQs",
+            Category::TwoPair,
+            [13, 9, 12].as_slice(),
+        ),
+        (
+            b"9c9d",
+            b"KcQd5h3h2s",
+            Category::OnePair,
+            [9, 13, 12, 5].as_slice(),
+        ),
+        (
+            b"2c2d",
+            b"AhKhQh9h3s",
+            Category::OnePair,
+            [2, 14, 13, 12].as_slice(),
+        ),
+        (
+            b"Ac9d",
+            b"KcQd5h3h2s",
+            Category::HighCard,
+            [14, 13, 12, 9, 5].as_slice(),
+        ),
+        (
+            b"AcKd",
+            b"QcJd2h3s4h",
+            Category::HighCard,
+            [14, 13, 12, 11, 4].as_slice(),
+        ),
+    ] {
+        is_value(&rt, holdem(&rt, hole, board), category, ranks);
+    }
+}
+
+#[test]
+fn values_of_omaha(rt: HostRuntime) {
+    for (hole, board, category, ranks) in [
+        // one heart in the hand is no flush
+        (
+            b"AhKsQc2d",
+            b"3h7h9hJh4c",
+            Category::HighCard,
+            [14, 13, 11, 9, 7].as_slice(),
+        ),
+        // two are
+        (
+            b"AhKs2h2d",
+            b"3h7h9hJh4c",
+            Category::Flush,
+            [14, 11, 9, 7, 2].as_slice(),
+        ),
+        // four of the board are not shown together
+        (
+            b"AcKdQd2s",
+            b"9c9d9h9sQc",
+            Category::ThreeOfAKind,
+            [9, 14, 13].as_slice(),
+        ),
+        // neither are three of the hand
+        (
+            b"9c9dKhKs",
+            b"9hKc2d3s4h",
+            Category::ThreeOfAKind,
+            [13, 9, 4].as_slice(),
+        ),
+        (
+            b"9c9dKhKs",
+            b"9h9sKc2d3s",
+            Category::FourOfAKind,
+            [9, 13].as_slice(),
+        ),
+        (
+            b"AcAd8h7s",
+            b"6c5d9hAsAh",
+            Category::FourOfAKind,
+            [14, 9].as_slice(),
+        ),
+        (
+            b"Ah2d8c8s",
+            b"3c4s5hKdKc",
+            Category::Straight,
+            [5].as_slice(),
+        ),
+        (
+            b"8h8s2c3d",
+            b"8cKdKhQsJs",
+            Category::FullHouse,
+            [8, 13].as_slice(),
+        ),
+    ] {
+        is_value(&rt, omaha(&rt, hole, board), category, ranks);
+    }
+}
+
+#[test]
+fn each_category_beats_the_next_lower_one(rt: HostRuntime) {
+    let mut last = holdem(&rt, b"AhKh", b"QhJhTh2c3d");
+    for (hole, board) in [
+        (b"Ah2h", b"3h4h5hKcKd"),
+        (b"AcAd", b"AhAsKcQdJh"),
+        (b"2c2d", b"2h2s3c4d6h"),
+        (b"AcAd", b"AhKcKd3h2s"),
+        (b"2c2d", b"2h3c3d9hKs"),
+        (b"AhKh", b"QhJh9h3c2c"),
+        (b"2h3h", b"4h5h7hKcKd"),
+        (b"AcTd", b"KcQdJh3h2s"),
+        (b"Ac2d", b"3c4s5hKdKc"),
+        (b"AcAd", b"AhKcQd3h2s"),
+        (b"2c2d", b"2h3c5d7h8s"),
+        (b"AcAd", b"KcKd3h2sQs"),
+        (b"2c2d", b"3h3s4h6s8d"),
+        (b"AcAd", b"KcQd5h3h2s"),
+        (b"2c2d", b"3h4s6d7h9s"),
+        (b"AcKd", b"QcJd9h3s2h"),
+        (b"2c3d", b"4h5s7d8h9s"),
+    ] {
+        let value = holdem(&rt, hole, board);
+        assert!(rt; value < last, "{hole:?} {board:?} {value:?} {last:?}");
+        last = value;
+    }
+}
+
+#[test]
+fn kickers_count_and_suits_do_not(rt: HostRuntime) {
+    for (better, worse, board) in [
+        (b"AcKd", b"AhQd", b"As9c7d5h2h"),
+        (b"Kc9d", b"Kh8d", b"KsKd7c5h2h"),
+        (b"Ac2d", b"Kc2s", b"QcQd9h9s3h"),
+        (b"Ah2c", b"Kh3c", b"Qh9h7h5h2s"),
+    ] {
+        assert!(rt;
+            holdem(&rt, better, board) > holdem(&rt, worse, board),
+            "{board:?}"
+        );
+    }
+    for (one, other, board) in [
+        (b"Ac3d", b"Ah4d", b"AsKcQdJh9h"),
+        (b"2c3d", b"4c5d", b"AhKhQhJhTh"),
+        (b"3c3d", b"4c4d", b"KsKdQcQhAh"),
+        (b"Ac2d", b"Ad2c", b"9h7s6c4h3s"),
+    ] {
+        assert!(rt;
+            holdem(&rt, one, board) == holdem(&rt, other, board),
+            "{board:?}"
+        );
+    }
+}

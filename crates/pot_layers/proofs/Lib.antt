@@ -1,0 +1,13 @@
+pub mod ListTests
+pub mod Heights
+pub mod Stretches
+pub mod Nearest
+pub mod PayersSoFar
+pub mod Units
+pub mod Cuts
+pub mod Rounds
+pub mod Raised
+pub mod Told
+pub mod PotLaws
+pub mod ShareLaws
+pub mod OwnPot

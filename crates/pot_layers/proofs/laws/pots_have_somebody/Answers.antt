@@ -1,0 +1,5 @@
+use Rattle.pot_layers.proofs.PotLaws.{layers-somebody}
+use Rattle.pot_layers.proofs.laws.pots_have_somebody.Goals as goal
+
+pub returns : goal.returns
+returns c = layers-somebody

@@ -1,0 +1,22 @@
+//! The pots of what the players have put in.
+
+ghost use Rattle.std.specs.Prelude.{◌≡◌, ◌<◌, ◌^◌, ℕ, true};
+ghost use Rattle.pot_layers.specs.Layers.{layers, is_contested};
+ghost use Rattle.pot_layers.specs.PotTests.{total_of, live_seats, are_for, have_somebody, are_whole_pots, are_whole_puts};
+ghost use Rattle.pot_layers.specs.Tallies.{total_put};
+
+use crate::{PotTally, Pots, Put};
+
+/// The pots of what the players have put in during the whole hand, the main pot first: index 0 is seat 1. A live
+/// player has put in chips.
+pub fn pots(puts: &[Put; 10]) -> Pots
+    requires contested { is_contested puts.now ≡ true }
+    requires fits { total_put puts.now < 2 ^ 53 }
+    ensures pots { result ≡ layers puts.now }
+    ensures sum { total_of result ≡ total_put puts.now }
+    ensures live { are_for (live_seats puts.now) result ≡ true }
+    ensures somebody { have_somebody result ≡ true }
+    ensures units { (unit : ℕ) → are_whole_puts unit puts.now ≡ true → are_whole_pots unit result ≡ true }
+{
+    PotTally::of(puts).pots()
+}

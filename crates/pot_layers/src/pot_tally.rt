@@ -1,0 +1,112 @@
+//! The pots while chips come in and players fold.
+
+ghost use Rattle.std.specs.Prelude.{◌≡◌, ◌+◌, ◌-◌, ◌<◌, ◌≤◌, ◌^◌, ℕ, true};
+ghost use Rattle.pot_layers.specs.Layers.{layers, is_contested};
+ghost use Rattle.pot_layers.specs.PotTests.{total_of, live_seats, are_for, have_somebody, are_whole_pots, are_whole_puts};
+ghost use Rattle.pot_layers.specs.Tallies.{nothing_put, put_in_at, folded_at, total_put};
+
+use crate::standing::{Standing, fold, live_payers, nearest_above, put_in};
+use crate::{Pot, Pots, Put};
+use std::marker::Model;
+
+/// The most seats that a table has.
+const MOST_SEATS: usize = 10;
+
+/// The pots while chips come in and players fold. It keeps for each seat what was put in up to its height, as a
+/// running total. Contracts see the list of puts by seat: index 0 is seat 1.
+#[derive(Debug, Drop)]
+pub struct PotTally {
+    standings: [Standing; 10],
+    total: u64,
+}
+
+impl Model for PotTally {
+    ghost use Rattle.std.specs.Prelude.{List};
+    ghost use Rattle.pot_layers.specs.declared.put.Put.{Put};
+
+    ghost Value = { List Put };
+
+    ghost use Rattle.pot_layers.specs.Standings.{puts_of};
+    ghost use Rattle.pot_layers.specs.Running.{IsRunning};
+
+    ghost view = { λ tally. puts_of tally.standings };
+
+    ghost invariant = { λ tally. IsRunning tally.standings tally.total };
+}
+
+impl PotTally {
+    /// A tally of ten players who are live and have put in nothing.
+    pub fn new() -> PotTally
+        ensures { result ≡ nothing_put }
+    {
+        let put = Put {
+            amount: 0,
+            live: true,
+        };
+        PotTally {
+            standings: [Standing { put, total: 0 }; MOST_SEATS],
+            total: 0,
+        }
+    }
+
+    /// The tally of these puts.
+    pub(crate) fn of(puts: &[Put; 10]) -> PotTally
+        requires { total_put puts.now < 2 ^ 53 }
+        ensures { result ≡ puts.now }
+    {
+        let mut tally = PotTally::new();
+        for index in 0..puts.len() {
+            let put = puts[index];
+            tally.add(index as u8 + 1, put.amount);
+            if !put.live {
+                tally.fold(index as u8 + 1);
+            }
+        }
+        tally
+    }
+
+    /// Adds chips that the player in this seat puts in.
+    pub fn add(&mut self, seat: u8, amount: u64)
+        requires first { 1 ≤ seat }
+        requires last { seat ≤ 10 }
+        requires fits { total_put self.old + amount < 2 ^ 53 }
+        ensures { self.new ≡ put_in_at self.old (seat - 1) amount }
+    {
+        put_in(&mut self.standings, seat as usize - 1, amount);
+        self.total += amount;
+    }
+
+    /// Takes the player in this seat as folded: he is no longer live.
+    pub fn fold(&mut self, seat: u8)
+        requires first { 1 ≤ seat }
+        requires last { seat ≤ 10 }
+        ensures { self.new ≡ folded_at self.old (seat - 1) }
+    {
+        fold(&mut self.standings, seat as usize - 1);
+    }
+
+    /// The pots of what is put in so far.
+    pub fn pots(&self) -> Pots
+        requires { is_contested self.now ≡ true }
+        ensures pots { result ≡ layers self.now }
+        ensures sum { total_of result ≡ total_put self.now }
+        ensures live { are_for (live_seats self.now) result ≡ true }
+        ensures somebody { have_somebody result ≡ true }
+        ensures units { (unit : ℕ) → are_whole_puts unit self.now ≡ true → are_whole_pots unit result ≡ true }
+    {
+        let mut pots = Pots::empty();
+        let mut below = 0;
+        let mut paid = 0;
+        while let Some(next) = nearest_above(&self.standings, below) {
+            let height = next.put.amount;
+            pots.push(Pot {
+                amount: next.total - paid,
+                eligible: live_payers(&self.standings, height),
+            });
+            below = height;
+            paid = next.total;
+        }
+        pots.add_to_last(self.total - paid);
+        pots
+    }
+}
