@@ -1,3 +1,4 @@
+pub mod Checks
 pub mod OccupiedSeats
 pub mod Searches
 pub mod Walks

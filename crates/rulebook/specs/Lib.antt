@@ -1,3 +1,4 @@
 pub mod Pairs
 pub mod Search
+pub mod Checks
 pub mod Seats
