@@ -9,7 +9,7 @@ use Rattle.table_engine.specs.declared.start.HandStart.{HandStart}
 use Rattle.table_engine.specs.declared.start.StartSeat.{StartSeat}
 use Rattle.table_engine.specs.declared.record.ActOf.{ActOf}
 use Rattle.table_engine.specs.Hands.{HandTerms, posted, on_street, put_in_hand, behind, has_folded, players_on_street}
-use Rattle.table_engine.specs.Results.{pot, award, is_won_by_folds, stacks_after_hand, stack_after, starting_stacks}
+use Rattle.table_engine.specs.Results.{pot, award, is_won_by_folds, stack_after_hand, stacks_after_hand, stack_after, starting_stacks}
 
 -- A sum over a list that is made of another.
 pub sum_by-map : {X Y : Type 0} (f : Y → ℕ) (g : X → Y) (xs : List X) → sum_by f (map g xs) ≡ sum_by (λ x. f (g x)) xs
@@ -61,8 +61,8 @@ one-gets hand won =
 -- After a hand that is won without a showdown the stacks sum to the starting stacks.
 pub chips-after : (hand : HandTerms) → is_won_by_folds hand ≡ true → sum (stacks_after_hand hand) ≡ sum (starting_stacks hand)
 chips-after hand won =
-    let stacks = sum-map (λ (player : StartSeat). behind hand.start hand.acts player + award hand player) hand.start.seats in
-    let parts = sum_by-plus (behind hand.start hand.acts) (award hand) (λ player. behind hand.start hand.acts player + award hand player) hand.start.seats (λ player. refl) in
+    let stacks = sum-map (stack_after_hand hand) hand.start.seats in
+    let parts = sum_by-plus (behind hand.start hand.acts) (award hand) (stack_after_hand hand) hand.start.seats (λ player. refl) in
     let play = chips-in_play hand in
     let gets = one-gets hand won in
     omega arith

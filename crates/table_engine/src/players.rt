@@ -106,15 +106,19 @@ pub(crate) fn pay(stacks: &mut [u64], players: &[OnStreet], pot: u64)
     }
 }
 
+/// A player with another stack, in chips.
+fn with_stack(player: StartSeat, stack: u64) -> StartSeat
+    ensures { result ≡ with_stack player stack }
+{
+    StartSeat { stack, ..player }
+}
+
 /// Gives each player the stack in his place of the list, in chips.
 pub(crate) fn set_stacks(players: &mut [StartSeat], stacks: &[u64])
     requires { length stacks.now ≡ length players.old }
     ensures { players.new ≡ with_stacks players.old stacks.now }
 {
     for place in 0..players.len() {
-        players[place] = StartSeat {
-            stack: stacks[place],
-            ..players[place]
-        };
+        players[place] = with_stack(players[place], stacks[place]);
     }
 }
