@@ -1,3 +1,4 @@
 pub mod Checks
 pub mod OccupiedSeats
+pub mod Pairs
 pub mod Walks
