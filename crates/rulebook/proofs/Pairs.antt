@@ -5,20 +5,8 @@ use Rattle.std.specs.List.{list_any, list_all}
 use Rattle.std.proofs.lemmas.Bool.{and_parts, and_from, or_left, or_right, not-true, cases_Bool}
 use Rattle.std.proofs.lemmas.Bool.Decides.{nat_tests}
 use Rattle.std.proofs.lemmas.List.Folds.{list_all-map}
+use Rattle.rulebook.proofs.Tests.{list_all-follows, list_all-filter, list_all-between}
 use Rattle.rulebook.specs.Pairs.{is_pairwise, are_rising, are_distinct}
-
--- What passes two tests passes a third that follows from them.
-pub list_all-both : {A : Type 0} (one other third : A → Bool) (items : List A) → ((item : A) → one item ≡ true → other item ≡ true → third item ≡ true)
-    → list_all one items ≡ true → list_all other items ≡ true → list_all third items ≡ true
-list_all-both one other third [] follows first second = refl
-list_all-both one other third (item ∷ items) follows first second =
-    let here = and_parts (one item) (list_all one items) first in
-    let there = and_parts (other item) (list_all other items) second in
-    and_from _ _ (follows item here.0 there.0) (list_all-both one other third items follows here.1 there.1)
-
--- What passes a test passes another that follows from it.
-pub list_all-follows : {A : Type 0} (one other : A → Bool) (items : List A) → ((item : A) → one item ≡ true → other item ≡ true) → list_all one items ≡ true → list_all other items ≡ true
-list_all-follows one other items follows first = list_all-both one one other items (λ item passes again. follows item passes) first first
 
 -- Each pair passes a test that follows from one that each pair passes.
 pub is_pairwise-follows : {A : Type 0} (one other : A → A → Bool) (items : List A) → ((item later : A) → one item later ≡ true → other item later ≡ true)
@@ -35,17 +23,6 @@ distinct-rising numbers rising = is_pairwise-follows nat_lt (λ one other. not (
     below-differs : (one other : ℕ) → nat_lt one other ≡ true → not (one == other) ≡ true
     below-differs one other below = grind (arith, nat_tests)
 
--- What passes a test for all of a list does for some of it.
-pub list_all-filter : {A K : Type 0} (test : K → Bool) (key : A → K) (keep : A → Bool) (items : List A) → list_all test (map key items) ≡ true → list_all test (map key (filter keep items)) ≡ true
-list_all-filter test key keep [] all = refl
-list_all-filter test key keep (item ∷ items) all =
-    let parts = and_parts (test (key item)) (list_all test (map key items)) all in
-    let rest = list_all-filter test key keep items parts.1 in
-    elim (cases_Bool (keep item)) [
-      | inl kept ↦ rw kept (and_from _ _ parts.0 rest)
-      | inr left ↦ rw left rest
-    ]
-
 -- What holds between the items of a list holds between some of them.
 pub is_pairwise-filter : {A K : Type 0} (test : K → K → Bool) (key : A → K) (keep : A → Bool) (items : List A) → is_pairwise test (map key items) ≡ true
     → is_pairwise test (map key (filter keep items)) ≡ true
@@ -57,14 +34,6 @@ is_pairwise-filter test key keep (item ∷ items) pairs =
       | inl kept ↦ rw kept (and_from _ _ (list_all-filter (test (key item)) key keep items parts.0) rest)
       | inr left ↦ rw left rest
     ]
-
--- One more item, between those in front and those behind.
-pub list_all-between : {A : Type 0} (test : A → Bool) (front : List A) (item : A) (behind : List A) → list_all test (front ++ behind) ≡ true → test item ≡ true
-    → list_all test (front ++ item ∷ behind) ≡ true
-list_all-between test [] item behind all here = and_from _ _ here all
-list_all-between test (first ∷ front) item behind all here =
-    let parts = and_parts (test first) (list_all test (front ++ behind)) all in
-    and_from _ _ parts.0 (list_all-between test front item behind parts.1 here)
 
 -- Where each item in front passes the test with one more, and it with each behind, each pair passes.
 pub is_pairwise-between : {A : Type 0} (test : A → A → Bool) (front : List A) (item : A) (behind : List A) → is_pairwise test (front ++ behind) ≡ true

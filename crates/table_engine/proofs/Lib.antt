@@ -6,3 +6,5 @@ pub mod Plays
 pub mod Refusals
 pub mod Rewrites
 pub mod Stacks
+pub mod StacksAfter
+pub mod Units

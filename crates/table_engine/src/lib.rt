@@ -12,7 +12,7 @@ mod record;
 mod start;
 
 pub use hand::Hand;
-pub use laws::chips_of_a_hand;
+pub use laws::{acts_of_a_hand, chips_of_a_hand, players_of_a_hand};
 pub use record::{ActFault, ActOf, HandRecord};
 pub use start::{HandStart, StartSeat};
 
