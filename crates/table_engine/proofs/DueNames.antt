@@ -1,5 +1,5 @@
 -- Who is due is a player of the hand, so he has a name.
-use Rattle.std.proofs.Common.{◌≡◌, ◌∙◌, ℕ, List, [], ◌∷◌, map, Bool, true, false, cond, Some, None, refl, ap, sym, arith}
+use Rattle.std.proofs.Common.{◌≡◌, ◌∙◌, ℕ, List, [], ◌∷◌, Bool, true, false, cond, Some, None, refl, ap, sym, arith}
 use Rattle.std.specs.Prelude.{not, ◌&&◌, ◌||◌, ◌==◌, nat_lt, Option, is_some, is_none, option_map, find, filter}
 use Rattle.std.specs.List.{list_any}
 use Rattle.std.proofs.lemmas.Bool.{and_parts, and_from, or_left, or_right}
@@ -9,9 +9,7 @@ use Rattle.rulebook.specs.Seats.{people_clockwise_after}
 use Rattle.rulebook.proofs.Tests.{list_any-follows, list_any-made, find-passes, find-any}
 use Rattle.betting_round.specs.declared.on_street.OnStreet.{OnStreet}
 use Rattle.betting_round.specs.Streets.{may_be_due, is_closed, due_seat}
-use Rattle.table_engine.specs.declared.start.HandStart.{HandStart}
 use Rattle.table_engine.specs.declared.start.StartSeat.{StartSeat}
-use Rattle.table_engine.specs.declared.record.ActOf.{ActOf}
 use Rattle.table_engine.specs.Hands.{HandTerms, on_street, players_on_street, search_after, level, name_in_seat, due_in_hand, due_name}
 use Rattle.table_engine.proofs.Refusals.{any-found}
 

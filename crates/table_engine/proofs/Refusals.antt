@@ -1,6 +1,6 @@
 -- Why an act is refused.
 use Rattle.std.proofs.Common.{◌≡◌, ◌∙◌, ℕ, List, [], ◌∷◌, Bool, true, false, cond, Some, None, Ok, Err, refl, ap, sym, subst}
-use Rattle.std.specs.Prelude.{◌||◌, Option, Result, IfErr, IsErr, is_some, option_map, find}
+use Rattle.std.specs.Prelude.{◌||◌, Option, Result, IsErr, is_some, option_map, find}
 use Rattle.std.specs.Result.{IsErrAnd}
 use Rattle.std.specs.List.{list_any}
 use Rattle.std.specs.Str.{bytes_eq}

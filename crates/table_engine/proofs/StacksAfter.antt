@@ -1,21 +1,19 @@
 -- After a hand that is won by folds each player has a stack above 0 that is a multiple of the unit.
-use Rattle.std.proofs.Common.{◌≡◌, ◌∙◌, refl, sym, ap, subst, ℕ, ◌+◌, ◌-◌, ◌%◌, ◌<◌, ◌≤◌, Bool, true, false, cond, List, [], ◌∷◌, ◌++◌, map, Some, None, arith}
-use Rattle.std.specs.Prelude.{not, ◌&&◌, ◌||◌, ◌==◌, nat_lt, nat_le, min, sum_by, find, Option, is_none, option_map, option_and_then, if◌then◌else◌}
-use Rattle.std.specs.List.{list_any, list_all}
+use Rattle.std.proofs.Common.{◌≡◌, ◌∙◌, refl, sym, ℕ, ◌+◌, ◌%◌, ◌<◌, Bool, true, false, List, [], ◌∷◌, ◌++◌, map, Some, None, arith}
+use Rattle.std.specs.Prelude.{not, ◌&&◌, ◌||◌, ◌==◌, nat_lt, nat_le, min, find, Option, is_none, option_map, if◌then◌else◌}
+use Rattle.std.specs.List.{list_all}
 use Rattle.std.specs.Option.{option_map_or}
 use Rattle.std.specs.Str.{bytes_eq}
 use Rattle.std.proofs.Math.Nat.{zero-mod}
-use Rattle.std.proofs.lemmas.Bool.{and_parts, and_from, or_left, or_right}
+use Rattle.std.proofs.lemmas.Bool.{and_parts, and_from}
 use Rattle.std.proofs.lemmas.Bool.Decides.{nat_tests}
 use Rattle.std.proofs.lemmas.List.Folds.{list_all-map}
 use Rattle.std.proofs.lemmas.Option.{same_Some, option_and_then_some}
 use Rattle.std.proofs.lemmas.Slice.Eq.{bytes_eq-Decides}
 use Rattle.rulebook.specs.Checks.{first_that_holds}
-use Rattle.rulebook.specs.Pairs.{are_distinct}
 use Rattle.rulebook.proofs.Pairs.{distinct-rising, distinct-alike}
 use Rattle.rulebook.proofs.Tests.{list_all-both, list_all-follows, list_any-both, list_any-follows, list_any-made, find-passes, find-all, find-any}
 use Rattle.level_plan.specs.Items.{is_blind, greatest_amount}
-use Rattle.level_plan.specs.declared.plan.Blind.{Blind}
 use Rattle.floor_text.specs.declared.refusal.Refusal.{Refusal}
 use Rattle.floor_text.specs.declared.refusal.Refusal.TheVariants.{NotDealt, NotTurn, HandOver}
 use Rattle.betting_round.specs.declared.on_street.OnStreet.{OnStreet}
@@ -24,9 +22,9 @@ use Rattle.table_engine.specs.declared.start.HandStart.{HandStart}
 use Rattle.table_engine.specs.declared.start.StartSeat.{StartSeat}
 use Rattle.table_engine.specs.declared.record.ActOf.{ActOf}
 use Rattle.table_engine.specs.Starts.{is_playable_stack, have_playable_stacks, IsLawfulStart}
-use Rattle.table_engine.specs.Hands.{HandTerms, posted, behind, put_in_hand, level, is_fold, has_folded, on_street, players_on_street, search_after, due_in_hand, due_name, name_in_seat}
+use Rattle.table_engine.specs.Hands.{HandTerms, posted, behind, level, is_fold, has_folded, on_street, players_on_street, search_after, due_in_hand, due_name, name_in_seat}
 use Rattle.table_engine.specs.Acts.{is_dealt, refusal_of_act}
-use Rattle.table_engine.specs.Results.{pot, award, is_won_by_folds, stack_after_hand, with_stack, players_after}
+use Rattle.table_engine.specs.Results.{pot, is_won_by_folds, stack_after_hand, with_stack, players_after}
 use Rattle.table_engine.specs.Plays.{are_lawful_after, IsLawfulPlay}
 use Rattle.table_engine.proofs.Chips.{posted-le}
 use Rattle.table_engine.proofs.DueNames.{due-may}
@@ -143,10 +141,10 @@ seated-has_more hand lawful seat due =
     let may = due-may (players_on_street hand) (search_after hand) (level hand.start) seat due in
     let made = list_any-made (λ (player : OnStreet). (player.seat == seat) && may_be_due (level hand.start) player) (on_street hand.start hand.acts) hand.start.seats in
     let some = list_any-follows (λ (player : StartSeat). (player.seat == seat) && may_be_due (level hand.start) (on_street hand.start hand.acts player)) (λ player. (player.seat == seat) && has_more hand.start player) hand.start.seats
-        (λ player both.
-        let parts = and_parts (player.seat == seat) (may_be_due (level hand.start) (on_street hand.start hand.acts player)) both in
-        and_from (player.seat == seat) (has_more hand.start player) parts.0 (due-has_more hand.start hand.acts (level hand.start) player parts.1))
-        (sym made ∙ may) in
+    (λ player both.
+    let parts = and_parts (player.seat == seat) (may_be_due (level hand.start) (on_street hand.start hand.acts player)) both in
+    and_from (player.seat == seat) (has_more hand.start player) parts.0 (due-has_more hand.start hand.acts (level hand.start) player parts.1))
+    (sym made ∙ may) in
     distinct-alike (λ one other. one == other) (λ (player : StartSeat). player.seat) (has_more hand.start) seat hand.start.seats (λ one other. seats-joined one other seat) (distinct-rising (map (λ player. player.seat) hand.start.seats) lawful.rising) some
 
 -- A player whose act is refused by no check has something behind.
