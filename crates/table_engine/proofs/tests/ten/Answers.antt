@@ -1,5 +1,5 @@
 -- The ten players are dealt in lawfully: each test of their list computes.
-use Rattle.std.proofs.Common.{◌≡◌, ◌∙◌, ap, refl, sym, ℕ, List, [], ◌∷◌, get_or, arith, lit<, lit≤}
+use Rattle.std.proofs.Common.{◌≡◌, ◌∙◌, ℕ, List, [], ◌∷◌, lit<, lit≤}
 use Rattle.table_engine.specs.declared.start.StartSeat.{StartSeat}
 use Rattle.table_engine.proofs.tests.ten.Goals as goal
 
@@ -14,7 +14,7 @@ ten_players =
 pub new-requires : goal.new-requires
 new-requires c =
     let seats : c.start_of-start.result.seats ≡ ten_players =
-        c.start_of-start.ensures.seats ∙ c.in_ok-from_array.ensures.items ∙ rw (c.player.ensures, c.player-2.ensures, c.player-3.ensures, c.player-4.ensures, c.player-5.ensures, c.player-6.ensures, c.player-7.ensures, c.player-8.ensures, c.player-9.ensures, c.player-10.ensures, c.in_ok-a.ensures) in
+    c.start_of-start.ensures.seats ∙ c.in_ok-from_array.ensures.items ∙ rw (c.player.ensures, c.player-2.ensures, c.player-3.ensures, c.player-4.ensures, c.player-5.ensures, c.player-6.ensures, c.player-7.ensures, c.player-8.ensures, c.player-9.ensures, c.player-10.ensures, c.in_ok-a.ensures) in
     record {
       two = rw seats (lit≤ tt);
       some_seats = rw c.start_of-start.ensures.table (lit≤ tt);
