@@ -42,7 +42,7 @@ impl Model for Hand {
 }
 
 impl Hand {
-    /// A hand before any act. It takes the room for its end; want of memory hands the start back.
+    /// A hand of a lawful start, before any act. It takes the room for its end; want of memory hands the start back.
     pub fn new(alloc: Global, start: HandStart) -> Result<Hand, HandStart>
         requires { IsLawfulStart start }
         ensures hand { IfOk result (λ hand. hand ≡ record { start = start; acts = [] }) }
