@@ -1,6 +1,7 @@
 -- What has been given of a plan, and what is wrong with a line or with the whole. This project's own.
 use Rattle.std.specs.Prelude.{◌≡◌, ℕ, ◌%◌, Bool, true, ◌==◌, ◌&&◌, ◌||◌, not, nat_le, nat_lt, List, [], ◌∷◌, ◌++◌, length, Option, None, Some, is_some, is_none, unwrap_or, if◌then◌else◌}
 use Rattle.std.specs.Option.{option_map_or}
+use Rattle.rulebook.specs.Checks.{first_that_holds}
 use Rattle.card_set.specs.declared.game.Game.{Game}
 use Rattle.card_set.specs.declared.game.Game.TheVariants.{Holdem}
 use Rattle.level_plan.specs.declared.line.PlanItem.{PlanItem}
@@ -91,11 +92,6 @@ plan_of draft = record {
   shares = unwrap_or draft.shares [];
 }
 
--- The first item whose test holds.
-abbrev pub first_item : List (PlanItem × Bool) → Option PlanItem
-first_item [] = None
-first_item (row ∷ rows) = if row.1 then Some row.0 else first_item rows
-
 -- What is wrong at the end of a plan, in order: each item where it is missing; then `late`, where there is no such
 -- level; then `stack`, where it is no multiple of that level's unit.
 abbrev pub go_checks : Draft → List (PlanItem × Bool)
@@ -114,7 +110,7 @@ go_checks draft =
 
 -- The wrong item at the end of a plan is the first that is.
 abbrev pub go_fault : Draft → Option PlanItem
-go_fault draft = first_item (go_checks draft)
+go_fault draft = first_that_holds (go_checks draft)
 
 -- A fault is the item that was found wrong; memory runs out only where none was.
 abbrev pub IsFault : Option PlanItem → PlanFault → Type 0

@@ -1,9 +1,8 @@
 //! Plans of a tournament, given line by line.
 //!
-//! It stands on floor_text and card_set. `PlanDraft::line` takes a plan line, or names its item where the line is
-//! wrong and changes nothing. `PlanDraft::go` names the first item that is missing or wrong, else gives the `Plan`,
-//! which
-//! is right by its type.
+//! It stands on floor_text, card_set and rulebook. `PlanDraft::line` takes a plan line, or names its item where the
+//! line is wrong and changes nothing. `PlanDraft::go` names the first item that is missing or wrong, else gives the
+//! `Plan`, which is right by its type.
 #![tactic(auto)]
 
 mod bounds;

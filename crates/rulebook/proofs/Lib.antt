@@ -1,4 +1,6 @@
 pub mod Checks
 pub mod OccupiedSeats
+pub mod Pairs
 pub mod Searches
+pub mod Tests
 pub mod Walks

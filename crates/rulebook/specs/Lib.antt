@@ -1,4 +1,4 @@
+pub mod Checks
 pub mod Pairs
 pub mod Search
-pub mod Checks
 pub mod Seats

@@ -1,8 +1,9 @@
-//! The words of the rule books that several crates speak of: so far the order of the seats at a table.
+//! The words that several crates speak of: the order of the seats at a table, checks that are made in order, and
+//! what holds between each item of a list and each later one.
 //!
-//! It stands on no other crate. Its definitions are plain lists and tests over numbers of seats; the
-//! functions here take one step of them. `search_is_the_walk` says that a search through people listed in rising seat
-//! is the walk round the table.
+//! It stands on no other crate. Its definitions are plain lists and tests over them (`Seats`, `Search`, `Checks`,
+//! `Pairs`), and its lemmas are for the crates above; the functions here take one step from seat to seat.
+//! `search_is_the_walk` says that a search through people listed in rising seat is the walk round the table.
 #![tactic(auto)]
 
 mod laws;

@@ -8,8 +8,9 @@ use Rattle.betting_round.specs.declared.on_street.OnStreet.{OnStreet}
 use Rattle.table_engine.specs.declared.start.HandStart.{HandStart}
 use Rattle.table_engine.specs.declared.start.StartSeat.{StartSeat}
 use Rattle.table_engine.specs.declared.record.ActOf.{ActOf}
+use Rattle.table_engine.specs.Starts.{chips_of}
 use Rattle.table_engine.specs.Hands.{HandTerms, posted, on_street, put_in_hand, behind, has_folded, players_on_street}
-use Rattle.table_engine.specs.Results.{pot, award, is_won_by_folds, stacks_after_hand, stack_after, starting_stacks}
+use Rattle.table_engine.specs.Results.{pot, award, is_won_by_folds, stack_after_hand, stacks_after_hand, with_stack, players_after, stack_after, starting_stacks}
 
 -- A sum over a list that is made of another.
 pub sum_by-map : {X Y : Type 0} (f : Y → ℕ) (g : X → Y) (xs : List X) → sum_by f (map g xs) ≡ sum_by (λ x. f (g x)) xs
@@ -34,7 +35,7 @@ sum_by-same p n (x ∷ xs) =
     rw (sum_by-cons (λ y. cond (p y) n 0) x xs, sum_by-cons (λ y. cond (p y) 1 0) x xs, sum_by-same p n xs) (counted_again n (count_by p xs) (p x))
 
 -- A player posts no more than his stack.
-posted-le : (start : HandStart) (player : StartSeat) → posted start player ≤ player.stack
+pub posted-le : (start : HandStart) (player : StartSeat) → posted start player ≤ player.stack
 posted-le start player = grind (arith, nat_tests)
 
 -- What a player has behind and what he has put in are his stack.
@@ -61,11 +62,19 @@ one-gets hand won =
 -- After a hand that is won without a showdown the stacks sum to the starting stacks.
 pub chips-after : (hand : HandTerms) → is_won_by_folds hand ≡ true → sum (stacks_after_hand hand) ≡ sum (starting_stacks hand)
 chips-after hand won =
-    let stacks = sum-map (λ (player : StartSeat). behind hand.start hand.acts player + award hand player) hand.start.seats in
-    let parts = sum_by-plus (behind hand.start hand.acts) (award hand) (λ player. behind hand.start hand.acts player + award hand player) hand.start.seats (λ player. refl) in
+    let stacks = sum-map (stack_after_hand hand) hand.start.seats in
+    let parts = sum_by-plus (behind hand.start hand.acts) (award hand) (stack_after_hand hand) hand.start.seats (λ player. refl) in
     let play = chips-in_play hand in
     let gets = one-gets hand won in
     omega arith
+
+-- After such a hand its players have the chips with which they began.
+pub chips-players : (hand : HandTerms) → is_won_by_folds hand ≡ true → chips_of (players_after hand) ≡ chips_of hand.start.seats
+chips-players hand won =
+    let after = sum_by-map (λ (player : StartSeat). player.stack) (λ (player : StartSeat). with_stack player (stack_after_hand hand player)) hand.start.seats in
+    let stacks = sum-map (stack_after_hand hand) hand.start.seats in
+    let start = sum-map (λ (player : StartSeat). player.stack) hand.start.seats in
+    after ∙ sym stacks ∙ chips-after hand won ∙ start
 
 -- What the players of the street have put in is the pot.
 street-pot : (hand : HandTerms) → sum_by (λ player. player.put) (players_on_street hand) ≡ pot hand

@@ -1,16 +1,15 @@
 -- Who is due is a player of the hand, so he has a name.
-use Rattle.std.proofs.Common.{◌≡◌, ◌∙◌, ℕ, List, [], ◌∷◌, map, Bool, true, false, cond, Some, None, refl, ap, sym, arith}
-use Rattle.std.specs.Prelude.{not, ◌||◌, ◌==◌, nat_lt, Option, is_some, is_none, option_map, find, filter}
+use Rattle.std.proofs.Common.{◌≡◌, ◌∙◌, ℕ, List, [], ◌∷◌, Bool, true, false, cond, Some, None, refl, ap, sym, arith}
+use Rattle.std.specs.Prelude.{not, ◌&&◌, ◌||◌, ◌==◌, nat_lt, Option, is_some, is_none, option_map, find, filter}
 use Rattle.std.specs.List.{list_any}
-use Rattle.std.proofs.lemmas.Bool.{or_left, or_right}
+use Rattle.std.proofs.lemmas.Bool.{and_parts, and_from, or_left, or_right}
 use Rattle.std.proofs.lemmas.Bool.Decides.{nat_tests}
 use Rattle.std.proofs.lemmas.List.Folds.{list_any-append}
 use Rattle.rulebook.specs.Seats.{people_clockwise_after}
+use Rattle.rulebook.proofs.Tests.{list_any-follows, list_any-made, find-passes, find-any}
 use Rattle.betting_round.specs.declared.on_street.OnStreet.{OnStreet}
 use Rattle.betting_round.specs.Streets.{may_be_due, is_closed, due_seat}
-use Rattle.table_engine.specs.declared.start.HandStart.{HandStart}
 use Rattle.table_engine.specs.declared.start.StartSeat.{StartSeat}
-use Rattle.table_engine.specs.declared.record.ActOf.{ActOf}
 use Rattle.table_engine.specs.Hands.{HandTerms, on_street, players_on_street, search_after, level, name_in_seat, due_in_hand, due_name}
 use Rattle.table_engine.proofs.Refusals.{any-found}
 
@@ -18,19 +17,6 @@ use Rattle.table_engine.proofs.Refusals.{any-found}
 or_once : (first second goal : Bool) → (first || second) ≡ true → (first ≡ true → goal ≡ true) → (second ≡ true → goal ≡ true) → goal ≡ true
 or_once true second goal either left right = left refl
 or_once false second goal either left right = right either
-
--- Where the one who is found passes another test, somebody passes it.
-any-of_found_step : {X : Type 0} (other : X → Bool) (first x : X) (found : Option X) (wants rest : Bool) → cond wants (Some first) found ≡ Some x → other x ≡ true
-    → (found ≡ Some x → rest ≡ true) → (other first || rest) ≡ true
-any-of_found_step other first x found true rest same passes more =
-    let he : first ≡ x = cc in
-    or_left (other first) rest (ap other he ∙ passes)
-any-of_found_step other first x found false rest same passes more = or_right (other first) rest (more same)
-
-any-of_found : {X : Type 0} (wanted other : X → Bool) (xs : List X) (x : X) → find wanted xs ≡ Some x → other x ≡ true → list_any other xs ≡ true
-any-of_found wanted other [] x found passes = cc
-any-of_found wanted other (first ∷ xs) x found passes =
-    any-of_found_step other first x (find wanted xs) (wanted first) (list_any other xs) found passes (λ later. any-of_found wanted other xs x later passes)
 
 -- Who passes a test among some passes it among all.
 any-of_filter_step : {X : Type 0} (other : X → Bool) (x : X) (keeps : Bool) (left : List X) (rest : Bool) → list_any other (cond keeps (x ∷ left) left) ≡ true
@@ -50,32 +36,32 @@ any-of_clockwise other seat_of people seat passes =
     (any-of_filter (λ person. nat_lt seat (seat_of person)) other people)
     (any-of_filter (λ person. not (nat_lt seat (seat_of person))) other people)
 
--- A player is in a seat of the start where he is in it on the street.
-any-of_start : (start : HandStart) (acts : List ActOf) (seat : ℕ) (seats : List StartSeat) → list_any (λ player. player.seat == seat) (map (on_street start acts) seats) ≡ list_any (λ player. player.seat == seat) seats
-any-of_start start acts seat [] = refl
-any-of_start start acts seat (player ∷ seats) = ap (λ (rest : Bool). (player.seat == seat) || rest) (any-of_start start acts seat seats)
-
 same_seat : (seat : ℕ) → (seat == seat) ≡ true
 same_seat seat = grind (arith, nat_tests)
 
--- The seat of the one who is found.
-seat-of_found : (people : List OnStreet) (found : Option OnStreet) (seat : ℕ) → ((player : OnStreet) → found ≡ Some player → (player.seat == seat) ≡ true → list_any (λ other. other.seat == seat) people ≡ true)
-    → option_map (λ player. player.seat) found ≡ Some seat → list_any (λ other. other.seat == seat) people ≡ true
-seat-of_found people None seat each same = cc
-seat-of_found people (Some player) seat each same =
-    let his : player.seat ≡ seat = cc in
-    each player refl (ap (λ (n : ℕ). n == seat) his ∙ same_seat seat)
+-- The seat that is due is the seat of a player who may be due.
+pub due-may : (players : List OnStreet) (after level seat : ℕ) → due_seat players after level ≡ Some seat → list_any (λ player. (player.seat == seat) && may_be_due level player) players ≡ true
+due-may players after level seat due = by_closed (is_closed players) due
+  where
+    by_found : (found : Option OnStreet) → find (may_be_due level) (people_clockwise_after (λ player. player.seat) players after) ≡ found → option_map (λ (player : OnStreet). player.seat) found ≡ Some seat
+        → list_any (λ player. (player.seat == seat) && may_be_due level player) players ≡ true
+    by_found None is same = cc
+    by_found (Some player) is same =
+        let his : player.seat ≡ seat = cc in
+        let sits : (player.seat == seat) ≡ true = ap (λ (n : ℕ). n == seat) his ∙ same_seat seat in
+        let may = find-passes (may_be_due level) (people_clockwise_after (λ (player : OnStreet). player.seat) players after) player is in
+        any-of_clockwise (λ player. (player.seat == seat) && may_be_due level player) (λ player. player.seat) players after
+        (find-any (may_be_due level) (λ player. (player.seat == seat) && may_be_due level player) (people_clockwise_after (λ (player : OnStreet). player.seat) players after) player is (and_from _ _ sits may))
+
+    by_closed : (closed : Bool) → cond closed None (option_map (λ player. player.seat) (find (may_be_due level) (people_clockwise_after (λ player. player.seat) players after))) ≡ Some seat
+        → list_any (λ player. (player.seat == seat) && may_be_due level player) players ≡ true
+    by_closed true same = cc
+    by_closed false same = by_found (find (may_be_due level) (people_clockwise_after (λ (player : OnStreet). player.seat) players after)) refl same
 
 -- The seat that is due is the seat of a player.
 due-seated : (players : List OnStreet) (after level seat : ℕ) → due_seat players after level ≡ Some seat → list_any (λ player. player.seat == seat) players ≡ true
-due-seated players after level seat due = by_closed (is_closed players) due
-  where
-    by_closed : (closed : Bool) → cond closed None (option_map (λ player. player.seat) (find (may_be_due level) (people_clockwise_after (λ player. player.seat) players after))) ≡ Some seat → list_any (λ player. player.seat == seat) players ≡ true
-    by_closed true same = cc
-    by_closed false same =
-        any-of_clockwise (λ player. player.seat == seat) (λ player. player.seat) players after
-        (seat-of_found (people_clockwise_after (λ player. player.seat) players after) (find (may_be_due level) (people_clockwise_after (λ player. player.seat) players after)) seat
-        (λ player found his. any-of_found (may_be_due level) (λ other. other.seat == seat) (people_clockwise_after (λ player. player.seat) players after) player found his) same)
+due-seated players after level seat due =
+    list_any-follows (λ (player : OnStreet). (player.seat == seat) && may_be_due level player) (λ player. player.seat == seat) players (λ player both. (and_parts (player.seat == seat) (may_be_due level player) both).0) (due-may players after level seat due)
 
 none-of_some : {X : Type 0} (found : Option X) → is_some found ≡ true → is_none found ≡ false
 none-of_some None there = cc
@@ -89,6 +75,6 @@ due_name-none hand = by_seat (due_in_hand hand) refl
     by_seat None same = rw same
     by_seat (Some seat) same =
         let there = due-seated (players_on_street hand) (search_after hand) (level hand.start) seat same in
-        let player = sym (any-of_start hand.start hand.acts seat hand.start.seats) ∙ there in
+        let player = sym (list_any-made (λ (other : OnStreet). other.seat == seat) (on_street hand.start hand.acts) hand.start.seats) ∙ there in
         let named : is_some (name_in_seat hand.start seat) ≡ true = sym (any-found (λ (other : StartSeat). other.seat == seat) (λ (other : StartSeat). other.name) hand.start.seats) ∙ player in
         rw same (none-of_some (name_in_seat hand.start seat) named)

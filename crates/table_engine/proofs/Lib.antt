@@ -1,6 +1,10 @@
-pub mod Rewrites
-pub mod Folds
 pub mod Chips
-pub mod Later
-pub mod Refusals
 pub mod DueNames
+pub mod Folds
+pub mod Later
+pub mod Plays
+pub mod Refusals
+pub mod Rewrites
+pub mod Stacks
+pub mod StacksAfter
+pub mod Units

@@ -1,16 +1,17 @@
 -- Why an act is refused.
 use Rattle.std.proofs.Common.{◌≡◌, ◌∙◌, ℕ, List, [], ◌∷◌, Bool, true, false, cond, Some, None, Ok, Err, refl, ap, sym, subst}
-use Rattle.std.specs.Prelude.{◌||◌, Option, Result, IfErr, IsErr, is_some, option_map, find}
+use Rattle.std.specs.Prelude.{◌||◌, Option, Result, IsErr, is_some, option_map, find}
 use Rattle.std.specs.Result.{IsErrAnd}
 use Rattle.std.specs.List.{list_any}
 use Rattle.std.specs.Str.{bytes_eq}
 use Rattle.floor_text.specs.declared.refusal.Refusal.{Refusal}
 use Rattle.floor_text.specs.declared.refusal.Refusal.TheVariants.{NotDealt}
+use Rattle.rulebook.specs.Checks.{first_that_holds}
 use Rattle.table_engine.specs.declared.record.ActFault.{ActFault}
-use Rattle.table_engine.specs.declared.record.ActFault.TheVariants.{NoMemory}
+use Rattle.table_engine.specs.declared.record.ActFault.TheVariants.{No, NoMemory}
 use Rattle.table_engine.specs.declared.start.HandStart.{HandStart}
 use Rattle.table_engine.specs.Hands.{HandTerms, seat_of_name}
-use Rattle.table_engine.specs.Acts.{is_dealt, refusal_of_act, refusal_of_turn, IsActFault}
+use Rattle.table_engine.specs.Acts.{is_dealt, turn_checks, refusal_of_act, IsAnswer}
 
 -- Somebody passes a test exactly where somebody is found by it.
 any-found_step : {X Y : Type 0} (f : X → Y) (x : X) (passes more : Bool) (left : Option X) → more ≡ is_some (option_map f left)
@@ -33,13 +34,19 @@ refused-without_seat hand name none =
     rw dealt
 
 -- An act of a player who has a seat is refused only where it is not his turn.
-pub refused-by_turn : (hand : HandTerms) (name : List ℕ) (seat : ℕ) → seat_of_name hand.start name ≡ Some seat → refusal_of_act hand name ≡ refusal_of_turn hand name
+pub refused-by_turn : (hand : HandTerms) (name : List ℕ) (seat : ℕ) → seat_of_name hand.start name ≡ Some seat → refusal_of_act hand name ≡ first_that_holds (turn_checks hand name)
 refused-by_turn hand name seat found =
     let dealt : is_dealt hand.start name ≡ true = dealt-seat hand.start name ∙ ap is_some found in
     rw dealt
 
--- Want of memory is the fault where no refusal holds.
-pub fault-of_memory : {T : Type 0} (result : Result T ActFault) (found : Option Refusal) → IsErr result × IsErrAnd result (λ fault. fault ≡ NoMemory) → found ≡ None
-    → IfErr result (IsActFault found)
-fault-of_memory (Ok done) found failed none = tt
-fault-of_memory (Err fault) found failed none = subst (IsActFault found) (sym failed.1) none
+-- A fault that tells the refusal that there is answers an act.
+pub answer-refused : {T : Type 0} (result : Result T ActFault) (refusal : Option Refusal) (reason : Refusal) → refusal ≡ Some reason → IsErr result × IsErrAnd result (λ fault. fault ≡ No reason)
+    → IsAnswer refusal result
+answer-refused (Ok done) refusal reason is failed = let never : false ≡ true = failed.0 in cc
+answer-refused {T = T} (Err fault) refusal reason is failed = subst (λ (f : ActFault). IsAnswer {T = T} refusal (Err f)) (sym failed.1) is
+
+-- Want of memory answers an act that nothing refuses.
+pub answer-memory : {T : Type 0} (result : Result T ActFault) (refusal : Option Refusal) → refusal ≡ None → IsErr result × IsErrAnd result (λ fault. fault ≡ NoMemory)
+    → IsAnswer refusal result
+answer-memory (Ok done) refusal none failed = none
+answer-memory {T = T} (Err fault) refusal none failed = subst (λ (f : ActFault). IsAnswer {T = T} refusal (Err f)) (sym failed.1) none

@@ -1,8 +1,9 @@
 -- What becomes of an act. The Poker TDA Rules: a player acts in turn.
-use Rattle.std.specs.Prelude.{◌≡◌, ℕ, Bool, false, not, List, [], ◌∷◌, ◌++◌, Option, Some, None, is_none, if◌then◌else◌}
+use Rattle.std.specs.Prelude.{◌≡◌, ℕ, Bool, false, not, List, [], ◌∷◌, ◌++◌, Option, Some, None, is_none, Result, Ok, Err}
 use Rattle.std.specs.List.{list_any}
 use Rattle.std.specs.Option.{option_map_or}
 use Rattle.std.specs.Str.{bytes_eq}
+use Rattle.rulebook.specs.Checks.{first_that_holds}
 use Rattle.floor_text.specs.declared.refusal.Refusal.{Refusal}
 use Rattle.floor_text.specs.declared.refusal.Refusal.TheVariants.{NotDealt, NotTurn, HandOver}
 use Rattle.betting_round.specs.declared.act.Act.{Act}
@@ -28,18 +29,13 @@ turn_checks hand name =
 abbrev pub act_checks : HandTerms → List ℕ → List (Refusal × Bool)
 act_checks hand name = (NotDealt, not (is_dealt hand.start name)) ∷ turn_checks hand name
 
--- The first refusal whose test holds.
-abbrev pub first_refusal : List (Refusal × Bool) → Option Refusal
-first_refusal [] = None
-first_refusal (row ∷ rows) = if row.1 then Some row.0 else first_refusal rows
-
 -- The lowest refusal of an act that holds, if one does.
 abbrev pub refusal_of_act : HandTerms → List ℕ → Option Refusal
-refusal_of_act hand name = first_refusal (act_checks hand name)
+refusal_of_act hand name = first_that_holds (act_checks hand name)
 
 -- The lowest refusal that holds of an act of a player who is dealt in, if one does.
 abbrev pub refusal_of_turn : HandTerms → List ℕ → Option Refusal
-refusal_of_turn hand name = first_refusal (turn_checks hand name)
+refusal_of_turn hand name = first_that_holds (turn_checks hand name)
 
 -- What an act that is not refused comes to.
 abbrev pub done_by : Act → Done
@@ -49,7 +45,8 @@ done_by Fold = Folded
 abbrev pub hand_after : HandTerms → List ℕ → Act → Bool → HandTerms
 hand_after hand name act by_time = record hand { acts = hand.acts ++ (record { name = name; act = act; by_time = by_time }) ∷ [] }
 
--- A fault is the lowest refusal that holds; memory runs out only where none does.
-abbrev pub IsActFault : Option Refusal → ActFault → Type 0
-IsActFault found (faults.No refusal) = found ≡ Some refusal
-IsActFault found faults.NoMemory = found ≡ None
+-- What an act gives: Ok exactly where nothing refuses it and memory does not run out, else the refusal that there is; memory runs out only where there is none.
+abbrev pub IsAnswer : {T : Type 0} → Option Refusal → Result T ActFault → Type 0
+IsAnswer refusal (Ok done) = refusal ≡ None
+IsAnswer refusal (Err (faults.No reason)) = refusal ≡ Some reason
+IsAnswer refusal (Err faults.NoMemory) = refusal ≡ None

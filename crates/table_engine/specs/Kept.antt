@@ -1,7 +1,9 @@
 -- What holds of a hand's running fields at every moment.
-use Rattle.std.specs.Prelude.{◌≡◌, ℕ, ◌<◌, ◌^◌, List, length, sum_by}
+use Rattle.std.specs.Prelude.{◌≡◌, ℕ, List, length}
 use Rattle.betting_round.specs.declared.on_street.OnStreet.{OnStreet}
+use Rattle.table_engine.specs.Starts.{IsLawfulStart}
 use Rattle.table_engine.specs.Hands.{HandTerms, players_on_street, search_after}
+use Rattle.table_engine.specs.Plays.{IsLawfulPlay}
 
 pub record IsHandKept (hand : HandTerms) (players : List OnStreet) (after : ℕ) (stacks : List ℕ) : Type 0 where
   -- the players are those of the start, after the acts
@@ -10,5 +12,6 @@ pub record IsHandKept (hand : HandTerms) (players : List OnStreet) (after : ℕ)
   pub search : after ≡ search_after hand
   -- there is room for a stack of each player
   pub room : length stacks ≡ length hand.start.seats
-  -- the chips of a hand are far from the end of their type
-  pub small : sum_by (λ player. player.stack) hand.start.seats < 2 ^ 53
+  -- the start is lawful, and the acts are a lawful play of it
+  pub lawful : IsLawfulStart hand.start
+  pub played : IsLawfulPlay hand

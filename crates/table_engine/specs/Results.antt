@@ -1,5 +1,6 @@
 -- What a hand that is over comes to. The Poker TDA Rules: where one player alone is live, he gets everything.
 use Rattle.std.specs.Prelude.{ℕ, ◌+◌, Bool, not, List, map, sum_by, if◌then◌else◌}
+use Rattle.std.specs.List.{zip}
 use Rattle.betting_round.specs.declared.on_street.OnStreet.{OnStreet}
 use Rattle.betting_round.specs.Streets.{is_one_live}
 use Rattle.table_engine.specs.declared.start.StartSeat.{StartSeat}
@@ -17,9 +18,25 @@ is_won_by_folds hand = is_one_live (players_on_street hand)
 abbrev pub award : HandTerms → StartSeat → ℕ
 award hand player = if not (has_folded hand.acts player.name) then pot hand else 0
 
--- The stacks after a hand that is won without a showdown, in the order of its players: what each has behind, and what he gets of the pot.
+-- A player's stack after a hand that is won without a showdown: what he has behind, and what he gets of the pot.
+abbrev pub stack_after_hand : HandTerms → StartSeat → ℕ
+stack_after_hand hand player = behind hand.start hand.acts player + award hand player
+
+-- The stacks after a hand that is won without a showdown, in the order of its players.
 abbrev pub stacks_after_hand : HandTerms → List ℕ
-stacks_after_hand hand = map (λ player. behind hand.start hand.acts player + award hand player) hand.start.seats
+stacks_after_hand hand = map (stack_after_hand hand) hand.start.seats
+
+-- A player with another stack.
+abbrev pub with_stack : StartSeat → ℕ → StartSeat
+with_stack player stack = record player { stack = stack }
+
+-- Players with other stacks, each with that in his place of the list.
+abbrev pub with_stacks : List StartSeat → List ℕ → List StartSeat
+with_stacks players stacks = map (λ pair. with_stack pair.0 pair.1) (zip players stacks)
+
+-- The players of a hand after it: each player of the start, with his stack after the hand.
+abbrev pub players_after : HandTerms → List StartSeat
+players_after hand = map (λ player. with_stack player (stack_after_hand hand player)) hand.start.seats
 
 -- What a player of the street has after a hand with this pot that is won without a showdown.
 abbrev pub stack_after : ℕ → OnStreet → ℕ

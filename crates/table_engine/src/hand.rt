@@ -1,10 +1,12 @@
 //! A hand that is played.
 
-ghost use Rattle.std.specs.Prelude.{◌≡◌, ◌<◌, ◌≤◌, ◌^◌, ◌++◌, ◌∷◌, [], Some, None, IsTrue, true, false, not, sum, sum_by, map, length, is_none, IfOk, IfErr, OnOk, OnErr};
-ghost use Rattle.std.specs.Option.{option_map_or};
-ghost use Rattle.table_engine.specs.Hands.{on_street, players_on_street, due_in_hand, due_name, is_over};
-ghost use Rattle.table_engine.specs.Acts.{refusal_of_act, refusal_of_turn, done_by, hand_after, IsActFault};
-ghost use Rattle.table_engine.specs.Results.{is_won_by_folds, stacks_after_hand, starting_stacks};
+ghost use Rattle.std.specs.Prelude.{◌≡◌, [], IsTrue, false, sum, is_none, IfOk, IfErr, OnOk, OnErr};
+ghost use Rattle.rulebook.specs.Checks.{IsChecked};
+ghost use Rattle.table_engine.specs.Starts.{IsLawfulStart};
+ghost use Rattle.table_engine.specs.Hands.{due_in_hand, due_name, is_over};
+ghost use Rattle.table_engine.specs.Acts.{turn_checks, refusal_of_act, done_by, hand_after, IsAnswer};
+ghost use Rattle.table_engine.specs.Results.{is_won_by_folds, starting_stacks};
+ghost use Rattle.table_engine.specs.Plays.{IsLawfulPlay, IsCompletePlay};
 
 use crate::players::{all_seated, fold, pay, pot_of};
 use crate::record::{ActFault, ActOf, HandRecord};
@@ -29,8 +31,7 @@ pub struct Hand {
 }
 
 impl Model for Hand {
-    ghost use Rattle.std.specs.Prelude.{◌≡◌, ◌<◌, ◌^◌};
-    ghost use Rattle.table_engine.specs.Hands.{HandTerms, players_on_street, search_after};
+    ghost use Rattle.table_engine.specs.Hands.{HandTerms};
     ghost use Rattle.table_engine.specs.Kept.{IsHandKept};
 
     ghost Value = { HandTerms };
@@ -41,9 +42,9 @@ impl Model for Hand {
 }
 
 impl Hand {
-    /// A hand before any act. It takes the room for its end; want of memory hands the start back.
+    /// A hand of a lawful start, before any act. It takes the room for its end; want of memory hands the start back.
     pub fn new(alloc: Global, start: HandStart) -> Result<Hand, HandStart>
-        requires { sum_by (λ player. player.stack) start.seats < 2 ^ 53 }
+        requires { IsLawfulStart start }
         ensures hand { IfOk result (λ hand. hand ≡ record { start = start; acts = [] }) }
         ensures back { IfErr result (λ back. back ≡ start) }
     {
@@ -63,9 +64,11 @@ impl Hand {
         })
     }
 
-    /// How the hand started.
+    /// How the hand started. Every hand started lawfully and was played lawfully so far.
     pub fn start(&self) -> &HandStart
-        ensures { result.now ≡ self.now.start }
+        ensures same { result.now ≡ self.now.start }
+        ensures lawful { IsLawfulStart self.now.start }
+        ensures played { IsLawfulPlay self.now }
     {
         &self.start
     }
@@ -100,17 +103,17 @@ impl Hand {
         is_one_live(&self.players)
     }
 
-    /// Why an act of a player who is dealt in is refused, if it is: another is due, or nobody.
-    fn turn_refusal(&self, name: Name) -> Option<Refusal>
-        ensures { result ≡ refusal_of_turn self.now name }
+    /// Checks that it is the turn of a player who is dealt in: nobody else is due, and somebody is.
+    fn check_turn(&self, name: Name) -> Result<(), Refusal>
+        ensures { IsChecked (turn_checks self.now name) result }
     {
         let Some(due) = self.due() else {
-            return Some(Refusal::HandOver);
+            return Err(Refusal::HandOver);
         };
         if due == name {
-            None
+            Ok(())
         } else {
-            Some(Refusal::NotTurn)
+            Err(Refusal::NotTurn)
         }
     }
 
@@ -118,18 +121,15 @@ impl Hand {
     /// NotTurn (21), where another is due, and HandOver (22), where nobody is, that holds. `NoMemory` is want of
     /// memory for an act that is not refused. Either leaves the hand as it was.
     pub fn act(&mut self, name: Name, act: Act) -> Result<Done, ActFault>
-        ensures ok { OnOk result (self.new ≡ hand_after self.old name act false) }
-        ensures lawful { OnOk result (refusal_of_act self.old name ≡ None) }
+        ensures answer { IsAnswer (refusal_of_act self.old name) result }
+        ensures state { OnOk result (self.new ≡ hand_after self.old name act false) }
         ensures done { IfOk result (λ done. done ≡ done_by act) }
-        ensures fault { IfErr result (IsActFault (refusal_of_act self.old name)) }
-        ensures kept { OnErr result (self.new ≡ self.old) }
+        ensures err { OnErr result (self.new ≡ self.old) }
     {
         let Some(seat) = self.start.seat_of_name(name) else {
             return Err(ActFault::No(Refusal::NotDealt));
         };
-        if let Some(refusal) = self.turn_refusal(name) {
-            return Err(ActFault::No(refusal));
-        }
+        self.check_turn(name)?;
         self.acts.push(ActOf {
             name,
             act,
@@ -150,7 +150,7 @@ impl Hand {
         requires won { IsTrue (is_won_by_folds self) }
         ensures start { result.start ≡ self.start }
         ensures acts { result.acts ≡ self.acts }
-        ensures stacks { result.stacks ≡ stacks_after_hand self }
+        ensures complete { IsCompletePlay result }
         ensures kept { sum result.stacks ≡ sum (starting_stacks self) }
     {
         let pot = pot_of(&self.players);
@@ -165,7 +165,8 @@ impl Hand {
 
     /// Gives the start back, as if nothing had been dealt. It takes no memory.
     pub fn void(self) -> HandStart
-        ensures { result ≡ self.start }
+        ensures same { result ≡ self.start }
+        ensures lawful { IsLawfulStart result }
     {
         let Hand { start, .. } = self;
         start

@@ -2,7 +2,7 @@
 
 ghost use Rattle.std.specs.Prelude.{◌≡◌, ◌+◌, ◌<◌, ◌≤◌, ◌^◌, [], if◌then◌else◌, map, sum_by, length, IfOk};
 ghost use Rattle.table_engine.specs.Hands.{posted, on_street, folded, folded_player};
-ghost use Rattle.table_engine.specs.Results.{stack_after};
+ghost use Rattle.table_engine.specs.Results.{stack_after, with_stack, with_stacks};
 
 use crate::start::{HandStart, StartSeat};
 use betting_round::OnStreet;
@@ -103,5 +103,22 @@ pub(crate) fn pay(stacks: &mut [u64], players: &[OnStreet], pot: u64)
 {
     for place in 0..stacks.len() {
         stacks[place] = stack_after(&players[place], pot);
+    }
+}
+
+/// A player with another stack, in chips.
+fn with_stack(player: StartSeat, stack: u64) -> StartSeat
+    ensures { result ≡ with_stack player stack }
+{
+    StartSeat { stack, ..player }
+}
+
+/// Gives each player the stack in his place of the list, in chips.
+pub(crate) fn set_stacks(players: &mut [StartSeat], stacks: &[u64])
+    requires { length stacks.now ≡ length players.old }
+    ensures { players.new ≡ with_stacks players.old stacks.now }
+{
+    for place in 0..players.len() {
+        players[place] = with_stack(players[place], stacks[place]);
     }
 }

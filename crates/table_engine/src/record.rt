@@ -1,9 +1,12 @@
 //! What is kept of a hand, and why an act was not taken.
 
-ghost use Rattle.std.specs.Prelude.{◌≡◌};
-ghost use Rattle.table_engine.specs.declared.record.ActFault.TheVariants.{NoMemory};
+ghost use Rattle.std.specs.Prelude.{◌≡◌, length};
+ghost use Rattle.table_engine.specs.declared.record.ActFault.TheVariants.{No, NoMemory};
+ghost use Rattle.table_engine.specs.Plays.{IsCompletePlay, hand_of};
+ghost use Rattle.table_engine.specs.Results.{with_stacks, players_after};
 
-use crate::start::HandStart;
+use crate::players::set_stacks;
+use crate::start::{HandStart, StartSeat};
 use betting_round::Act;
 use floor_text::{List, Name, Refusal};
 use std::alloc::{AllocError, AllocFailed};
@@ -30,6 +33,20 @@ pub struct HandRecord {
     pub stacks: List<u64>,
 }
 
+impl HandRecord {
+    /// The players of the hand with their stacks after it, in rising seat. It takes no memory.
+    pub fn into_players(self) -> List<StartSeat>
+        requires { length self.stacks ≡ length self.start.seats }
+        ensures same { result ≡ with_stacks self.start.seats self.stacks }
+        ensures after { IsCompletePlay self → result ≡ players_after (hand_of self) }
+    {
+        let HandRecord { start, stacks, .. } = self;
+        let mut players = start.seats.into_vec();
+        set_stacks(&mut players, stacks.items());
+        List::from_vec(players)
+    }
+}
+
 /// Why an act was not taken.
 #[derive(Clone, Copy, Debug, PartialEq, Eq)]
 pub enum ActFault {
@@ -37,6 +54,14 @@ pub enum ActFault {
     No(Refusal),
     /// Memory ran out.
     NoMemory,
+}
+
+impl From<Refusal> for ActFault {
+    ghost from_gives = { λ refusal fault. fault ≡ No refusal };
+
+    fn from(refusal: Refusal) -> ActFault {
+        ActFault::No(refusal)
+    }
 }
 
 impl<T: Drop> From<AllocFailed<T>> for ActFault {

@@ -1,11 +1,12 @@
 //! How a hand starts.
 
-ghost use Rattle.std.specs.Prelude.{◌≡◌};
+ghost use Rattle.std.specs.Prelude.{◌≡◌, IfOk};
 ghost use Rattle.table_engine.specs.Hands.{level, seat_of_name, name_in_seat};
 
 use button_blinds::Marks;
 use card_set::{Deck, Game};
 use floor_text::{List, Name};
+use std::alloc::{AllocError, Global};
 
 /// A player who is dealt in.
 #[derive(Clone, Copy, Debug)]
@@ -46,6 +47,25 @@ pub struct HandStart {
 }
 
 impl HandStart {
+    /// The same start once more. It fails for want of memory alone.
+    pub fn copy(&self, alloc: Global) -> Result<HandStart, AllocError>
+        ensures { IfOk result (λ copy. copy ≡ self.now) }
+    {
+        let seats = Vec::from_slice(alloc, self.seats.items())?;
+        Ok(HandStart {
+            table: self.table,
+            serial: self.serial,
+            seats: List::from_vec(seats),
+            seat_count: self.seat_count,
+            marks: self.marks,
+            small: self.small,
+            big: self.big,
+            unit: self.unit,
+            game: self.game,
+            deck: self.deck,
+        })
+    }
+
     /// The level before the flop, in chips: the big blind, even where it was posted short.
     pub(crate) fn level(&self) -> u64
         ensures { result ≡ level self.now }

@@ -1,0 +1,49 @@
+-- Lawful plays of a start.
+use Rattle.std.proofs.Common.{◌≡◌, ◌∙◌, refl, sym, ap, true, List, [], ◌∷◌, ◌++◌, Some, None, append_assoc, append-nil}
+use Rattle.std.specs.Prelude.{Option, is_none}
+use Rattle.std.proofs.lemmas.Bool.{and_parts, and_from}
+use Rattle.table_engine.specs.declared.start.HandStart.{HandStart}
+use Rattle.table_engine.specs.declared.record.ActOf.{ActOf}
+use Rattle.table_engine.specs.Hands.{HandTerms}
+use Rattle.table_engine.specs.Acts.{refusal_of_act}
+use Rattle.table_engine.specs.Plays.{are_lawful_after, IsLawfulPlay}
+
+-- Nothing is found where it is not so that something is.
+pub nothing : {A : Type 0} (found : Option A) → is_none found ≡ true → found ≡ None
+nothing None none = refl
+nothing (Some x) none = absurd cc
+
+-- After any acts, others are lawful with one more where they are and the one more is refused by no check.
+lawful_after-more : (start : HandStart) (before acts : List ActOf) (act : ActOf) → are_lawful_after start before acts ≡ true → refusal_of_act (record { start = start; acts = before ++ acts }) act.name ≡ None
+    → are_lawful_after start before (acts ++ act ∷ []) ≡ true
+lawful_after-more start before [] act lawful free =
+    let here : refusal_of_act (record { start = start; acts = before }) act.name ≡ None = rw append-nil at free in
+    rw here
+lawful_after-more start before (first ∷ acts) act lawful free =
+    let parts = and_parts (is_none (refusal_of_act (record { start = start; acts = before }) first.name)) (are_lawful_after start (before ++ first ∷ []) acts) lawful in
+    let joined : (before ++ first ∷ []) ++ acts ≡ before ++ first ∷ acts = append_assoc before (first ∷ []) acts in
+    and_from _ _ parts.0 (lawful_after-more start (before ++ first ∷ []) acts act parts.1 (rw joined free))
+
+-- Before any act a hand is a lawful play.
+pub lawful_play-none : (start : HandStart) → IsLawfulPlay (record { start = start; acts = [] })
+lawful_play-none start = record { acts = refl }
+
+-- A lawful play is one with one more act that is refused by no check.
+pub lawful_play-more : (hand : HandTerms) (act : ActOf) → IsLawfulPlay hand → refusal_of_act hand act.name ≡ None → IsLawfulPlay (record hand { acts = hand.acts ++ act ∷ [] })
+lawful_play-more hand act play free = record { acts = lawful_after-more hand.start [] hand.acts act play.acts free }
+
+-- Of acts that are lawful after others, each is refused by no check on all before it.
+lawful_after-each : (start : HandStart) (before front : List ActOf) (act : ActOf) (back : List ActOf) → are_lawful_after start before (front ++ act ∷ back) ≡ true
+    → refusal_of_act (record { start = start; acts = before ++ front }) act.name ≡ None
+lawful_after-each start before [] act back lawful =
+    let parts = and_parts (is_none (refusal_of_act (record { start = start; acts = before }) act.name)) (are_lawful_after start (before ++ act ∷ []) back) lawful in
+    rw append-nil (nothing (refusal_of_act (record { start = start; acts = before }) act.name) parts.0)
+lawful_after-each start before (first ∷ front) act back lawful =
+    let parts = and_parts (is_none (refusal_of_act (record { start = start; acts = before }) first.name)) (are_lawful_after start (before ++ first ∷ []) (front ++ act ∷ back)) lawful in
+    let joined : (before ++ first ∷ []) ++ front ≡ before ++ first ∷ front = append_assoc before (first ∷ []) front in
+    rw joined at (lawful_after-each start (before ++ first ∷ []) front act back parts.1)
+
+-- Each act of a lawful play is refused by no check on those before it.
+pub lawful_play-each : (hand : HandTerms) (front : List ActOf) (act : ActOf) (back : List ActOf) → IsLawfulPlay hand → hand.acts ≡ front ++ act ∷ back
+    → refusal_of_act (record hand { acts = front }) act.name ≡ None
+lawful_play-each hand front act back play is = lawful_after-each hand.start [] front act back (ap (are_lawful_after hand.start []) (sym is) ∙ play.acts)
