@@ -1,2 +1,5 @@
+pub mod Checks
 pub mod OccupiedSeats
+pub mod Pairs
+pub mod Tests
 pub mod Walks
