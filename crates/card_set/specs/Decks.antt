@@ -1,5 +1,5 @@
 -- Decks. This project's own.
-use Rattle.std.specs.Prelude.{◌≡◌, ◌≢◌, ℕ, ◌+◌, ◌/◌, ◌%◌, ◌<◌, Bool, false, ◌==◌, ◌&&◌, ◌||◌, List, [], ◌∷◌, length}
+use Rattle.std.specs.Prelude.{◌≡◌, ◌≢◌, ℕ, ◌+◌, ◌-◌, ◌*◌, ◌/◌, ◌%◌, ◌<◌, Bool, false, ◌==◌, ◌&&◌, ◌||◌, List, [], ◌∷◌, length}
 use Rattle.std.specs.List.{AllPairs, slice_index_or, list_any}
 use Rattle.card_set.specs.declared.card.Card.{Card}
 
@@ -16,6 +16,10 @@ is_same_card one other = one.rank == other.rank && one.suit == other.suit
 abbrev pub repeats_a_card : List Card → Bool
 repeats_a_card [] = false
 repeats_a_card (card ∷ cards) = list_any (is_same_card card) cards || repeats_a_card cards
+
+-- the place of a card in a deck that is in order: by rank from the twos, and of each rank by suit
+abbrev pub index_of : Card → ℕ
+index_of card = (card.rank - 2) * 4 + card.suit
 
 -- in order, the card at each place, counted from 0, has a rank that is 2 more than the place divided by 4, and the remainder is its suit: from the twos to the aces, and of each rank clubs, diamonds, hearts, spades
 abbrev pub IsInOrder : List Card → Type 0

@@ -1,7 +1,7 @@
 //! Decks.
 
 ghost use Rattle.std.specs.Prelude.{◌≡◌, ◌<◌, ◌↔◌, IsSome, IfSome, Some, is_none, slice_get};
-ghost use Rattle.card_set.specs.Decks.{IsDeck, IsInOrder, repeats_a_card};
+ghost use Rattle.card_set.specs.Decks.{IsDeck, IsInOrder, index_of, repeats_a_card};
 
 use crate::card::{Card, CardRow};
 use std::marker::Model;
@@ -26,6 +26,14 @@ impl Model for Deck {
     ghost inverse = { λ cards. record { cards = cards } };
 }
 
+/// The place of a card in a deck that is in order, from 0.
+fn index_of(card: Card) -> usize
+    ensures index { result ≡ index_of card }
+    ensures within { result < 52 }
+{
+    usize::from(card.rank - 2) * 4 + usize::from(card.suit)
+}
+
 impl Deck {
     /// The deck of a row. `None` exactly where a card comes twice.
     pub fn of_row(row: &CardRow) -> Option<Deck>
@@ -33,10 +41,13 @@ impl Deck {
         ensures none { is_none result ≡ repeats_a_card row.now.cards }
         ensures row { IfSome result (λ deck. deck ≡ row.now.cards) }
     {
+        let mut seen = [false; 52];
         for place in 0..52 {
-            if row.cards[..place].contains(&row.cards[place]) {
+            let index = index_of(row.cards[place]);
+            if seen[index] {
                 return None;
             }
+            seen[index] = true;
         }
         Some(Deck { cards: row.cards })
     }

@@ -1,0 +1,11 @@
+pub mod Passing
+pub mod PlaceOrder
+pub mod Standing
+pub mod Splits
+pub mod Numbers
+pub mod Slots
+pub mod Rows
+pub mod Keeping
+pub mod Calls
+pub mod TakenSeats
+pub mod TableCounts

@@ -1,0 +1,106 @@
+-- Lists all of whose elements pass a test.
+use Rattle.std.proofs.Common.{◌≡◌, ◌∙◌, refl, sym, ap, ℕ, ◌+◌, Bool, true, false, cond, List, [], ◌∷◌, map, length, None, Some, arith}
+use Rattle.std.specs.Prelude.{not, count_by, filter, find}
+use Rattle.std.specs.List.{list_all}
+use Rattle.std.proofs.lemmas.Bool.{and_parts, and_from, cond-true, cond-false, not-true}
+use Rattle.std.proofs.lemmas.List.Sums.{sum_by-cons}
+
+-- what passes one test passes another
+pub list_all-implied : {A : Type 0} (test other : A → Bool) (xs : List A) → ((x : A) → test x ≡ true → other x ≡ true)
+    → list_all test xs ≡ true → list_all other xs ≡ true
+list_all-implied test other [] implies all = refl
+list_all-implied test other (x ∷ xs) implies all =
+    let parts = and_parts (test x) (list_all test xs) all in
+    and_from (other x) (list_all other xs) (implies x parts.0) (list_all-implied test other xs implies parts.1)
+
+-- the first of a list counts for one, or for none
+pub count_by-cons : {A : Type 0} (test : A → Bool) (x : A) (xs : List A)
+    → count_by test (x ∷ xs) ≡ cond (test x) 1 0 + count_by test xs
+count_by-cons test x xs = sum_by-cons (λ x. cond (test x) 1 0) x xs
+
+-- where all pass, all count
+pub count_by-all : {A : Type 0} (test : A → Bool) (xs : List A) → list_all test xs ≡ true → count_by test xs ≡ length xs
+count_by-all test [] all = refl
+count_by-all test (x ∷ xs) all =
+    let parts = and_parts (test x) (list_all test xs) all in
+    let one = count_by-cons test x xs in
+    let here = cond-true {A = ℕ} (test x) 1 0 parts.0 in
+    omega (arith, one, here, count_by-all test xs parts.1)
+
+-- where none passes, none counts
+pub count_by-none : {A : Type 0} (test : A → Bool) (xs : List A) → list_all (λ x. not (test x)) xs ≡ true
+    → count_by test xs ≡ 0
+count_by-none test [] none = refl
+count_by-none test (x ∷ xs) none =
+    let parts = and_parts (not (test x)) (list_all (λ x. not (test x)) xs) none in
+    let one = count_by-cons test x xs in
+    let here = cond-false {A = ℕ} (test x) 1 0 (not-true (test x) parts.0) in
+    omega (arith, one, here, count_by-none test xs parts.1)
+
+-- where none passes, none is found
+pub find-none : {A : Type 0} (test : A → Bool) (xs : List A) → list_all (λ x. not (test x)) xs ≡ true
+    → find test xs ≡ None
+find-none test [] none = refl
+find-none test (x ∷ xs) none =
+    let parts = and_parts (not (test x)) (list_all (λ x. not (test x)) xs) none in
+    rw (not-true (test x) parts.0) (find-none test xs parts.1)
+
+-- where none is found, none passes
+pub none-find : {A : Type 0} (test : A → Bool) (xs : List A) → find test xs ≡ None
+    → list_all (λ x. not (test x)) xs ≡ true
+none-find test [] none = refl
+none-find test (x ∷ xs) none = by_test (test x) refl (none-find test xs)
+  where
+    by_test : (b : Bool) → test x ≡ b → (find test xs ≡ None → list_all (λ x. not (test x)) xs ≡ true)
+        → list_all (λ x. not (test x)) (x ∷ xs) ≡ true
+    by_test true is others = let found : Some x ≡ None = rw is at none in absurd cc
+    by_test false is others = and_from (not (test x)) (list_all (λ x. not (test x)) xs) (ap not is)
+        (others (rw is at none))
+
+-- where all pass, the filter leaves all
+pub filter-all : {A : Type 0} (test : A → Bool) (xs : List A) → list_all test xs ≡ true → filter test xs ≡ xs
+filter-all test [] all = refl
+filter-all test (x ∷ xs) all =
+    let parts = and_parts (test x) (list_all test xs) all in
+    rw parts.0 (ap (λ rest. x ∷ rest) (filter-all test xs parts.1))
+
+-- where none passes, the filter leaves none
+pub filter-none : {A : Type 0} (test : A → Bool) (xs : List A) → list_all (λ x. not (test x)) xs ≡ true
+    → filter test xs ≡ []
+filter-none test [] none = refl
+filter-none test (x ∷ xs) none =
+    let parts = and_parts (not (test x)) (list_all (λ x. not (test x)) xs) none in
+    rw (not-true (test x) parts.0) (filter-none test xs parts.1)
+
+-- where each element that passes stays, the list stays
+pub map-fixed : {A : Type 0} (test : A → Bool) (change : A → A) (xs : List A)
+    → ((x : A) → test x ≡ true → change x ≡ x) → list_all test xs ≡ true → map change xs ≡ xs
+map-fixed test change [] fixed all = refl
+map-fixed test change (x ∷ xs) fixed all =
+    let parts = and_parts (test x) (list_all test xs) all in
+    rw (fixed x parts.0) (ap (λ rest. x ∷ rest) (map-fixed test change xs fixed parts.1))
+
+-- what is found passes each test that all pass
+pub found-all : {A : Type 0} (test other : A → Bool) (xs : List A) (found : A) → list_all other xs ≡ true
+    → find test xs ≡ Some found → other found ≡ true
+found-all test other [] found all is = absurd cc
+found-all test other (x ∷ xs) found all is =
+    let parts = and_parts (other x) (list_all other xs) all in
+    by_test (test x) refl parts.0 (found-all test other xs found parts.1)
+  where
+    by_test : (b : Bool) → test x ≡ b → other x ≡ true → (find test xs ≡ Some found → other found ≡ true)
+        → other found ≡ true
+    by_test true passes first others = let here : Some x ≡ Some found = rw passes at is in let same : x ≡ found =
+        cc in ap other (sym same) ∙ first
+    by_test false passes first others = others (rw passes at is)
+
+-- what is found passes the test
+pub found-passes : {A : Type 0} (test : A → Bool) (xs : List A) (found : A) → find test xs ≡ Some found
+    → test found ≡ true
+found-passes test [] found is = absurd cc
+found-passes test (x ∷ xs) found is = by_test (test x) refl (found-passes test xs found)
+  where
+    by_test : (b : Bool) → test x ≡ b → (find test xs ≡ Some found → test found ≡ true) → test found ≡ true
+    by_test true passes others = let here : Some x ≡ Some found = rw passes at is in let same : x ≡ found = cc in ap
+        test (sym same) ∙ passes
+    by_test false passes others = others (rw passes at is)

@@ -1,0 +1,251 @@
+-- A table's count is the number of its taken seats, since no two players sit in one seat.
+use Rattle.std.proofs.Common.{◌≡◌, ◌∙◌, refl, sym, ap, ℕ, zero, suc, ◌+◌, ◌<◌, ◌≤◌, Bool, true, false, cond, ◌==◌, ◌&&◌, List, [], ◌∷◌, ◌++◌, map, length, take, get_or, Option, None, Some, inl, inr, arith}
+use Rattle.std.specs.Prelude.{not, nat_lt, nat_le, filter, slice_index_or}
+use Rattle.std.specs.List.{list_all, cons_option}
+use Rattle.std.proofs.lemmas.Bool.{and_from, and_parts, cases_Bool}
+use Rattle.std.proofs.lemmas.Bool.Decides.{nat_tests}
+use Rattle.std.proofs.lemmas.List.{get_or_read, length-set, length-map, take_more, map-append, append-nil}
+use Rattle.std.proofs.lemmas.List.Elements.{filter_map-append}
+use Rattle.std.proofs.lemmas.List.Sums.{sum_by-set, length-filter}
+use Rattle.button_blinds.specs.SeatSets.{no_seats, has_seat, with_seat, with_seats, seat_count}
+use Rattle.button_blinds.proofs.SeatSetLaws.{has_seat-with_seat, no_seats-none}
+use Rattle.seat_book.specs.declared.seated.Seated.{Seated}
+use Rattle.seat_book.specs.Places.{comes_before, IsPlaceOf}
+use Rattle.seat_book.specs.Players.{players_in, sits_at, players_at, taken_seats, places_of, are_in_order}
+use Rattle.seat_book.specs.Counts.{count_at}
+use Rattle.seat_book.specs.Seatings.{Seating, sits_within, IsSeating}
+use Rattle.seat_book.proofs.Slots.{IsPlaceOf-test}
+
+-- each number of a list is below every later one
+abbrev pub are_higher : List ℕ → Bool
+are_higher [] = true
+are_higher (number ∷ numbers) = list_all (nat_lt number) numbers && are_higher numbers
+
+-- a seat that may still be put into a set
+abbrev may_come : List Bool → ℕ → Bool
+may_come set seat = (nat_le 1 seat && nat_le seat 10) && not (has_seat set seat)
+
+one_more : (set : List Bool) (seat : ℕ) → length set ≡ 10 → may_come set seat ≡ true
+    → seat_count (with_seat set seat) ≡ seat_count set + 1
+one_more set zero size comes = cc
+one_more set (suc below) size comes =
+    let parts = and_parts (nat_le 1 (suc below) && nat_le (suc below) 10) (not (has_seat set (suc below))) comes in
+    let within : below < length set = omega (arith, size, at_most below parts.0) in
+    let free : slice_index_or set below false ≡ false = is_not (has_seat set (suc below)) parts.1 in
+    let counted = sum_by-set (λ is_in. cond is_in 1 0) set below true false within in
+    let none = ap (λ (b : Bool). cond {A = ℕ} b 1 0) free in
+    omega (arith, counted, none)
+  where
+    at_most : (below : ℕ) → (nat_le 1 (suc below) && nat_le (suc below) 10) ≡ true → below < 10
+    at_most below between = grind (arith, nat_tests)
+
+    is_not : (b : Bool) → not b ≡ true → b ≡ false
+    is_not true failed = cc
+    is_not false failed = refl
+
+same_size : (set : List Bool) (seat : ℕ) → length (with_seat set seat) ≡ length set
+same_size set zero = refl
+same_size set (suc below) = length-set set below true
+
+still_comes : (set : List Bool) (seat other : ℕ) → nat_lt seat other ≡ true → may_come set other ≡ true
+    → may_come (with_seat set seat) other ≡ true
+still_comes set seat other higher comes =
+    let parts = and_parts (nat_le 1 other && nat_le other 10) (not (has_seat set other)) comes in
+    elim (cases_Bool (has_seat (with_seat set seat) other)) [
+      | inl there ↦ elim (has_seat-with_seat set seat other there) [
+        | inl same ↦ absurd (not_itself seat other higher same)
+        | inr was ↦ absurd (not_both (has_seat set other) was parts.1)
+      ]
+      | inr free ↦ rw (parts.0, free) refl
+    ]
+  where
+    not_itself : (seat other : ℕ) → nat_lt seat other ≡ true → other ≡ seat → ⊥
+    not_itself seat other higher same = grind (arith, nat_tests)
+
+    not_both : (b : Bool) → b ≡ true → not b ≡ true → ⊥
+    not_both true one failed = cc
+    not_both false one failed = cc
+
+all_still_come : (set : List Bool) (seat : ℕ) (seats : List ℕ) → list_all (nat_lt seat) seats ≡ true
+    → list_all (may_come set) seats ≡ true → list_all (may_come (with_seat set seat)) seats ≡ true
+all_still_come set seat [] higher comes = refl
+all_still_come set seat (other ∷ seats) higher comes =
+    let above = and_parts (nat_lt seat other) (list_all (nat_lt seat) seats) higher in
+    let parts = and_parts (may_come set other) (list_all (may_come set) seats) comes in
+    and_from (may_come (with_seat set seat) other) (list_all (may_come (with_seat set seat)) seats)
+    (still_comes set seat other above.0 parts.0) (all_still_come set seat seats above.1 parts.1)
+
+count_with : (set : List Bool) (seats : List ℕ) → length set ≡ 10 → are_higher seats ≡ true
+    → list_all (may_come set) seats ≡ true → seat_count (with_seats set seats) ≡ seat_count set + length seats
+count_with set [] size higher comes = omega arith
+count_with set (seat ∷ seats) size higher comes =
+    let above = and_parts (list_all (nat_lt seat) seats) (are_higher seats) higher in
+    let parts = and_parts (may_come set seat) (list_all (may_come set) seats) comes in
+    let one = one_more set seat size parts.0 in
+    let others = count_with (with_seat set seat) seats (same_size set seat ∙ size) above.1
+    (all_still_come set seat seats above.0 parts.1) in
+    omega (arith, one, others)
+
+-- the seats of those who sit at a table
+abbrev pub seats_at : ℕ → List Seated → List ℕ
+seats_at table players = map (λ seated. seated.place.seat) (players_at players table)
+
+later_seat : (a b x y table : ℕ) → comes_before (record { table = a; seat = b })
+    (record { table = x; seat = y }) ≡ true → (a == table) ≡ true → (x == table) ≡ true → nat_lt b y ≡ true
+later_seat a b x y table before here there = grind (arith, nat_tests)
+
+higher_step : (table seat : ℕ) (seated : Seated) (players : List Seated) (b : Bool)
+    → (b ≡ true → nat_lt seat seated.place.seat ≡ true) → list_all (nat_lt seat) (seats_at table players) ≡ true
+    → list_all (nat_lt seat) (map (λ seated. seated.place.seat)
+    (cond b (seated ∷ filter (sits_at table) players) (filter (sits_at table) players))) ≡ true
+higher_step table seat seated players true here others = and_from (nat_lt seat seated.place.seat)
+    (list_all (nat_lt seat) (seats_at table players)) (here refl) others
+higher_step table seat seated players false here others = others
+
+-- who sits later at a table sits in a higher seat
+all_higher : (table : ℕ) (seated : Seated) (players : List Seated) → sits_at table seated ≡ true
+    → list_all (comes_before seated.place) (places_of players) ≡ true
+    → list_all (nat_lt seated.place.seat) (seats_at table players) ≡ true
+all_higher table seated [] sits before = refl
+all_higher table seated (other ∷ players) sits before =
+    let parts = and_parts (comes_before seated.place other.place)
+    (list_all (comes_before seated.place) (places_of players)) before in
+    higher_step table seated.place.seat other players (sits_at table other)
+    (λ there. later_seat seated.place.table seated.place.seat other.place.table other.place.seat table parts.0 sits
+    there)
+    (all_higher table seated players sits parts.1)
+
+rising_step : (table : ℕ) (seated : Seated) (players : List Seated) (b : Bool) → sits_at table seated ≡ b
+    → list_all (comes_before seated.place) (places_of players) ≡ true → are_higher (seats_at table players) ≡ true
+    → are_higher (map (λ seated. seated.place.seat) (cond b (seated ∷ filter (sits_at table) players)
+    (filter (sits_at table) players))) ≡ true
+rising_step table seated players true sits before others = and_from
+    (list_all (nat_lt seated.place.seat) (seats_at table players)) (are_higher (seats_at table players))
+    (all_higher table seated players sits before) others
+rising_step table seated players false sits before others = others
+
+-- the players of a table are listed in rising seat
+pub seats_rise : (table : ℕ) (players : List Seated) → are_in_order players ≡ true
+    → are_higher (seats_at table players) ≡ true
+seats_rise table [] ordered = refl
+seats_rise table (seated ∷ players) ordered =
+    let parts = and_parts (list_all (comes_before seated.place) (places_of players)) (are_in_order players) ordered in
+    rising_step table seated players (sits_at table seated) refl parts.0 (seats_rise table players parts.1)
+
+comes_from : (tables seats : ℕ) (seated : Seated) → seats ≤ 10 → sits_within tables seats seated ≡ true
+    → may_come no_seats seated.place.seat ≡ true
+comes_from tables seats seated most within =
+    let at = IsPlaceOf-test tables seats seated.place within in
+    let none = no_seats-none seated.place.seat in
+    and_from (nat_le 1 seated.place.seat && nat_le seated.place.seat 10) (not (has_seat no_seats seated.place.seat))
+    (between seated.place.seat seats at.first at.last most) (ap not none)
+  where
+    between : (seat seats : ℕ) → 1 ≤ seat → seat ≤ seats → seats ≤ 10 → (nat_le 1 seat && nat_le seat 10) ≡ true
+    between seat seats first last most = grind (arith, nat_tests)
+
+come_step : (table : ℕ) (seated : Seated) (players : List Seated) (b : Bool)
+    → may_come no_seats seated.place.seat ≡ true → list_all (may_come no_seats) (seats_at table players) ≡ true
+    → list_all (may_come no_seats) (map (λ seated. seated.place.seat)
+    (cond b (seated ∷ filter (sits_at table) players) (filter (sits_at table) players))) ≡ true
+come_step table seated players true here others = and_from (may_come no_seats seated.place.seat)
+    (list_all (may_come no_seats) (seats_at table players)) here others
+come_step table seated players false here others = others
+
+seats_come : (tables seats table : ℕ) (players : List Seated) → seats ≤ 10
+    → list_all (sits_within tables seats) players ≡ true → list_all (may_come no_seats) (seats_at table players) ≡ true
+seats_come tables seats table [] most within = refl
+seats_come tables seats table (seated ∷ players) most within =
+    let parts = and_parts (sits_within tables seats seated) (list_all (sits_within tables seats) players) within in
+    come_step table seated players (sits_at table seated) (comes_from tables seats seated most parts.0)
+    (seats_come tables seats table players most parts.1)
+
+-- as many seats of a table are taken as players sit there
+pub taken_count : (seating : Seating) (table : ℕ) → IsSeating seating
+    → seat_count (taken_seats seating.players table) ≡ count_at seating.players table
+taken_count seating table lawful =
+    let counted = count_with no_seats (seats_at table seating.players) refl
+    (seats_rise table seating.players lawful.ordered) (seats_come seating.table_count seating.seat_count table
+    seating.players lawful.most_seats lawful.within) in
+    let size = length-map (players_at seating.players table) (λ (seated : Seated). seated.place.seat) in
+    let number = length-filter (sits_at table) seating.players in
+    omega (arith, counted, size, number)
+
+-- what holds of all players in slots holds of the one in a slot
+pub list_all-slot : (test : Seated → Bool) (slots : List (Option Seated)) (slot : ℕ) (seated : Seated)
+    → list_all test (players_in slots) ≡ true → get_or slots slot None ≡ Some seated → test seated ≡ true
+list_all-slot test [] slot seated all is = absurd cc
+list_all-slot test (None ∷ slots) zero seated all is = absurd cc
+list_all-slot test (None ∷ slots) (suc slot) seated all is = list_all-slot test slots slot seated all is
+list_all-slot test (Some first ∷ slots) zero seated all is =
+    let same : first ≡ seated = cc in
+    let parts = and_parts (test first) (list_all test (players_in slots)) all in
+    ap test (sym same) ∙ parts.0
+list_all-slot test (Some first ∷ slots) (suc slot) seated all is = list_all-slot test slots slot seated
+    (and_parts (test first) (list_all test (players_in slots)) all).1 is
+
+-- what holds of all players holds of those at a table
+list_all-at : (test : Seated → Bool) (table : ℕ) (players : List Seated) → list_all test players ≡ true
+    → list_all test (players_at players table) ≡ true
+list_all-at test table [] all = refl
+list_all-at test table (seated ∷ players) all =
+    let parts = and_parts (test seated) (list_all test players) all in
+    with_first (sits_at table seated) parts.0 (list_all-at test table players parts.1)
+  where
+    with_first : (b : Bool) → test seated ≡ true → list_all test (filter (sits_at table) players) ≡ true
+        → list_all test (cond b (seated ∷ filter (sits_at table) players) (filter (sits_at table) players)) ≡ true
+    with_first true here others = and_from (test seated) (list_all test (filter (sits_at table) players)) here others
+    with_first false here others = others
+
+-- who is in a slot of a table sits in a place that the tables have
+pub slot-place : (seating : Seating) (table slot : ℕ) (slots : List (Option Seated)) (read : Option Seated)
+    (seated : Seated) → IsSeating seating → players_in slots ≡ players_at seating.players table
+    → read ≡ get_or slots slot read → slot < length slots → read ≡ Some seated
+    → IsPlaceOf seating.table_count seating.seat_count seated.place
+slot-place seating table slot slots read seated lawful players is within some =
+    let here = sym (get_or_read slots slot read within is None) ∙ some in
+    let all = ap (list_all (sits_within seating.table_count seating.seat_count)) players
+    ∙ list_all-at (sits_within seating.table_count seating.seat_count) table seating.players lawful.within in
+    IsPlaceOf-test seating.table_count seating.seat_count seated.place
+    (list_all-slot (sits_within seating.table_count seating.seat_count) slots slot seated all here)
+
+-- the seats of the players in slots
+abbrev pub seats_in : List (Option Seated) → List Bool
+seats_in slots = with_seats no_seats (map (λ seated. seated.place.seat) (players_in slots))
+
+with_seats-push : (set : List Bool) (seats : List ℕ) (seat : ℕ)
+    → with_seats set (seats ++ seat ∷ []) ≡ with_seat (with_seats set seats) seat
+with_seats-push set [] seat = refl
+with_seats-push set (first ∷ seats) seat = with_seats-push (with_seat set first) seats seat
+
+more : (slot : ℕ) (slots : List (Option Seated)) (read : Option Seated) → slot < length slots
+    → read ≡ get_or slots slot read → players_in (take (slot + 1) slots) ≡ players_in (take slot slots) ++ cons_option
+    read []
+more slot slots read within is =
+    ap players_in (take_more slots slot None within ∙ ap (λ (one : Option Seated). take slot slots ++ one ∷ [])
+    (sym (get_or_read slots slot read within is None)))
+    ∙ filter_map-append (λ slot. slot) (take slot slots) (read ∷ [])
+
+-- one more slot with a player
+pub seats_in-more : (slot : ℕ) (slots : List (Option Seated)) (read : Option Seated) (seated : Seated)
+    → slot < length slots → read ≡ get_or slots slot read → read ≡ Some seated
+    → seats_in (take (slot + 1) slots) ≡ with_seat (seats_in (take slot slots)) seated.place.seat
+seats_in-more slot slots read seated within is some =
+    let players : players_in (take (slot + 1) slots) ≡ players_in (take slot slots) ++ seated ∷ [] = more slot slots
+    read within is ∙ ap (λ (one : Option Seated). players_in (take slot slots) ++ cons_option one []) some in
+    ap (λ players. with_seats no_seats (map (λ seated. seated.place.seat) players)) players
+    ∙ (ap (with_seats no_seats) (map-append (λ (seated : Seated). seated.place.seat) (players_in (take slot slots))
+    (seated ∷ []))
+    ∙ with_seats-push no_seats (map (λ seated. seated.place.seat) (players_in (take slot slots))) seated.place.seat)
+
+-- one more slot that is empty
+pub seats_in-empty : (slot : ℕ) (slots : List (Option Seated)) (read : Option Seated) → slot < length slots
+    → read ≡ get_or slots slot read → read ≡ None → seats_in (take (slot + 1) slots) ≡ seats_in (take slot slots)
+seats_in-empty slot slots read within is none =
+    ap (λ players. with_seats no_seats (map (λ seated. seated.place.seat) players))
+    (more slot slots read within is ∙ (ap (λ (one : Option Seated). players_in (take slot slots) ++ cons_option one
+    []) none ∙ append-nil (players_in (take slot slots))))
+
+-- a slot with no player is empty
+pub none-there : (slot : Option Seated) → ((seated : Seated) → slot ≡ Some seated → ⊥) → slot ≡ None
+none-there None none = refl
+none-there (Some seated) none = absurd (none seated refl)
