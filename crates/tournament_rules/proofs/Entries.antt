@@ -1,0 +1,309 @@
+-- A book is valid before any entry, and after each.
+use Rattle.std.proofs.Common.{◌≡◌, ◌∙◌, refl, sym, ap, subst, ℕ, zero, suc, ◌+◌, ◌%◌, ◌<◌, ◌≤◌, ◌⊎◌, inl, inr, Bool, true, false, cond, ◌==◌, ◌&&◌, eq-eqb, List, [], ◌∷◌, ◌++◌, map, length, get_or, arith, length-append}
+use Rattle.std.specs.Prelude.{not, nat_lt, count_by, sum_by, replicate, slice_get, Some, None, is_some}
+use Rattle.std.specs.List.{list_all, All}
+use Rattle.std.specs.Str.{bytes_eq}
+use Rattle.std.proofs.lemmas.Bool.{and_parts, and_from, or_parts, cases_lt, eqb-true}
+use Rattle.std.proofs.lemmas.Bool.Decides.{nat_tests}
+use Rattle.std.proofs.lemmas.List.{get_or-replicate, get_or_past, length-replicate}
+use Rattle.std.proofs.lemmas.List.Folds.{sum_by-replicate}
+use Rattle.std.proofs.lemmas.List.Sums.{sum_by-insert, list_all-from_AllPass}
+use Rattle.std.proofs.lemmas.Option.{same_Some}
+use Rattle.std.proofs.lemmas.Slice.Eq.{bytes_eq-Decides}
+use Rattle.std.proofs.lemmas.List.Elements.{All-nil, All-weaker}
+use Rattle.rulebook.specs.Pairs.{is_pairwise, are_distinct}
+use Rattle.level_plan.specs.Items.{is_between, greatest_amount, are_levels}
+use Rattle.level_plan.specs.Plans.{PlanTerms, is_right, unit_of_level}
+use Rattle.entry_list.specs.Entries.{is_known}
+use Rattle.floor_events.specs.declared.event.Event.TheVariants.{Enter}
+use Rattle.level_plan.proofs.Levels.{unit_of_level_above}
+use Rattle.seat_book.specs.declared.seated.Seated.{Seated}
+use Rattle.seat_book.specs.declared.table_status.TableStatus.{TableStatus}
+use Rattle.seat_book.specs.Places.{comes_before}
+use Rattle.seat_book.specs.Players.{is_numbered, sit_down}
+use Rattle.seat_book.specs.Tables.{status_at, fresh_status, IsStatusOf}
+use Rattle.tournament_rules.specs.Books.{BookState, start_at, players_out}
+use Rattle.tournament_rules.specs.Checks.{book_refusal}
+use Rattle.tournament_rules.specs.Players.{start_seat}
+use Rattle.tournament_rules.specs.Effects.{first_book, first_status, newcomer, entered}
+use Rattle.tournament_rules.specs.Valid.{IsValid, AreEntered, seats_owed, without_stack, is_lent}
+use Rattle.tournament_rules.proofs.Fitting.{table_range}
+use Rattle.tournament_rules.proofs.Insertions.{list_all-insert, All-insert, filter-insert_no, is_pairwise-map, is_pairwise-insert}
+use Rattle.tournament_rules.proofs.SitDown.{seating-sit_down, none_numbered}
+use Rattle.tournament_rules.proofs.Passed.{entry_passed}
+use Rattle.tournament_rules.proofs.Units.{whole_earlier}
+
+-- What a right plan has.
+pub record IsRight (plan : PlanTerms) : Type 0 where
+  pub some_tables : 1 ≤ plan.tables
+  pub most_tables : plan.tables ≤ 64
+  pub some_seats : 2 ≤ plan.seats
+  pub most_seats : plan.seats ≤ 10
+  pub some_stack : 1 ≤ plan.stack
+  pub most_stack : plan.stack ≤ 1000000000
+  pub some_late : 1 ≤ plan.late
+  pub most_late : plan.late ≤ length plan.blinds
+  pub levels : are_levels plan.blinds ≡ true
+  pub whole : plan.stack % unit_of_level plan.blinds plan.late ≡ 0
+
+-- A right plan has all that.
+pub right_has : (plan : PlanTerms) → is_right plan ≡ true → IsRight plan
+right_has plan right =
+    let one = and_parts _ _ right in
+    let two = and_parts _ _ one.1 in
+    let three = and_parts _ _ two.1 in
+    let four = and_parts _ _ three.1 in
+    let five = and_parts _ _ four.1 in
+    let six = and_parts _ _ five.1 in
+    let seven = and_parts _ _ six.1 in
+    let eight = and_parts _ _ seven.1 in
+    let tables = table_range 1 64 plan.tables one.0 in
+    let seats = table_range 2 10 plan.seats two.0 in
+    let stack = table_range 1 greatest_amount plan.stack three.0 in
+    let late = table_range 1 (length plan.blinds) plan.late five.0 in
+    record {
+      some_tables = tables.0;
+      most_tables = tables.1;
+      some_seats = seats.0;
+      most_seats = seats.1;
+      some_stack = stack.0;
+      most_stack = stack.1;
+      some_late = late.0;
+      most_late = late.1;
+      levels = seven.0;
+      whole = eqb-true (plan.stack % unit_of_level plan.blinds plan.late) 0 eight.1;
+    }
+
+-- What is so of a fresh table and of one that stands so, is so of each of many that do.
+status_of_many : (P : TableStatus → Type 0) (status : TableStatus) → P fresh_status → P status → (count table : ℕ)
+    → P (status_at (replicate count status) table)
+status_of_many P status fresh one count zero = fresh
+status_of_many P status fresh one count (suc below) = by_place (cases_lt below count)
+  where
+    by_place : (below < count) ⊎ (count ≤ below) → P (status_at (replicate count status) (suc below))
+    by_place (inl within) = rw (get_or-replicate count below status fresh_status within) one
+    by_place (inr past) = rw (get_or_past (replicate count status) below fresh_status (rw length-replicate past)) fresh
+
+unit_of_many : (status : TableStatus) (count table : ℕ) → is_between 1 count table ≡ true
+    → (status_at (replicate count status) table).unit ≡ status.unit
+unit_of_many status count zero there = absurd (let none = table_range 1 count 0 there in omega arith)
+unit_of_many status count (suc below) there =
+    let range = table_range 1 count (suc below) there in
+    ap (λ (status : TableStatus). status.unit) (get_or-replicate count below status fresh_status (omega arith))
+
+-- No hand is out where none is.
+pub start_none : (count table : ℕ) → start_at (replicate count None) table ≡ None
+start_none count table = by_place (cases_lt table count)
+  where
+    by_place : (table < count) ⊎ (count ≤ table) → start_at (replicate count None) table ≡ None
+    by_place (inl within) = get_or-replicate count table None None within
+    by_place (inr past) = get_or_past (replicate count None) table None (rw length-replicate past)
+
+-- A book is valid before any entry.
+pub valid_first : (plan : PlanTerms) → is_right plan ≡ true → IsValid (first_book plan)
+valid_first plan right =
+    let has = right_has plan right in
+    let nobody = start_none (plan.tables + 1) in
+    record {
+      plan = record { right = right; first = omega arith; last = omega arith };
+      entries = record {
+        few = omega arith;
+        seated = λ number. none_owed number;
+        named = All-nil _;
+        apart = refl;
+      };
+      tables = record {
+        lawful = record {
+          some_tables = has.some_tables;
+          most_tables = has.most_tables;
+          some_seats = has.some_seats;
+          most_seats = has.most_seats;
+          tables = length-replicate plan.tables (first_status plan);
+          statuses = status_of_many (IsStatusOf plan.seats) (first_status plan) (fresh 1 (omega arith))
+              (fresh (unit_of_level plan.blinds 1) (unit_of_level_above plan.blinds 1 has.levels)) plan.tables;
+          within = refl;
+          ordered = refl;
+          entries = refl;
+          apart = refl;
+        };
+        tables = refl;
+        seats = refl;
+        room = length-replicate (plan.tables + 1) None;
+        nobody = nobody 0;
+        playing = λ table. status_of_many (λ status. status.playing ≡ false)
+            (first_status plan) refl refl plan.tables table ∙ sym (ap is_some (nobody table));
+      };
+      hands = record {
+        starts = λ table start is. let none = nobody table in absurd cc;
+        lent = λ table. sym (ap (λ found. map without_stack (players_out found)) (nobody table));
+      };
+      chips = record {
+        kept = omega (arith, none_out (plan.tables + 1));
+        whole = refl;
+        units = λ table there. unit_of_many (first_status plan) plan.tables table there;
+      };
+      counted = omega arith;
+    }
+  where
+    fresh : (unit : ℕ) → 1 ≤ unit → IsStatusOf plan.seats (record fresh_status { unit = unit })
+    fresh unit some = record { marks = λ marks is. absurd cc; unit = some; race = λ race is. absurd cc }
+
+    none_owed : (number : ℕ) → 0 ≡ seats_owed [] number
+    none_owed number = grind (arith, nat_tests)
+
+    none_out : (count : ℕ)
+        → sum_by (λ start. sum_by (λ player. player.stack) (players_out start)) (replicate count None) ≡ 0
+    none_out count = rw (sum_by-replicate (λ start. sum_by (λ player. player.stack) (players_out start))) (omega arith)
+
+-- An entry keeps its number when another follows.
+slice_get-more : {A : Type 0} (items : List A) (i : ℕ) (item new : A) → slice_get items i ≡ Some item
+    → slice_get (items ++ new ∷ []) i ≡ Some item
+slice_get-more [] i item new is = cc
+slice_get-more (first ∷ items) zero item new is = is
+slice_get-more (first ∷ items) (suc i) item new is = slice_get-more items i item new is
+
+slice_get-new : {A : Type 0} (items : List A) (new : A) → slice_get (items ++ new ∷ []) (length items) ≡ Some new
+slice_get-new [] new = refl
+slice_get-new (first ∷ items) new = slice_get-new items new
+
+-- A name that is not known differs from each that is.
+unknown_differs : (entries : List (List ℕ)) (name : List ℕ) (i : ℕ) (other : List ℕ) → is_known entries name ≡ false
+    → slice_get entries i ≡ Some other → bytes_eq name other ≡ false
+unknown_differs [] name i other unknown is = cc
+unknown_differs (first ∷ entries) name zero other unknown is =
+    subst (λ (other : List ℕ). bytes_eq name other ≡ false) (same_Some first other is)
+    (or_parts (bytes_eq name first) (is_known entries name) unknown).0
+unknown_differs (first ∷ entries) name (suc i) other unknown is =
+    unknown_differs entries name i other (or_parts (bytes_eq name first) (is_known entries name) unknown).1 is
+
+other_way : (name other : List ℕ) → bytes_eq name other ≡ false → bytes_eq other name ≡ false
+other_way name other differ = by_test (bytes_eq other name) refl
+  where
+    by_test : (b : Bool) → bytes_eq other name ≡ b → b ≡ false
+    by_test true same =
+        let back : bytes_eq name other ≡ true = (bytes_eq-Decides name other).1
+        (sym ((bytes_eq-Decides other name).0 same)) in
+        absurd cc
+    by_test false apart = refl
+
+-- The player of a new entry has a seat, and the others have theirs.
+owed_more : (count number : ℕ)
+    → cond (nat_lt number count) 1 0 + cond (count == number) 1 0 ≡ cond {A = ℕ} (nat_lt number (count + 1)) 1 0
+owed_more count number = grind (arith, nat_tests)
+
+nobody_yet : (count : ℕ) → cond {A = ℕ} (nat_lt count count) 1 0 ≡ 0
+nobody_yet count = grind (arith, nat_tests)
+
+-- the name of a player in the entry list is his
+abbrev IsNamed : List (List ℕ) → Seated → Type 0
+IsNamed entries player = slice_get entries player.player ≡ Some player.name
+
+-- The names of players who entered differ from a new one.
+names_differ : (entries : List (List ℕ)) (name : List ℕ) (players : List Seated) → is_known entries name ≡ false
+    → All (IsNamed entries) players
+    → (list_all (λ other. not (bytes_eq other.name name)) players ≡ true)
+    × (list_all (λ other. not (bytes_eq name other.name)) players ≡ true)
+names_differ entries name players unknown named = (
+  list_all-from_AllPass (λ other. not (bytes_eq other.name name)) players
+      (λ k d within. back (get_or players k d) (named k d within)),
+  list_all-from_AllPass (λ other. not (bytes_eq name other.name)) players
+      (λ k d within. ap not (differ (get_or players k d) (named k d within))),
+)
+  where
+    differ : (player : Seated) → IsNamed entries player → bytes_eq name player.name ≡ false
+    differ player is = unknown_differs entries name player.player player.name unknown is
+
+    back : (player : Seated) → IsNamed entries player → not (bytes_eq player.name name) ≡ true
+    back player is = ap not
+        (other_way name player.name (unknown_differs entries name player.player player.name unknown is))
+
+-- No two players have one name once one with a new name sits down.
+names-sit_down : (entries : List (List ℕ)) (players : List Seated) (new : Seated) → is_known entries new.name ≡ false
+    → All (IsNamed entries) players → are_distinct bytes_eq (map (λ player. player.name) players) ≡ true
+    → are_distinct bytes_eq (map (λ player. player.name) (sit_down new players)) ≡ true
+names-sit_down entries players new unknown named apart =
+    let differ = names_differ entries new.name players unknown named in
+    by_names (sit_down new players)
+    ∙ is_pairwise-insert (λ one other. not (bytes_eq one.name other.name)) players
+    (count_by (λ other. comes_before other.place new.place) players) new
+    (sym (by_names players) ∙ apart) differ.0 differ.1
+  where
+    by_names : (players : List Seated)
+        → are_distinct bytes_eq (map (λ player. player.name) players) ≡ is_pairwise
+        (λ one other. not (bytes_eq one.name other.name)) players
+    by_names players = is_pairwise-map (λ one other. not (bytes_eq one other))
+        (λ (player : Seated). player.name) players
+
+-- The entries and the players agree once one more entered.
+entered-agree : (entries : List (List ℕ)) (players : List Seated) (new : Seated) → AreEntered entries players
+    → length entries < 640 → is_known entries new.name ≡ false → new.player ≡ length entries
+    → AreEntered (entries ++ new.name ∷ []) (sit_down new players)
+entered-agree entries players new agree room unknown number =
+    let behind = count_by (λ other. comes_before other.place new.place) players in
+    let added = length-append entries (new.name ∷ []) in
+    record {
+      few = omega (arith, added);
+      seated = λ n.
+          let counted = sum_by-insert (λ player. cond (is_numbered n player) 1 0) players behind new in
+          let old = agree.seated n in
+          let more = owed_more (length entries) n in
+          let size : length entries + 1 ≡ length (entries ++ new.name ∷ []) = omega (arith, added) in
+          let here = ap (λ (m : ℕ). cond {A = ℕ} (m == n) 1 0) number in
+          let there = ap (λ (m : ℕ). cond {A = ℕ} (nat_lt n m) 1 0) size in
+          omega (arith, counted, old, more, here, there);
+      named = All-insert (IsNamed (entries ++ new.name ∷ [])) players behind new
+          (All-weaker (IsNamed entries) (IsNamed (entries ++ new.name ∷ []))
+          (λ player is. slice_get-more entries player.player player.name new.name is) players agree.named)
+          (rw number (slice_get-new entries new.name));
+      apart = names-sit_down entries players new unknown agree.named agree.apart;
+    }
+
+-- A book is valid after an entry that is not refused.
+pub valid_entered : (book : BookState) (name : List ℕ) (table seat : ℕ) → IsValid book
+    → book_refusal book (Enter name table seat) ≡ None → IsValid (entered book name table seat)
+valid_entered book name table seat valid none =
+    let may = entry_passed book name table seat none in
+    let has = right_has book.plan valid.plan.right in
+    let new = newcomer book name table seat in
+    let behind = count_by (λ other. comes_before other.place new.place) book.seating.players in
+    record {
+      plan = valid.plan;
+      entries = entered-agree book.entries book.seating.players new valid.entries may.room may.new refl;
+      tables = record {
+        lawful = seating-sit_down book.seating new valid.tables.lawful
+            (rw (valid.tables.tables, valid.tables.seats) (and_from _ _ may.there may.within))
+            (below (length book.entries) may.room)
+            may.free
+            (none_numbered new book.seating.players
+            (valid.entries.seated (length book.entries) ∙ nobody_yet (length book.entries)));
+        tables = valid.tables.tables;
+        seats = valid.tables.seats;
+        room = valid.tables.room;
+        nobody = valid.tables.nobody;
+        playing = valid.tables.playing;
+      };
+      hands = record {
+        starts = valid.hands.starts;
+        lent = λ number. ap (map start_seat)
+            (filter-insert_no (is_lent number) book.seating.players behind new
+            (not_lent (table == number) book.plan.stack has.some_stack)) ∙ valid.hands.lent number;
+      };
+      chips = record {
+        kept = simp (length-append, sum_by-insert) (omega (arith, valid.chips.kept));
+        whole = list_all-insert _ book.seating.players behind new valid.chips.whole
+            (eq-eqb _ _
+            (whole_earlier book.plan.blinds book.level book.plan.late book.plan.stack has.levels valid.plan.first
+            (early book.plan.late book.level may.early) has.most_late has.whole));
+        units = valid.chips.units;
+      };
+      counted = omega (arith, valid.counted);
+    }
+  where
+    below : (count : ℕ) → count < 640 → nat_lt count 640 ≡ true
+    below count room = grind (arith, nat_tests)
+
+    early : (late level : ℕ) → nat_lt late level ≡ false → level ≤ late
+    early late level not_late = grind (arith, nat_tests)
+
+    not_lent : (here : Bool) (stack : ℕ) → 1 ≤ stack → (here && stack == 0) ≡ false
+    not_lent here stack some = grind (arith, nat_tests)

@@ -1,0 +1,140 @@
+-- What the parts of a valid book say of its players and hands.
+use Rattle.std.proofs.Common.{◌≡◌, ◌∙◌, refl, sym, ap, subst, ℕ, ◌+◌, ◌%◌, ◌<◌, Bool, true, false, cond, ◌==◌, ◌&&◌, eq-eqb, List, [], ◌∷◌, map, length, arith}
+use Rattle.std.specs.Prelude.{nat_lt, filter, count_by, Option, Some, None, option_map}
+use Rattle.std.specs.List.{list_all, All}
+use Rattle.std.specs.Option.{option_map_or, ForSome}
+use Rattle.std.proofs.lemmas.Bool.{and_parts, eqb-true}
+use Rattle.std.proofs.lemmas.Bool.Decides.{nat_tests}
+use Rattle.std.proofs.lemmas.Option.{same_Some}
+use Rattle.std.proofs.lemmas.List.Elements.{All-head, All-tail, All-nil, All-cons, All-weaker}
+use Rattle.level_plan.specs.Items.{is_between}
+use Rattle.level_plan.specs.Plans.{unit_of_level}
+use Rattle.seat_book.specs.declared.seated.Seated.{Seated}
+use Rattle.seat_book.specs.Players.{sits_at, is_numbered, are_in_order}
+use Rattle.seat_book.specs.Seatings.{sits_within}
+use Rattle.seat_book.specs.Tables.{status_at}
+use Rattle.table_engine.specs.declared.start.HandStart.{HandStart}
+use Rattle.tournament_rules.specs.Books.{BookState, start_at, players_out}
+use Rattle.tournament_rules.specs.Players.{is_in_hand, start_seat}
+use Rattle.tournament_rules.specs.Chips.{sold_by, rest_in, play_of}
+use Rattle.table_engine.specs.Hands.{HandTerms}
+use Rattle.table_engine.specs.Starts.{IsLawfulStart}
+use Rattle.card_set.specs.declared.card.CardRow.{CardRow}
+use Rattle.floor_events.specs.declared.answer.Answer.TheVariants.{Ok}
+use Rattle.floor_events.specs.declared.event.Event.TheVariants.{Begin}
+use Rattle.tournament_rules.specs.Dealing.{next_start}
+use Rattle.tournament_rules.specs.States.{State, PlayState, acts_at, hand_at, refusal_of, answered, answer_to, is_accepted}
+use Rattle.tournament_rules.specs.Valid.{IsValid, IsValidPlay, IsStartAt, is_lent, without_stack}
+use Rattle.tournament_rules.proofs.Passed.{passed-parts}
+use Rattle.tournament_rules.proofs.Steps.{accepted_none}
+use Rattle.tournament_rules.proofs.Begins.{start_is_lawful}
+use Rattle.tournament_rules.proofs.Members.{in_hand-lent}
+
+-- Each entered player has exactly one seat.
+pub one_seat : (book : BookState) → IsValid book → (number : ℕ) → number < length book.entries
+    → count_by (is_numbered number) book.seating.players ≡ 1
+one_seat book valid number within = valid.entries.seated number ∙ owed number (length book.entries) within
+  where
+    owed : (number count : ℕ) → number < count → cond {A = ℕ} (nat_lt number count) 1 0 ≡ 1
+    owed number count within = grind (arith, nat_tests)
+
+-- Who is in no hand has a stack above 0.
+pub stacks_above : (book : BookState) → IsValid book
+    → All (λ player. is_in_hand book.out player ≡ false → 0 < player.stack) book.seating.players
+stacks_above book valid =
+    All-weaker (λ player. is_in_hand book.out player ≡ is_lent player.place.table player)
+    (λ player. is_in_hand book.out player ≡ false → 0 < player.stack)
+    (λ player same out. above player.place.table player.stack (sym same ∙ out)) book.seating.players
+    (in_hand-lent book valid)
+  where
+    above : (table stack : ℕ) → (table == table && stack == 0) ≡ false → 0 < stack
+    above table stack lent = grind (arith, nat_tests)
+
+-- a player's stack is a multiple of the unit of his table
+abbrev IsWhole : BookState → Seated → Type 0
+IsWhole book player = player.stack % (status_at book.seating.tables player.place.table).unit ≡ 0
+
+-- Each stack at rest is a multiple of the unit of its player's table.
+pub stacks_whole : (book : BookState) → IsValid book → All (IsWhole book) book.seating.players
+stacks_whole book valid =
+    by_players (unit_of_level book.plan.blinds book.level) book.seating.players valid.chips.units valid.chips.whole
+    valid.tables.lawful.within
+  where
+    by_players : (unit : ℕ) (players : List Seated)
+        → ((table : ℕ) → is_between 1 book.plan.tables table ≡ true → (status_at book.seating.tables table).unit ≡ unit)
+        → list_all (λ player. player.stack % unit == 0) players ≡ true
+        → list_all (sits_within book.seating.table_count book.seating.seat_count) players ≡ true
+        → All (IsWhole book) players
+    by_players unit [] units whole within = All-nil (IsWhole book)
+    by_players unit (player ∷ players) units whole within =
+        let wholes = and_parts _ _ whole in
+        let withins = and_parts _ _ within in
+        let table : is_between 1 book.plan.tables player.place.table ≡ true =
+        rw (← valid.tables.tables) (and_parts _ _ withins.0).0 in
+        let same = ap (λ (unit : ℕ). player.stack % unit) (units player.place.table table) in
+        let his = same ∙ eqb-true (player.stack % unit) 0 wholes.0 in
+        All-cons (IsWhole book) player players his (by_players unit players units wholes.1 withins.1)
+
+lent_here : (table stack : ℕ) → (table == table && stack == 0) ≡ (stack == 0)
+lent_here table stack = rw (eq-eqb table table refl) refl
+
+-- The players of a table who are in a hand are those who have nothing at rest there.
+in_hand-picked : (out : List (Option HandStart)) (table : ℕ) (players : List Seated)
+    → All (λ player. is_in_hand out player ≡ is_lent player.place.table player) players
+    → filter (is_in_hand out) (filter (sits_at table) players) ≡ filter (is_lent table) players
+in_hand-picked out table [] each = refl
+in_hand-picked out table (player ∷ players) each =
+    let others = All-tail (λ player. is_in_hand out player ≡ is_lent player.place.table player) player players each in
+    by_seat (sits_at table player) refl (in_hand-picked out table players others)
+  where
+    by_seat : (sits : Bool) → sits_at table player ≡ sits
+        → filter (is_in_hand out) (filter (sits_at table) players) ≡ filter (is_lent table) players
+        → filter (is_in_hand out) (cond sits (player ∷ filter (sits_at table) players) (filter (sits_at table) players))
+        ≡ cond (sits && player.stack == 0) (player ∷ filter (is_lent table) players) (filter (is_lent table) players)
+    by_seat true is others =
+        let his = All-head (λ player. is_in_hand out player ≡ is_lent player.place.table player) player players each in
+        rw (his ∙ lent_here player.place.table player.stack, others) refl
+    by_seat false is others = others
+
+-- The players of a table who are in a hand are, in number, name and seat, those of its start, with nothing at rest.
+pub hand_players : (book : BookState) → IsValid book → (table : ℕ)
+    → map start_seat (filter (is_in_hand book.out) (filter (sits_at table) book.seating.players))
+    ≡ map without_stack (players_out (start_at book.out table))
+hand_players book valid table =
+    let picked = in_hand-picked book.out table book.seating.players (in_hand-lent book valid) in
+    ap (λ (found : List Seated). map start_seat found) picked ∙ valid.hands.lent table
+
+-- Chips are neither made nor lost, before there is a plan and afterwards.
+pub chips_kept : (play : Option PlayState) → ForSome play IsValidPlay
+    → option_map_or (λ play. sold_by play.book) play 0
+    ≡ option_map_or (λ play. rest_in play.book) play 0 + option_map_or (λ play. play_of play.book) play 0
+chips_kept None valid = omega arith
+chips_kept (Some play) valid = (valid play refl).book.chips.kept
+
+-- The players are in order, before there is a plan and afterwards.
+pub players_in_order : (play : Option PlayState) → ForSome play IsValidPlay
+    → are_in_order (option_map_or (λ play. play.book.seating.players) play []) ≡ true
+players_in_order None valid = refl
+players_in_order (Some play) valid = (valid play refl).book.tables.lawful.ordered
+
+-- Each hand that is out started lawfully.
+pub hand_started : (play : PlayState) → IsValidPlay play → (table : ℕ)
+    → ForSome (hand_at play table) (λ hand. IsLawfulStart hand.start)
+hand_started play valid table = by_start (start_at play.book.out table) (valid.book.hands.starts table)
+  where
+    by_start : (start : Option HandStart) → ForSome start (IsStartAt play.book.plan play.book.level table)
+        → ForSome {T = HandTerms} (option_map (λ start. record { start = start; acts = acts_at play.acts table }) start)
+        (λ hand. IsLawfulStart hand.start)
+    by_start None lawful = λ hand is. absurd cc
+    by_start (Some start) lawful = λ hand is.
+        let same = same_Some (record { start = start; acts = acts_at play.acts table }) hand is in
+        subst (λ (hand : HandTerms). IsLawfulStart hand.start) same (lawful start refl).lawful
+
+-- A hand that may begin starts lawfully.
+pub start_lawful : (state : State) (play : PlayState) (table : ℕ) (row : CardRow) → state.play ≡ Some play
+    → IsValidPlay play → answer_to state (Begin table row) ≡ Ok → IsLawfulStart (next_start play.book table row.cards)
+start_lawful state play table row is valid accepted =
+    let none : answered (refusal_of play (Begin table row)) ≡ Ok = rw is at accepted in
+    start_is_lawful play.book table row valid.book
+    (passed-parts play (Begin table row)
+    (accepted_none (refusal_of play (Begin table row)) (ap is_accepted none))).0

@@ -1,0 +1,149 @@
+-- What an event that is not refused tells of its checks.
+use Rattle.std.proofs.Common.{◌≡◌, ◌∙◌, refl, sym, ap, ℕ, ◌<◌, Bool, true, false, cond, ◌&&◌, List, ◌∷◌, [], length, arith}
+use Rattle.std.specs.Prelude.{not, nat_le, Option, Some, None, is_some}
+use Rattle.std.specs.Prelude.{option_and_then}
+use Rattle.std.specs.Option.{option_map_or, option_or}
+use Rattle.std.specs.List.{list_all}
+use Rattle.std.proofs.lemmas.Bool.{and_parts, not-true}
+use Rattle.std.proofs.lemmas.Bool.Decides.{nat_tests}
+use Rattle.rulebook.specs.Checks.{first_that_holds}
+use Rattle.seat_book.specs.Players.{player_at}
+use Rattle.entry_list.specs.Entries.{is_known}
+use Rattle.rulebook.proofs.Checks.{first_that_holds-append}
+use Rattle.level_plan.specs.declared.line.PlanLine.{PlanLine}
+use Rattle.betting_round.specs.declared.act.Act.{Act}
+use Rattle.table_engine.specs.Hands.{HandTerms, is_over}
+use Rattle.table_engine.specs.Results.{is_won_by_folds}
+use Rattle.floor_events.specs.declared.event.Event.{Event}
+use Rattle.floor_events.specs.declared.event.Event.TheVariants.{Plan, Go, Enter, Act as Acts, Settle}
+use Rattle.tournament_rules.specs.Books.{BookState, has_table, has_seat_number}
+use Rattle.tournament_rules.specs.Checks.{book_checks, hand_checks, end_checks, book_refusal, is_late, is_playing}
+use Rattle.tournament_rules.specs.States.{PlayState, hand_of, refusal_of}
+use Rattle.tournament_rules.specs.Apart.{hand_refusal}
+
+-- Where no check holds first, none holds.
+pub none_holds : {A : Type 0} (checks : List (A × Bool)) → first_that_holds checks ≡ None
+    → list_all (λ check. not check.1) checks ≡ true
+none_holds [] none = refl
+none_holds (check ∷ checks) none = by_test check.1 none (none_holds checks)
+  where
+    by_test : (holds : Bool) → cond holds (Some check.0) (first_that_holds checks) ≡ None
+        → (first_that_holds checks ≡ None → list_all (λ check. not check.1) checks ≡ true)
+        → (not holds && list_all (λ check. not check.1) checks) ≡ true
+    by_test true none rest = cc
+    by_test false none rest = rest none
+
+pub is_so : (b : Bool) → not (not b) ≡ true → b ≡ true
+is_so true so = refl
+is_so false so = so
+
+pub none_there : {A : Type 0} (found : Option A) → is_some found ≡ false → found ≡ None
+none_there None absent = refl
+none_there (Some x) absent = cc
+
+pub some_there : {A : Type 0} (found : Option A) → is_some found ≡ true → (x : A) × (found ≡ Some x)
+some_there None there = absurd cc
+some_there (Some x) there = (x, refl)
+
+-- What is so of an entry that is not refused.
+pub record MayEnter (book : BookState) (name : List ℕ) (table seat : ℕ) : Type 0 where
+  pub new : is_known book.entries name ≡ false
+  pub there : has_table book table ≡ true
+  pub within : has_seat_number book seat ≡ true
+  pub free : player_at book.seating.players (record { table = table; seat = seat }) ≡ None
+  pub early : is_late book ≡ false
+  pub room : length book.entries < 640
+
+pub entry_passed : (book : BookState) (name : List ℕ) (table seat : ℕ)
+    → book_refusal book (Enter name table seat) ≡ None → MayEnter book name table seat
+unfolding book_refusal
+entry_passed book name table seat none =
+    let all = none_holds (book_checks book (Enter name table seat)) none in
+    let going = and_parts _ _ all in
+    let new = and_parts _ _ going.1 in
+    let there = and_parts _ _ new.1 in
+    let seated = and_parts _ _ there.1 in
+    let free = and_parts _ _ seated.1 in
+    let early = and_parts _ _ free.1 in
+    let over = and_parts _ _ early.1 in
+    let room = and_parts _ _ over.1 in
+    record {
+      new = not-true _ new.0;
+      there = (and_parts _ _ (is_so _ there.0)).0;
+      within = is_so _ seated.0;
+      free = none_there _ (not-true _ free.0);
+      early = not-true _ early.0;
+      room = below (length book.entries) (not-true _ room.0);
+    }
+  where
+    below : (count : ℕ) → nat_le 640 count ≡ false → count < 640
+    below count full = grind (arith, nat_tests)
+
+-- Where one refusal or else another tells of none, neither does.
+pub none_of_two : {A : Type 0} (one other : Option A) → option_or one other ≡ None → (one ≡ None) × (other ≡ None)
+none_of_two None other none = (refl, none)
+none_of_two (Some found) other none = cc
+
+-- An event is refused by the book, or else by the hand that it is about, if there is one.
+pub refusal-parts : (play : PlayState) (event : Event)
+    → refusal_of play event
+    ≡ option_or (book_refusal play.book event) (option_and_then (hand_refusal event) (hand_of play event))
+unfolding refusal_of book_refusal
+refusal-parts play event =
+    let later = option_map_or (λ hand. hand_checks hand event) (hand_of play event) [] in
+    first_that_holds-append (book_checks play.book event) later
+    ∙ ap (option_or (first_that_holds (book_checks play.book event))) (by_hand (hand_of play event))
+  where
+    by_hand : (hand : Option HandTerms)
+        → first_that_holds (option_map_or (λ hand. hand_checks hand event) hand [])
+        ≡ option_and_then (hand_refusal event) hand
+    by_hand None = refl
+    by_hand (Some hand) = refl
+
+-- An event that is not refused is refused neither by the book nor by the hand that it is about.
+pub passed-parts : (play : PlayState) (event : Event) → refusal_of play event ≡ None
+    → (book_refusal play.book event ≡ None) × (option_and_then (hand_refusal event) (hand_of play event) ≡ None)
+passed-parts play event none = none_of_two _ _ (sym (refusal-parts play event) ∙ none)
+
+-- What is so of an event at a table that is played at.
+pub record MayGoOn (book : BookState) (table : ℕ) : Type 0 where
+  pub there : has_table book table ≡ true
+  pub playing : is_playing book table ≡ true
+
+pub act_passed : (book : BookState) (table : ℕ) (name : List ℕ) (act : Act)
+    → book_refusal book (Acts table name act) ≡ None → MayGoOn book table
+unfolding book_refusal
+act_passed book table name act none =
+    let all = none_holds (book_checks book (Acts table name act)) none in
+    let going = and_parts _ _ all in
+    let known = and_parts _ _ going.1 in
+    let there = and_parts _ _ known.1 in
+    let playing = and_parts _ _ there.1 in
+    record { there = is_so _ there.0; playing = is_so _ playing.0 }
+
+pub settle_passed : (book : BookState) (table : ℕ) → book_refusal book (Settle table) ≡ None → MayGoOn book table
+unfolding book_refusal
+settle_passed book table none =
+    let all = none_holds (book_checks book (Settle table)) none in
+    let going = and_parts _ _ all in
+    let there = and_parts _ _ going.1 in
+    let playing = and_parts _ _ there.1 in
+    record { there = is_so _ there.0; playing = is_so _ playing.0 }
+
+-- A hand that may be settled is over and won by folds.
+pub end_passed : (hand : HandTerms) → first_that_holds (end_checks hand) ≡ None
+    → (is_over hand ≡ true) × (is_won_by_folds hand ≡ true)
+end_passed hand none =
+    let all = none_holds (end_checks hand) none in
+    let over = and_parts _ _ all in
+    let won = and_parts _ _ over.1 in
+    (is_so _ over.0, is_so _ won.0)
+
+-- No line of a plan, and no end of it, is taken once the plan is whole.
+pub plan_late : (book : BookState) (line : PlanLine) → book_refusal book (Plan line) ≡ None → ⊥
+unfolding book_refusal
+plan_late book line none = cc
+
+pub go_late : (book : BookState) → book_refusal book Go ≡ None → ⊥
+unfolding book_refusal
+go_late book none = cc

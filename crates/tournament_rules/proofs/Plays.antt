@@ -1,0 +1,214 @@
+-- A tournament whose plan is whole is valid after each event: its book is, and each hand that is out is a lawful play
+-- of its start.
+use Rattle.std.proofs.Common.{◌≡◌, ◌∙◌, refl, sym, ap, subst, ℕ, ◌+◌, ◌<◌, true, false, ◌==◌, List, [], ◌∷◌, ◌++◌, length, inl, inr, arith, length-set}
+use Rattle.std.specs.Prelude.{replicate, slice_set, Option, Some, None, is_none, option_map, option_and_then, if◌then◌else◌}
+use Rattle.std.specs.Option.{option_map_or, ForSome}
+use Rattle.std.proofs.lemmas.Bool.{cases_Bool, eqb-true}
+use Rattle.std.proofs.lemmas.List.{get_or-set_same, get_or-set_other, length-replicate}
+use Rattle.std.proofs.lemmas.Option.{same_Some}
+use Rattle.floor_text.specs.declared.refusal.Refusal.{Refusal}
+use Rattle.card_set.specs.declared.card.CardRow.{CardRow}
+use Rattle.betting_round.specs.declared.act.Act.{Act}
+use Rattle.level_plan.specs.Plans.{PlanTerms, is_right}
+use Rattle.table_engine.specs.declared.start.HandStart.{HandStart}
+use Rattle.table_engine.specs.declared.record.ActOf.{ActOf}
+use Rattle.table_engine.specs.Hands.{HandTerms}
+use Rattle.table_engine.specs.Plays.{IsLawfulPlay}
+use Rattle.table_engine.specs.Results.{is_won_by_folds}
+use Rattle.table_engine.proofs.Plays.{lawful_play-none, lawful_play-more}
+use Rattle.floor_events.specs.declared.event.Event.{Event}
+use Rattle.floor_events.specs.declared.event.Event.TheVariants as events
+use Rattle.tournament_rules.specs.Books.{start_at}
+use Rattle.tournament_rules.specs.Checks.{book_refusal}
+use Rattle.tournament_rules.specs.Dealing.{next_start}
+use Rattle.tournament_rules.specs.Effects.{settled, stopped_book}
+use Rattle.tournament_rules.specs.States.{PlayState, first_play, acts_at, hand_at, refusal_of, play_effect, play_after}
+use Rattle.tournament_rules.specs.Valid.{IsValidPlay}
+use Rattle.tournament_rules.specs.Apart.{hand_refusal}
+use Rattle.tournament_rules.proofs.Fitting.{table_range, other_number, table_out}
+use Rattle.tournament_rules.proofs.Ends.{left-void_first, valid_settled, valid_stopped, none_out-stopped}
+use Rattle.tournament_rules.proofs.Passed.{passed-parts, act_passed, settle_passed, end_passed, plan_late, go_late, some_there}
+use Rattle.tournament_rules.proofs.Entries.{valid_first, valid_entered, start_none}
+use Rattle.tournament_rules.proofs.Begins.{may_begin, valid_begun}
+
+-- the hand of a start that is out, and its acts
+abbrev hand_from : Option HandStart → List ActOf → Option HandTerms
+hand_from start acts = option_map (λ start. record { start = start; acts = acts }) start
+
+-- The hand that is out at a table, if one is, is a lawful play of its start.
+abbrev IsLawfulAt : List (Option HandStart) → List (List ActOf) → ℕ → Type 0
+IsLawfulAt out acts table = ForSome (hand_from (start_at out table) (acts_at acts table)) IsLawfulPlay
+
+-- What is so at a table, and at each other, is so at each.
+at_each : (P : ℕ → Type 0) (table : ℕ) → P table → ((other : ℕ) → (table == other) ≡ false → P other) → (other : ℕ)
+    → P other
+at_each P table here elsewhere other = elim (cases_Bool (table == other)) [
+  | inl same ↦ subst P (eqb-true table other same) here
+  | inr differ ↦ elsewhere other differ
+]
+
+-- The hands that are out are lawful plays once the start and the acts at a table are others.
+plays_changed : (out : List (Option HandStart)) (acts : List (List ActOf)) (table : ℕ) (start : Option HandStart)
+    (new : List ActOf) → table < length out → table < length acts → ((other : ℕ) → IsLawfulAt out acts other)
+    → ForSome (hand_from start new) IsLawfulPlay
+    → (other : ℕ) → IsLawfulAt (slice_set out table start) (slice_set acts table new) other
+plays_changed out acts table start new within room plays here =
+    at_each (IsLawfulAt (slice_set out table start) (slice_set acts table new)) table
+    (rw (get_or-set_same out table start None within, get_or-set_same acts table new [] room) here)
+    (λ other differ.
+    let apart = other_number table other differ in
+    rw (get_or-set_other out table other start None apart, get_or-set_other acts table other new [] apart)
+    (plays other))
+
+-- The same where the acts alone are others.
+acts_changed : (out : List (Option HandStart)) (acts : List (List ActOf)) (table : ℕ) (new : List ActOf)
+    → table < length acts → ((other : ℕ) → IsLawfulAt out acts other)
+    → ForSome (hand_from (start_at out table) new) IsLawfulPlay
+    → (other : ℕ) → IsLawfulAt out (slice_set acts table new) other
+acts_changed out acts table new room plays here =
+    at_each (IsLawfulAt out (slice_set acts table new)) table
+    (rw (get_or-set_same acts table new [] room) here)
+    (λ other differ. rw (get_or-set_other acts table other new [] (other_number table other differ)) (plays other))
+
+some_lawful : (hand : HandTerms) → IsLawfulPlay hand → ForSome (Some hand) IsLawfulPlay
+some_lawful hand lawful = λ found is. subst IsLawfulPlay (same_Some hand found is) lawful
+
+-- After a hand began.
+play_begun : (play : PlayState) (table : ℕ) (row : CardRow) → IsValidPlay play
+    → book_refusal play.book (events.Begin table row) ≡ None → IsValidPlay (play_effect play (events.Begin table row))
+play_begun play table row valid none =
+    let range = table_range 1 play.book.plan.tables table (may_begin play.book table row none).there in
+    let out = valid.book.tables.room in
+    let room = valid.room in
+    let start = next_start play.book table row.cards in
+    record {
+      book = valid_begun play.book table row valid.book none;
+      room = length-set play.acts table [] ∙ valid.room;
+      plays = plays_changed play.book.out play.acts table (Some start) [] (omega (arith, range.1, out))
+          (omega (arith, range.1, room)) valid.plays
+          (some_lawful (record { start = start; acts = [] }) (lawful_play-none start));
+    }
+
+-- After an act.
+play_acted : (play : PlayState) (table : ℕ) (name : List ℕ) (act : Act) → IsValidPlay play
+    → book_refusal play.book (events.Act table name act) ≡ None
+    → option_and_then (hand_refusal (events.Act table name act)) (hand_at play table) ≡ None
+    → IsValidPlay (play_effect play (events.Act table name act))
+play_acted play table name act valid none free =
+    let range = table_range 1 play.book.plan.tables table (act_passed play.book table name act none).there in
+    let room = valid.room in
+    let new : ActOf = record { name = name; act = act; by_time = false } in
+    record {
+      book = valid.book;
+      room = length-set play.acts table (acts_at play.acts table ++ new ∷ []) ∙ valid.room;
+      plays = acts_changed play.book.out play.acts table (acts_at play.acts table ++ new ∷ [])
+          (omega (arith, range.1, room)) valid.plays
+          (by_start (start_at play.book.out table) (acts_at play.acts table) free (valid.plays table));
+    }
+  where
+    by_start : (start : Option HandStart) (acts : List ActOf)
+        → option_and_then (hand_refusal (events.Act table name act)) (hand_from start acts) ≡ None
+        → ForSome (hand_from start acts) IsLawfulPlay
+        → ForSome (hand_from start (acts ++ (record { name = name; act = act; by_time = false }) ∷ [])) IsLawfulPlay
+    by_start None acts free lawful = λ hand is. absurd cc
+    by_start (Some start) acts free lawful =
+        let hand : HandTerms = record { start = start; acts = acts } in
+        some_lawful _
+        (lawful_play-more hand (record { name = name; act = act; by_time = false }) (lawful hand refl) free)
+
+-- the tournament once a hand at a table is settled
+abbrev settled_at : PlayState → ℕ → HandTerms → PlayState
+settled_at play table hand = record { book = settled play.book hand; acts = slice_set play.acts table [] }
+
+-- After a settle of the hand with the start that is out.
+settled_from : (play : PlayState) (table : ℕ) (start : HandStart) → IsValidPlay play
+    → start_at play.book.out table ≡ Some start
+    → is_won_by_folds (record { start = start; acts = acts_at play.acts table }) ≡ true
+    → IsValidPlay (settled_at play table (record { start = start; acts = acts_at play.acts table }))
+settled_from play table start valid is won =
+    let hand : HandTerms = record { start = start; acts = acts_at play.acts table } in
+    let here : start.table ≡ table = (valid.book.hands.starts table start is).here in
+    let there : start_at play.book.out start.table ≡ Some start = ap (start_at play.book.out) here ∙ is in
+    let listed = table_out play.book.plan play.book.seating play.book.out table start valid.book.tables is in
+    let range = table_range 1 play.book.plan.tables table listed in
+    let out = valid.book.tables.room in
+    let room = valid.room in
+    let found = ap (λ (start : Option HandStart). hand_from start (acts_at play.acts table)) is in
+    let plays = plays_changed play.book.out play.acts table None [] (omega (arith, range.1, out))
+    (omega (arith, range.1, room)) valid.plays (λ hand is. absurd cc) in
+    record {
+      book = valid_settled play.book hand valid.book there (valid.plays table hand found) won;
+      room = length-set play.acts table [] ∙ valid.room;
+      plays = λ other. subst
+          (λ (number : ℕ). IsLawfulAt (slice_set play.book.out number None) (slice_set play.acts table []) other)
+          (sym here) (plays other);
+    }
+
+-- After a settle.
+play_settled : (play : PlayState) (table : ℕ) → IsValidPlay play → book_refusal play.book (events.Settle table) ≡ None
+    → option_and_then (hand_refusal (events.Settle table)) (hand_at play table) ≡ None
+    → IsValidPlay (play_effect play (events.Settle table))
+play_settled play table valid none free =
+    let playing = (settle_passed play.book table none).playing in
+    let found = some_there (start_at play.book.out table) (sym (valid.book.tables.playing table) ∙ playing) in
+    let hand : HandTerms = record { start = found.0; acts = acts_at play.acts table } in
+    let is : hand_at play table ≡ Some hand = ap
+    (λ (start : Option HandStart). hand_from start (acts_at play.acts table)) found.1 in
+    let ends = end_passed hand (rw is at free) in
+    subst (λ (hand : Option HandTerms). IsValidPlay
+    (record { book = option_map_or (settled play.book) hand play.book; acts = slice_set play.acts table [] }))
+    (sym is)
+    (settled_from play table found.0 valid found.1 ends.1)
+
+-- After the end.
+play_stopped : (play : PlayState) → IsValidPlay play → IsValidPlay (play_effect play events.Stop)
+play_stopped play valid = record {
+  book = valid_stopped play.book valid.book;
+  room = length-replicate (length play.acts) [] ∙
+      (valid.room ∙ ap (λ (tables : ℕ). tables + 1)
+      (sym (left-void_first (λ book. book.plan.tables)
+      (record { same = λ book table payees. refl }) play.book play.book.plan.tables)));
+  plays = λ table. nobody (start_at (stopped_book play.book).out table)
+      (acts_at (replicate (length play.acts) []) table) (none_out-stopped play.book table valid.book);
+}
+  where
+    nobody : (start : Option HandStart) (acts : List ActOf) → start ≡ None → ForSome (hand_from start acts) IsLawfulPlay
+    nobody start acts none = rw none (λ hand is. absurd cc)
+
+-- An event that is not refused leaves a tournament valid.
+pub play_keeps : (play : PlayState) (event : Event) → IsValidPlay play → refusal_of play event ≡ None
+    → IsValidPlay (play_effect play event)
+play_keeps play (events.Plan line) valid none =
+    absurd (plan_late play.book line (passed-parts play (events.Plan line) none).0)
+play_keeps play events.Go valid none = absurd (go_late play.book (passed-parts play events.Go none).0)
+play_keeps play (events.Enter name table seat) valid none = record {
+  book = valid_entered play.book name table seat valid.book (passed-parts play (events.Enter name table seat) none).0;
+  room = valid.room;
+  plays = valid.plays;
+}
+play_keeps play (events.Begin table row) valid none =
+    play_begun play table row valid (passed-parts play (events.Begin table row) none).0
+play_keeps play (events.Act table name act) valid none =
+    let parts = passed-parts play (events.Act table name act) none in
+    play_acted play table name act valid parts.0 parts.1
+play_keeps play (events.Settle table) valid none =
+    let parts = passed-parts play (events.Settle table) none in
+    play_settled play table valid parts.0 parts.1
+play_keeps play events.Stop valid none = play_stopped play valid
+
+-- Any event leaves a tournament valid.
+pub valid_play_after : (play : PlayState) (event : Event) → IsValidPlay play → IsValidPlay (play_after play event)
+valid_play_after play event valid = by_refusal (refusal_of play event) refl
+  where
+    by_refusal : (found : Option Refusal) → refusal_of play event ≡ found
+        → IsValidPlay (if is_none found then play_effect play event else play)
+    by_refusal None is = play_keeps play event valid is
+    by_refusal (Some refusal) is = valid
+
+-- A tournament is valid before any entry.
+pub valid_first_play : (plan : PlanTerms) → is_right plan ≡ true → IsValidPlay (first_play plan)
+valid_first_play plan right = record {
+  book = valid_first plan right;
+  room = length-replicate (plan.tables + 1) [];
+  plays = λ table. rw (start_none (plan.tables + 1) table) (λ hand is. absurd cc);
+}

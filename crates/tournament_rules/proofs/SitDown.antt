@@ -1,0 +1,181 @@
+-- What holds of a seating once a player sits down in a free seat.
+use Rattle.std.proofs.Common.{◌≡◌, ◌∙◌, refl, sym, ap, subst, ℕ, suc, ◌+◌, Bool, true, false, cond, ◌==◌, ◌&&◌, List, [], ◌∷◌, take, drop, arith}
+use Rattle.std.specs.Prelude.{not, count_by, Some, None}
+use Rattle.std.specs.List.{list_all}
+use Rattle.std.proofs.lemmas.Bool.{and_parts, and_from}
+use Rattle.std.proofs.lemmas.Bool.Decides.{nat_tests}
+use Rattle.std.proofs.lemmas.List.Folds.{list_all-map}
+use Rattle.std.proofs.lemmas.List.Sums.{sum_by-cons}
+use Rattle.std.proofs.lemmas.List.{take-append-drop}
+use Rattle.rulebook.specs.Pairs.{is_pairwise}
+use Rattle.seat_book.specs.declared.seated.Seated.{Seated}
+use Rattle.seat_book.specs.Places.{comes_before}
+use Rattle.seat_book.specs.Players.{sits_in, is_numbered, player_at, sit_down, are_in_order, are_apart}
+use Rattle.seat_book.specs.Seatings.{Seating, IsSeating, sits_within, is_entry}
+use Rattle.rulebook.proofs.Pairs.{is_pairwise-between}
+use Rattle.tournament_rules.proofs.Insertions.{list_all-insert, is_pairwise-insert}
+
+-- The place of a player comes before that of another.
+abbrev pub sits_before : Seated → Seated → Bool
+sits_before one other = comes_before one.place other.place
+
+-- A player has another number than another.
+abbrev pub differs : Seated → Seated → Bool
+differs one other = not (is_numbered one.player other)
+
+-- The order of the players as a test of each with each later one.
+pub in_order-pairs : (players : List Seated) → are_in_order players ≡ is_pairwise sits_before players
+in_order-pairs [] = refl
+in_order-pairs (player ∷ players) = rw
+    (list_all-map (comes_before player.place) (λ (other : Seated). other.place) players, in_order-pairs players) refl
+
+-- That no two players have one number, as such a test.
+pub apart-pairs : (players : List Seated) → are_apart players ≡ is_pairwise differs players
+apart-pairs [] = refl
+apart-pairs (player ∷ players) = rw (apart-pairs players) refl
+
+-- a place is before another, or after it, or it is that place
+after_other : (a b x y : ℕ) → ((a == x) && (b == y)) ≡ false
+    → comes_before (record { table = a; seat = b }) (record { table = x; seat = y }) ≡ false
+    → comes_before (record { table = x; seat = y }) (record { table = a; seat = b }) ≡ true
+after_other a b x y differ late = grind (arith, nat_tests)
+
+comes_before_all : (a b x y v w : ℕ)
+    → comes_before (record { table = a; seat = b }) (record { table = x; seat = y }) ≡ true
+    → comes_before (record { table = x; seat = y }) (record { table = v; seat = w }) ≡ true
+    → comes_before (record { table = a; seat = b }) (record { table = v; seat = w }) ≡ true
+comes_before_all a b x y v w first second = grind (arith, nat_tests)
+
+not_back : (a b x y : ℕ) → comes_before (record { table = a; seat = b }) (record { table = x; seat = y }) ≡ true
+    → comes_before (record { table = x; seat = y }) (record { table = a; seat = b }) ≡ false
+not_back a b x y first = grind (arith, nat_tests)
+
+-- whoever comes before a player comes before all who come after that one
+before_later : (new first : Seated) (players : List Seated) → sits_before new first ≡ true
+    → list_all (sits_before first) players ≡ true → list_all (sits_before new) players ≡ true
+before_later new first [] before later = refl
+before_later new first (next ∷ players) before later =
+    let parts = and_parts (sits_before first next) (list_all (sits_before first) players) later in
+    and_from _ _ (before_all new first next before parts.0) (before_later new first players before parts.1)
+  where
+    before_all : (new first next : Seated) → sits_before new first ≡ true → sits_before first next ≡ true
+        → sits_before new next ≡ true
+    before_all new first next before later =
+        comes_before_all new.place.table new.place.seat first.place.table first.place.seat next.place.table
+        next.place.seat before later
+
+-- the first of a list counts for one, or for none
+pub count-first : {A : Type 0} (test : A → Bool) (first : A) (others : List A) (b : Bool) → test first ≡ b
+    → count_by test (first ∷ others) ≡ cond b 1 0 + count_by test others
+count-first test first others b is = sum_by-cons (λ x. cond (test x) 1 0) first others ∙ ap
+    (λ (c : Bool). cond c 1 0 + count_by test others) is
+
+-- nobody who comes after a player counts as before him
+none_back : (new : Seated) (players : List Seated) → list_all (sits_before new) players ≡ true
+    → count_by (λ other. sits_before other new) players ≡ 0
+none_back new [] later = refl
+none_back new (next ∷ players) later =
+    let parts = and_parts (sits_before new next) (list_all (sits_before new) players) later in
+    let back = not_back new.place.table new.place.seat next.place.table next.place.seat parts.0 in
+    let one = count-first (λ other. sits_before other new) next players false back in
+    omega (arith, one, none_back new players parts.1)
+
+free_first : (new first : Seated) (players : List Seated) → player_at (first ∷ players) new.place ≡ None
+    → (sits_in new.place first ≡ false) × (player_at players new.place ≡ None)
+free_first new first players free = by_test (sits_in new.place first) free
+  where
+    by_test : (sits : Bool) → cond sits (Some first) (player_at players new.place) ≡ None
+        → (sits ≡ false) × (player_at players new.place ≡ None)
+    by_test true free = cc
+    by_test false free = (refl, free)
+
+-- A new player in a free seat parts those who sit before him from those who sit after him.
+pub record Parts (new : Seated) (players : List Seated) (count : ℕ) : Type 0 where
+  pub before : list_all (λ other. sits_before other new) (take count players) ≡ true
+  pub after : list_all (sits_before new) (drop count players) ≡ true
+
+parts-step : (new first : Seated) (players : List Seated) (b : Bool) → sits_before first new ≡ b
+    → list_all (sits_before first) players ≡ true → sits_in new.place first ≡ false
+    → Parts new players (count_by (λ other. sits_before other new) players)
+    → Parts new (first ∷ players) (count_by (λ other. sits_before other new) (first ∷ players))
+parts-step new first players true is later free parts =
+    let one = count-first (λ other. sits_before other new) first players true is in
+    let next : suc (count_by (λ other. sits_before other new) players) ≡ count_by (λ other. sits_before other new)
+    (first ∷ players) = omega (arith, one) in
+    subst (λ (n : ℕ). Parts new (first ∷ players) n) next
+    (record { before = and_from _ _ is parts.before; after = parts.after })
+parts-step new first players false is later free parts =
+    let here = after_other first.place.table first.place.seat new.place.table new.place.seat free is in
+    let all = before_later new first players here later in
+    let one = count-first (λ other. sits_before other new) first players false is in
+    let none : 0 ≡ count_by (λ other. sits_before other new) (first ∷ players) = omega
+    (arith, one, none_back new players all) in
+    subst (λ (n : ℕ). Parts new (first ∷ players) n) none (record { before = refl; after = and_from _ _ here all })
+
+parted : (new : Seated) (players : List Seated) → is_pairwise sits_before players ≡ true
+    → player_at players new.place ≡ None → Parts new players (count_by (λ other. sits_before other new) players)
+parted new [] ordered free = record { before = refl; after = refl }
+parted new (first ∷ players) ordered free =
+    let parts = and_parts (list_all (sits_before first) players) (is_pairwise sits_before players) ordered in
+    let frees = free_first new first players free in
+    parts-step new first players (sits_before first new) refl parts.0 frees.0 (parted new players parts.1 frees.1)
+
+-- A player who sits down in a free seat leaves the players in order.
+pub in_order-sit_down : (new : Seated) (players : List Seated) → are_in_order players ≡ true
+    → player_at players new.place ≡ None → are_in_order (sit_down new players) ≡ true
+in_order-sit_down new players ordered free =
+    let pairs = sym (in_order-pairs players) ∙ ordered in
+    let count = count_by (λ other. sits_before other new) players in
+    let parts = parted new players pairs free in
+    in_order-pairs (sit_down new players)
+    ∙ is_pairwise-between sits_before (take count players) new (drop count players)
+    (rw (take-append-drop count players) pairs) parts.before parts.after
+
+other_way : (new : Seated) (players : List Seated) → list_all (differs new) players ≡ true
+    → list_all (λ other. differs other new) players ≡ true
+other_way new [] all = refl
+other_way new (player ∷ players) all =
+    let parts = and_parts (differs new player) (list_all (differs new) players) all in
+    and_from _ _ (back new.player player.player parts.0) (other_way new players parts.1)
+  where
+    back : (a b : ℕ) → not (b == a) ≡ true → not (a == b) ≡ true
+    back a b differ = grind (arith, nat_tests)
+
+-- A player with a new number leaves the numbers apart.
+pub apart-sit_down : (new : Seated) (players : List Seated) → are_apart players ≡ true
+    → list_all (differs new) players ≡ true → are_apart (sit_down new players) ≡ true
+apart-sit_down new players apart differ =
+    apart-pairs (sit_down new players)
+    ∙ is_pairwise-insert differs players (count_by (λ other. sits_before other new) players) new
+    (sym (apart-pairs players) ∙ apart) (other_way new players differ) differ
+
+-- A seating once a player with a new number sits down in a free seat.
+pub seating-sit_down : (seating : Seating) (new : Seated) → IsSeating seating
+    → sits_within seating.table_count seating.seat_count new ≡ true → is_entry new ≡ true
+    → player_at seating.players new.place ≡ None → list_all (differs new) seating.players ≡ true
+    → IsSeating (record seating { players = sit_down new seating.players })
+seating-sit_down seating new lawful within entry free differ = record {
+  some_tables = lawful.some_tables;
+  most_tables = lawful.most_tables;
+  some_seats = lawful.some_seats;
+  most_seats = lawful.most_seats;
+  tables = lawful.tables;
+  statuses = lawful.statuses;
+  within = list_all-insert
+      (sits_within seating.table_count seating.seat_count) seating.players _ new lawful.within within;
+  ordered = in_order-sit_down new seating.players lawful.ordered free;
+  entries = list_all-insert is_entry seating.players _ new lawful.entries entry;
+  apart = apart-sit_down new seating.players lawful.apart differ;
+}
+
+-- Where no player counts as having a number, all have others.
+pub none_numbered : (new : Seated) (players : List Seated) → count_by (is_numbered new.player) players ≡ 0
+    → list_all (differs new) players ≡ true
+none_numbered new [] none = refl
+none_numbered new (player ∷ players) none = by_test (is_numbered new.player player) refl (none_numbered new players)
+  where
+    by_test : (b : Bool) → is_numbered new.player player ≡ b
+        → (count_by (is_numbered new.player) players ≡ 0 → list_all (differs new) players ≡ true)
+        → (not b && list_all (differs new) players) ≡ true
+    by_test true is rest = let one = count-first (is_numbered new.player) player players true is in absurd (omega arith)
+    by_test false is rest = let one = count-first (is_numbered new.player) player players false is in rest (omega arith)

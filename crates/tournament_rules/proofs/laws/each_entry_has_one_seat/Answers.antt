@@ -1,0 +1,9 @@
+use Rattle.tournament_rules.proofs.Holds.{one_seat}
+use Rattle.tournament_rules.proofs.Steps.{valid_events}
+use Rattle.tournament_rules.proofs.laws.each_entry_has_one_seat.Goals as goal
+
+pub returns-clause-one : goal.returns-clause-one
+returns-clause-one c = λ events play is. one_seat play.book ((valid_events events).play play is).book
+
+pub returns-clause-named : goal.returns-clause-named
+returns-clause-named c = λ events play is. ((valid_events events).play play is).book.entries.named

@@ -1,0 +1,51 @@
+-- The book of a tournament: all of it but the acts of the hands that are out. This project's own.
+use Rattle.std.specs.Prelude.{ℕ, ◌+◌, ◌-◌, Bool, List, [], replicate, slice_index_or, slice_get, unwrap_or, Option, None}
+use Rattle.std.specs.Option.{option_map_or}
+use Rattle.level_plan.specs.declared.plan.Blind.{Blind}
+use Rattle.level_plan.specs.Items.{is_between}
+use Rattle.level_plan.specs.Plans.{PlanTerms}
+use Rattle.seat_book.specs.Seatings.{Seating}
+use Rattle.table_engine.specs.declared.start.HandStart.{HandStart}
+use Rattle.table_engine.specs.declared.start.StartSeat.{StartSeat}
+
+pub record BookState : Type 0 where
+  -- the plan
+  pub plan : PlanTerms
+  -- the names of those who entered, in order: a player's number is the index of his name, from 0
+  pub entries : List (List ℕ)
+  -- who sits where, and how the tables stand
+  pub seating : Seating
+  -- by table number, the start of the hand that is out; there is no table 0, and no hand
+  pub out : List (Option HandStart)
+  -- the current level, from 1
+  pub level : ℕ
+  -- how many hands have begun
+  pub begun : ℕ
+  -- how many events the book has accepted
+  pub accepted : ℕ
+  -- whether `stop` is accepted
+  pub stopped : Bool
+
+-- whether the plan has a table of this number
+abbrev pub has_table : BookState → ℕ → Bool
+has_table book table = is_between 1 book.plan.tables table
+
+-- whether the plan's tables have a seat of this number
+abbrev pub has_seat_number : BookState → ℕ → Bool
+has_seat_number book seat = is_between 1 book.plan.seats seat
+
+-- the start of the hand that is out at a table, if one is
+abbrev pub start_at : List (Option HandStart) → ℕ → Option HandStart
+start_at out table = slice_index_or out table None
+
+-- the players with whom a hand started, where one did
+abbrev pub players_out : Option HandStart → List StartSeat
+players_out start = option_map_or (λ start. start.seats) start []
+
+-- the blinds and the unit of the current level
+abbrev pub blind_now : BookState → Blind
+blind_now book = unwrap_or (slice_get book.plan.blinds (book.level - 1)) (record { small = 0; big = 0; unit = 1 })
+
+-- no hand is out, at any of so many tables
+abbrev pub no_hands : {A : Type 0} → ℕ → List (Option A)
+no_hands tables = replicate (tables + 1) None

@@ -1,0 +1,138 @@
+-- The checks of an event, in groups, each said once. This project's own.
+use Rattle.std.specs.Prelude.{ℕ, Bool, true, not, nat_lt, ◌==◌, ◌&&◌, ◌||◌, List, [], ◌∷◌, ◌++◌, length, Option, is_some}
+use Rattle.rulebook.specs.Checks.{first_that_holds}
+use Rattle.floor_text.specs.declared.refusal.Refusal.{Refusal}
+use Rattle.floor_text.specs.declared.refusal.Refusal.TheVariants.{PlanLate, Stopped, NameKnown, NameUnknown, NoTable, NoSeat, SeatTaken, LateClosed, Playing, NotPlaying, Lone, DeckWrong, NotOver, Over, ListFull, NotBuilt}
+use Rattle.card_set.specs.declared.card.CardRow.{CardRow}
+use Rattle.card_set.specs.Decks.{repeats_a_card}
+use Rattle.entry_list.specs.Entries.{is_known, is_full}
+use Rattle.seat_book.specs.Counts.{count_at}
+use Rattle.seat_book.specs.Players.{player_at}
+use Rattle.seat_book.specs.Tables.{status_at}
+use Rattle.table_engine.specs.Hands.{HandTerms, is_over}
+use Rattle.table_engine.specs.Acts.{act_checks}
+use Rattle.table_engine.specs.Results.{is_won_by_folds}
+use Rattle.floor_events.specs.declared.event.Event.{Event}
+use Rattle.floor_events.specs.declared.event.Event.TheVariants as events
+use Rattle.tournament_rules.specs.Books.{BookState, has_table, has_seat_number}
+
+-- a refusal, and whether its check holds
+abbrev pub Check : Type 0
+Check = Refusal × Bool
+
+-- whether a table is open: at least one player sits there
+abbrev pub is_table_open : BookState → ℕ → Bool
+is_table_open book table = has_table book table && nat_lt 0 (count_at book.seating.players table)
+
+-- whether a table may be entered: any table of the plan before the first `begin`, and an open one afterwards
+abbrev pub may_be_entered : BookState → ℕ → Bool
+may_be_entered book table = has_table book table && (book.begun == 0 || nat_lt 0 (count_at book.seating.players table))
+
+-- whether a player sits in a seat of a table
+abbrev pub is_taken : BookState → ℕ → ℕ → Bool
+is_taken book table seat = is_some (player_at book.seating.players (record { table = table; seat = seat }))
+
+-- whether the level is above the last one for entries
+abbrev pub is_late : BookState → Bool
+is_late book = nat_lt book.plan.late book.level
+
+-- whether the tournament is over: exactly one player is in, and somebody who entered is out
+abbrev pub is_over_for_all : BookState → Bool
+is_over_for_all book = length book.seating.players == 1 && nat_lt 1 (length book.entries)
+
+-- whether a hand is played at a table: from `begin` to `settle` or `stop`
+abbrev pub is_playing : BookState → ℕ → Bool
+is_playing book table = (status_at book.seating.tables table).playing
+
+-- the tournament goes on
+abbrev pub going_checks : BookState → List Check
+going_checks book = (Stopped, book.stopped) ∷ []
+
+-- nobody of that name entered yet
+abbrev pub newcomer_checks : BookState → List ℕ → List Check
+newcomer_checks book name = (NameKnown, is_known book.entries name) ∷ []
+
+-- a player may sit down at that table, in that seat
+abbrev pub seat_checks : BookState → ℕ → ℕ → List Check
+seat_checks book table seat =
+    (NoTable, not (may_be_entered book table)) ∷
+    (NoSeat, not (has_seat_number book seat)) ∷
+    (SeatTaken, is_taken book table seat) ∷ []
+
+-- entries are open
+abbrev pub entry_checks : BookState → List Check
+entry_checks book =
+    (LateClosed, is_late book) ∷
+    (Over, is_over_for_all book) ∷ []
+
+-- there is room in the entry list
+abbrev pub room_checks : List (List ℕ) → List Check
+room_checks entries = (ListFull, is_full entries) ∷ []
+
+-- all checks of an entry before that of the list's room
+abbrev pub enter_checks : BookState → List ℕ → ℕ → ℕ → List Check
+enter_checks book name table seat = going_checks book ++ newcomer_checks book name ++ seat_checks book table seat ++ entry_checks book
+
+-- a hand may begin at that table
+abbrev pub table_checks : BookState → ℕ → List Check
+table_checks book table =
+    (NoTable, not (is_table_open book table)) ∷
+    (Playing, is_playing book table) ∷
+    (Lone, count_at book.seating.players table == 1) ∷ []
+
+-- the row is a deck
+abbrev pub deck_checks : CardRow → List Check
+deck_checks row = (DeckWrong, repeats_a_card row.cards) ∷ []
+
+-- all checks of a hand that is to begin
+abbrev pub begin_checks : BookState → ℕ → CardRow → List Check
+begin_checks book table row = going_checks book ++ table_checks book table ++ deck_checks row
+
+-- somebody of that name entered
+abbrev pub known_checks : BookState → List ℕ → List Check
+known_checks book name = (NameUnknown, not (is_known book.entries name)) ∷ []
+
+-- there is such a table, and a hand is played there
+abbrev pub playing_checks : BookState → ℕ → List Check
+playing_checks book table =
+    (NoTable, not (has_table book table)) ∷
+    (NotPlaying, not (is_playing book table)) ∷ []
+
+-- all checks of an act before those of the hand
+abbrev pub before_act_checks : BookState → ℕ → List ℕ → List Check
+before_act_checks book table name = going_checks book ++ known_checks book name ++ playing_checks book table
+
+-- all checks of a settle before those of the hand
+abbrev pub before_settle_checks : BookState → ℕ → List Check
+before_settle_checks book table = going_checks book ++ playing_checks book table
+
+-- The hand may be settled. One that is over and not won by folds is not settled yet.
+abbrev pub end_checks : HandTerms → List Check
+end_checks hand =
+    (NotOver, not (is_over hand)) ∷
+    (NotBuilt, not (is_won_by_folds hand)) ∷ []
+
+-- The checks that the book makes of an event, in their order. With one table and one level, that another table has
+-- fewer players, that a table is halted, that a race is pending and that a round is open cannot hold.
+abbrev pub book_checks : BookState → Event → List Check
+book_checks book (events.Plan line) = (PlanLate, true) ∷ []
+book_checks book events.Go = (PlanLate, true) ∷ []
+book_checks book (events.Enter name table seat) = enter_checks book name table seat ++ room_checks book.entries
+book_checks book (events.Begin table row) = begin_checks book table row
+book_checks book (events.Act table name act) = before_act_checks book table name
+book_checks book (events.Settle table) = before_settle_checks book table
+book_checks book events.Stop = going_checks book
+
+-- The checks that a hand makes of an event at its table, after those of the book.
+abbrev pub hand_checks : HandTerms → Event → List Check
+hand_checks hand (events.Plan line) = []
+hand_checks hand events.Go = []
+hand_checks hand (events.Enter name table seat) = []
+hand_checks hand (events.Begin table row) = []
+hand_checks hand (events.Act table name act) = act_checks hand name
+hand_checks hand (events.Settle table) = end_checks hand
+hand_checks hand events.Stop = []
+
+-- why the book refuses an event, if it does
+unfoldable pub book_refusal : BookState → Event → Option Refusal
+book_refusal book event = first_that_holds (book_checks book event)

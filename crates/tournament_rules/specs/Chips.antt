@@ -1,0 +1,30 @@
+-- The chips of a tournament. This project's own.
+use Rattle.std.specs.Prelude.{ℕ, ◌*◌, length, sum_by}
+use Rattle.std.specs.Option.{option_map_or}
+use Rattle.table_engine.specs.Starts.{chips_of}
+use Rattle.tournament_rules.specs.Books.{BookState, players_out}
+use Rattle.tournament_rules.specs.States.{State}
+
+-- the chips sold by a book: a starting stack for each entry
+abbrev pub sold_by : BookState → ℕ
+sold_by book = length book.entries * book.plan.stack
+
+-- the chips at rest in a book: the stacks of those who are in
+abbrev pub rest_in : BookState → ℕ
+rest_in book = sum_by (λ player. player.stack) book.seating.players
+
+-- the chips in play of a book: the stacks with which the players of started hands began
+abbrev pub play_of : BookState → ℕ
+play_of book = sum_by (λ start. chips_of (players_out start)) book.out
+
+-- the chips sold, and 0 before there is a plan
+abbrev pub sold : State → ℕ
+sold state = option_map_or (λ play. sold_by play.book) state.play 0
+
+-- the chips at rest
+abbrev pub rest : State → ℕ
+rest state = option_map_or (λ play. rest_in play.book) state.play 0
+
+-- the chips in play
+abbrev pub play : State → ℕ
+play state = option_map_or (λ play. play_of play.book) state.play 0

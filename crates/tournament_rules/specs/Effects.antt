@@ -1,0 +1,114 @@
+-- What an accepted event makes of the book. This project's own.
+use Rattle.std.specs.Prelude.{ℕ, zero, suc, ◌+◌, true, false, List, [], ◌∷◌, ◌++◌, length, replicate, slice_set, Option, Some, None}
+use Rattle.std.specs.Option.{option_map_or}
+use Rattle.card_set.specs.declared.card.Card.{Card}
+use Rattle.level_plan.specs.Plans.{PlanTerms, unit_of_level}
+use Rattle.button_blinds.specs.declared.marks.Marks.{Marks}
+use Rattle.seat_book.specs.declared.seated.Seated.{Seated}
+use Rattle.seat_book.specs.declared.table_status.TableStatus.{TableStatus}
+use Rattle.seat_book.specs.Seatings.{Seating, empty_seating}
+use Rattle.seat_book.specs.Players.{sit_down}
+use Rattle.seat_book.specs.Tables.{status_at, with_status, fresh_status}
+use Rattle.table_engine.specs.declared.start.StartSeat.{StartSeat}
+use Rattle.table_engine.specs.Hands.{HandTerms}
+use Rattle.table_engine.specs.Results.{players_after}
+use Rattle.floor_events.specs.declared.event.Event.{Event}
+use Rattle.floor_events.specs.declared.event.Event.TheVariants as events
+use Rattle.tournament_rules.specs.Books.{BookState, start_at, no_hands}
+use Rattle.tournament_rules.specs.Players.{dealt_in, put_back}
+use Rattle.tournament_rules.specs.Dealing.{next_at, next_start}
+
+-- a table before any hand, with the unit of the first level
+abbrev pub first_status : PlanTerms → TableStatus
+first_status plan = record fresh_status { unit = unit_of_level plan.blinds 1 }
+
+-- nobody sits at the tables of a plan
+abbrev pub first_seating : PlanTerms → Seating
+first_seating plan = record (empty_seating plan.tables plan.seats) { tables = replicate plan.tables (first_status plan) }
+
+-- the book before any entry
+abbrev pub first_book : PlanTerms → BookState
+first_book plan = record {
+  plan = plan;
+  entries = [];
+  seating = first_seating plan;
+  out = no_hands plan.tables;
+  level = 1;
+  begun = 0;
+  accepted = 0;
+  stopped = false;
+}
+
+-- a player as he sits down, with the stack that a player starts with
+abbrev pub newcomer : BookState → List ℕ → ℕ → ℕ → Seated
+newcomer book name table seat = record {
+  place = record { table = table; seat = seat };
+  player = length book.entries;
+  name = name;
+  stack = book.plan.stack;
+}
+
+-- the book once a player entered: he sits down with the stack that a player starts with, which is sold to him
+abbrev pub entered : BookState → List ℕ → ℕ → ℕ → BookState
+entered book name table seat = record book {
+  entries = book.entries ++ name ∷ [];
+  seating = record book.seating { players = sit_down (newcomer book name table seat) book.seating.players };
+  accepted = book.accepted + 1;
+}
+
+-- a table once a hand has begun: the new marks are kept, and the table plays
+abbrev pub playing_from : Marks → TableStatus → TableStatus
+playing_from marks status = record status { marks = Some marks; playing = true }
+
+-- a table once its hand has ended: its marks are kept
+abbrev pub at_rest : TableStatus → TableStatus
+at_rest status = record status { playing = false }
+
+-- who sits where and how the tables stand, with another status of a table
+abbrev pub with_table : Seating → ℕ → (TableStatus → TableStatus) → Seating
+with_table seating table change = record seating { tables = with_status seating.tables table (change (status_at seating.tables table)) }
+
+-- the book once a hand has begun: the chips of those who are dealt in are in the hand, and its start is out
+abbrev pub begun_book : BookState → ℕ → List Card → BookState
+begun_book book table cards = record book {
+  seating = record (with_table book.seating table (playing_from (next_at book table).marks)) {
+    players = dealt_in table (next_at book table).waiting book.seating.players;
+  };
+  out = slice_set book.out table (Some (next_start book table cards));
+  begun = book.begun + 1;
+  accepted = book.accepted + 1;
+}
+
+-- the book once the hand at a table has ended, with the stacks that go back to its players
+abbrev pub ended : BookState → ℕ → List StartSeat → BookState
+ended book table payees = record book {
+  seating = record (with_table book.seating table at_rest) { players = put_back payees book.seating.players };
+  out = slice_set book.out table None;
+}
+
+-- the book once a hand is settled: its players have the stacks that they have after it
+abbrev pub settled : BookState → HandTerms → BookState
+settled book hand = record (ended book hand.start.table (players_after hand)) { accepted = book.accepted + 1 }
+
+-- the book once the hand at a table is void, if one is out: its players have the stacks with which they began it
+abbrev pub void_at : BookState → ℕ → BookState
+void_at book table = option_map_or (λ start. ended book table start.seats) (start_at book.out table) book
+
+-- the book once the hands at the first so many tables are void
+abbrev pub void_first : BookState → ℕ → BookState
+void_first book zero = book
+void_first book (suc tables) = void_at (void_first book tables) (suc tables)
+
+-- the book once the tournament is stopped: every hand in play is void
+abbrev pub stopped_book : BookState → BookState
+stopped_book book = record (void_first book book.plan.tables) { stopped = true; accepted = book.accepted + 1 }
+
+-- what an accepted event makes of the book, with the hand that it is about, if there is one
+abbrev pub book_effect : BookState → Option HandTerms → Event → BookState
+book_effect book hand (events.Plan line) = book
+book_effect book hand events.Go = book
+book_effect book hand (events.Enter name table seat) = entered book name table seat
+book_effect book hand (events.Begin table row) = begun_book book table row.cards
+book_effect book hand (events.Act table name act) = book
+book_effect book hand (events.Settle table) = option_map_or (settled book) hand book
+book_effect book hand events.Stop = stopped_book book

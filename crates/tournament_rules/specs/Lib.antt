@@ -1,0 +1,10 @@
+pub mod Books
+pub mod Players
+pub mod Dealing
+pub mod Checks
+pub mod Effects
+pub mod States
+pub mod Chips
+pub mod Report
+pub mod Valid
+pub mod Apart

@@ -1,0 +1,174 @@
+-- The state of a tournament, what an event is answered, and what it makes of the state. This project's own.
+use Rattle.std.specs.Prelude.{ℕ, ◌+◌, Bool, true, false, List, [], ◌∷◌, ◌++◌, length, replicate, slice_index_or, slice_set, Option, Some, None, is_none, option_map, unwrap_or, if◌then◌else◌}
+use Rattle.std.specs.Option.{option_map_or}
+use Rattle.rulebook.specs.Checks.{first_that_holds}
+use Rattle.floor_text.specs.declared.refusal.Refusal.{Refusal}
+use Rattle.floor_text.specs.declared.refusal.Refusal.TheVariants.{NoPlan, NotBuilt}
+use Rattle.card_set.specs.declared.game.Game.TheVariants.{Holdem, Omaha, Hilo}
+use Rattle.level_plan.specs.declared.line.PlanLine.{PlanLine}
+use Rattle.level_plan.specs.declared.line.PlanLine.TheVariants as lines
+use Rattle.level_plan.specs.Items.{is_between}
+use Rattle.level_plan.specs.Plans.{PlanTerms}
+use Rattle.level_plan.specs.Drafts.{Draft, empty_draft, is_wrong_line, item_of_line, draft_after, go_fault, plan_of}
+use Rattle.seat_book.specs.declared.seated.Seated.{Seated}
+use Rattle.table_engine.specs.declared.record.ActOf.{ActOf}
+use Rattle.table_engine.specs.Hands.{HandTerms}
+use Rattle.floor_events.specs.declared.answer.Answer.{Answer}
+use Rattle.floor_events.specs.declared.answer.Answer.TheVariants.{Ok, No, PlanWrong}
+use Rattle.floor_events.specs.declared.event.Event.{Event}
+use Rattle.floor_events.specs.declared.event.Event.TheVariants as events
+use Rattle.tournament_rules.specs.Books.{BookState, start_at}
+use Rattle.tournament_rules.specs.Checks.{book_checks, hand_checks}
+use Rattle.tournament_rules.specs.Effects.{first_book, book_effect}
+
+-- a tournament whose plan is whole: its book, and the acts of the hands that are out
+pub record PlayState : Type 0 where
+  pub book : BookState
+  -- by table number, the acts of the hand that is out
+  pub acts : List (List ActOf)
+
+pub record State : Type 0 where
+  -- what the accepted plan lines have given
+  pub draft : Draft
+  -- the tournament, once `go` is accepted
+  pub play : Option PlayState
+  -- how many events are accepted
+  pub accepted : ℕ
+
+-- before any event
+abbrev pub first_state : State
+first_state = record { draft = empty_draft; play = None; accepted = 0 }
+
+-- no act, at any of so many tables
+abbrev pub no_acts : ℕ → List (List ActOf)
+no_acts tables = replicate (tables + 1) []
+
+-- a tournament before any entry
+abbrev pub first_play : PlanTerms → PlayState
+first_play plan = record { book = first_book plan; acts = no_acts plan.tables }
+
+-- the acts of the hand that is out at a table
+abbrev pub acts_at : List (List ActOf) → ℕ → List ActOf
+acts_at acts table = slice_index_or acts table []
+
+-- the hand that is out at a table, if one is: its start, and its acts
+abbrev pub hand_at : PlayState → ℕ → Option HandTerms
+hand_at play table = option_map (λ start. record { start = start; acts = acts_at play.acts table }) (start_at play.book.out table)
+
+-- the hand that an event is about, if there is one
+abbrev pub hand_of : PlayState → Event → Option HandTerms
+hand_of play (events.Plan line) = None
+hand_of play events.Go = None
+hand_of play (events.Enter name table seat) = None
+hand_of play (events.Begin table row) = None
+hand_of play (events.Act table name act) = hand_at play table
+hand_of play (events.Settle table) = hand_at play table
+hand_of play events.Stop = None
+
+-- why an event is refused once there is a plan, if it is: the checks of the book come first, and then those of the hand
+unfoldable pub refusal_of : PlayState → Event → Option Refusal
+refusal_of play event =
+    first_that_holds (book_checks play.book event ++ option_map_or (λ hand. hand_checks hand event) (hand_of play event) [])
+
+-- games other than hold'em and more tables than one are not carried out yet
+abbrev pub is_not_built : PlanLine → Bool
+is_not_built (lines.Game Holdem) = false
+is_not_built (lines.Game Omaha) = true
+is_not_built (lines.Game Hilo) = true
+is_not_built (lines.Tables n) = is_between 2 64 n
+is_not_built (lines.Seats n) = false
+is_not_built (lines.Stack n) = false
+is_not_built (lines.Buyin n) = false
+is_not_built (lines.Late n) = false
+is_not_built (lines.Blinds small big unit) = false
+is_not_built (lines.Shares shares) = false
+
+-- the checks of a plan line
+abbrev pub line_checks : Draft → PlanLine → List (Answer × Bool)
+line_checks draft line =
+    (PlanWrong (item_of_line line), is_wrong_line draft line) ∷
+    (No NotBuilt, is_not_built line) ∷ []
+
+-- the answer to an event before there is a plan: the plan's own are checked, and all others have no plan
+abbrev pub planning_answer : Draft → Event → Answer
+planning_answer draft (events.Plan line) = unwrap_or (first_that_holds (line_checks draft line)) Ok
+planning_answer draft events.Go = option_map_or PlanWrong (go_fault draft) Ok
+planning_answer draft (events.Enter name table seat) = No NoPlan
+planning_answer draft (events.Begin table row) = No NoPlan
+planning_answer draft (events.Act table name act) = No NoPlan
+planning_answer draft (events.Settle table) = No NoPlan
+planning_answer draft events.Stop = No NoPlan
+
+-- the answer that tells this refusal, or that there is none
+abbrev pub answered : Option Refusal → Answer
+answered None = Ok
+answered (Some refusal) = No refusal
+
+-- what an event is answered
+abbrev pub answer_to : State → Event → Answer
+answer_to state event = option_map_or (λ play. answered (refusal_of play event)) state.play (planning_answer state.draft event)
+
+-- what an accepted event makes of the acts
+abbrev pub acts_effect : List (List ActOf) → Event → List (List ActOf)
+acts_effect acts (events.Plan line) = acts
+acts_effect acts events.Go = acts
+acts_effect acts (events.Enter name table seat) = acts
+acts_effect acts (events.Begin table row) = slice_set acts table []
+acts_effect acts (events.Act table name act) = slice_set acts table (acts_at acts table ++ (record { name = name; act = act; by_time = false }) ∷ [])
+acts_effect acts (events.Settle table) = slice_set acts table []
+acts_effect acts events.Stop = replicate (length acts) []
+
+-- what an accepted event makes of a tournament whose plan is whole
+abbrev pub play_effect : PlayState → Event → PlayState
+play_effect play event = record { book = book_effect play.book (hand_of play event) event; acts = acts_effect play.acts event }
+
+-- what an accepted event makes of a plan's draft, and of the tournament at `go`
+abbrev pub planning_effect : State → Event → State
+planning_effect state (events.Plan line) = record state { draft = draft_after state.draft line }
+planning_effect state events.Go = record state { play = Some (first_play (plan_of state.draft)) }
+planning_effect state (events.Enter name table seat) = state
+planning_effect state (events.Begin table row) = state
+planning_effect state (events.Act table name act) = state
+planning_effect state (events.Settle table) = state
+planning_effect state events.Stop = state
+
+-- what an accepted event makes of the state, but for the count of accepted events
+abbrev pub effect : State → Event → State
+effect state event = option_map_or (λ play. record state { play = Some (play_effect play event) }) state.play (planning_effect state event)
+
+-- whether an answer accepts its event
+abbrev pub is_accepted : Answer → Bool
+is_accepted Ok = true
+is_accepted (No refusal) = false
+is_accepted (PlanWrong item) = false
+
+-- the state after an accepted event: one more is accepted
+abbrev pub accepted : State → Event → State
+accepted state event = record (effect state event) { accepted = state.accepted + 1 }
+
+-- the state after an event: an accepted one has its effect, a refused one changes nothing
+abbrev pub state_after : State → Event → State
+state_after state event = if is_accepted (answer_to state event) then accepted state event else state
+
+-- the state after all events of a list
+abbrev pub run : State → List Event → State
+run state [] = state
+run state (event ∷ events) = run (state_after state event) events
+
+-- the players who are in, and nobody before there is a plan
+abbrev pub players_of : State → List Seated
+players_of state = option_map_or (λ play. play.book.seating.players) state.play []
+
+-- a tournament whose plan is whole after an event: an accepted one has its effect, a refused one changes nothing
+abbrev pub play_after : PlayState → Event → PlayState
+play_after play event = if is_none (refusal_of play event) then play_effect play event else play
+
+-- the answer to each event of a list, once the plan is whole
+abbrev pub answers_in_play : PlayState → List Event → List Answer
+answers_in_play play [] = []
+answers_in_play play (event ∷ events) = answered (refusal_of play event) ∷ answers_in_play (play_after play event) events
+
+-- the answer to each event of a list
+abbrev pub answers : State → List Event → List Answer
+answers state [] = []
+answers state (event ∷ events) = answer_to state event ∷ answers (state_after state event) events

@@ -1,0 +1,103 @@
+-- What holds of a book and of a state at every moment, in parts, each over its own fields. This project's own.
+use Rattle.std.specs.Prelude.{◌≡◌, ◌≤◌, ℕ, ◌+◌, ◌%◌, Bool, true, ◌==◌, ◌&&◌, nat_lt, List, length, map, filter, count_by, slice_get, Option, Some, None, is_some, if◌then◌else◌}
+use Rattle.std.specs.List.{list_all, All}
+use Rattle.std.specs.Option.{ForSome}
+use Rattle.std.specs.Str.{bytes_eq}
+use Rattle.rulebook.specs.Pairs.{are_distinct}
+use Rattle.level_plan.specs.Items.{is_between}
+use Rattle.level_plan.specs.Plans.{PlanTerms, is_right, unit_of_level}
+use Rattle.level_plan.specs.Drafts.{IsLawful}
+use Rattle.seat_book.specs.declared.seated.Seated.{Seated}
+use Rattle.seat_book.specs.Players.{sits_at, is_numbered}
+use Rattle.seat_book.specs.Tables.{status_at}
+use Rattle.seat_book.specs.Seatings.{Seating, IsSeating}
+use Rattle.table_engine.specs.declared.start.HandStart.{HandStart}
+use Rattle.table_engine.specs.declared.start.StartSeat.{StartSeat}
+use Rattle.table_engine.specs.Starts.{IsLawfulStart}
+use Rattle.table_engine.specs.Plays.{IsLawfulPlay}
+use Rattle.tournament_rules.specs.Books.{BookState, start_at, players_out}
+use Rattle.tournament_rules.specs.Players.{start_seat}
+use Rattle.tournament_rules.specs.Chips.{sold_by, rest_in, play_of}
+use Rattle.tournament_rules.specs.States.{State, PlayState, hand_at}
+
+-- The plan is right, and the level is one of its levels.
+pub record IsPlanned (plan : PlanTerms) (level : ℕ) : Type 0 where
+  pub right : is_right plan ≡ true
+  pub first : 1 ≤ level
+  pub last : level ≤ length plan.blinds
+
+-- how many seats the player of a number has: one where he entered, and else none
+abbrev pub seats_owed : List (List ℕ) → ℕ → ℕ
+seats_owed entries number = if nat_lt number (length entries) then 1 else 0
+
+-- The entries and the players who sit agree.
+pub record AreEntered (entries : List (List ℕ)) (players : List Seated) : Type 0 where
+  -- the entry list is not overfull
+  pub few : length entries ≤ 640
+  -- each entered player has exactly one seat, and nobody else has one
+  pub seated : (number : ℕ) → count_by (is_numbered number) players ≡ seats_owed entries number
+  -- everyone sits under the name with which they entered
+  pub named : All (λ player. slice_get entries player.player ≡ Some player.name) players
+  -- no two have one name
+  pub apart : are_distinct bytes_eq (map (λ player. player.name) players) ≡ true
+
+-- The seating is that of the plan's tables, and a table is playing just where a start is out.
+pub record IsFitting (plan : PlanTerms) (seating : Seating) (out : List (Option HandStart)) : Type 0 where
+  pub lawful : IsSeating seating
+  pub tables : seating.table_count ≡ plan.tables
+  pub seats : seating.seat_count ≡ plan.seats
+  -- there is room for a start at each table, and none at 0
+  pub room : length out ≡ plan.tables + 1
+  pub nobody : start_at out 0 ≡ None
+  pub playing : (table : ℕ) → (status_at seating.tables table).playing ≡ is_some (start_at out table)
+
+-- whether a player sits at a table with nothing at rest: his chips are in the hand there
+abbrev pub is_lent : ℕ → Seated → Bool
+is_lent table player = sits_at table player && player.stack == 0
+
+-- a player of a start without his chips
+abbrev pub without_stack : StartSeat → StartSeat
+without_stack player = record player { stack = 0 }
+
+-- What is so of a start that is out at a table: it is that table's, lawful, and of the plan's seats and the level's unit.
+pub record IsStartAt (plan : PlanTerms) (level table : ℕ) (start : HandStart) : Type 0 where
+  pub here : start.table ≡ table
+  pub lawful : IsLawfulStart start
+  pub seats : start.seat_count ≡ plan.seats
+  pub unit : start.unit ≡ unit_of_level plan.blinds level
+
+-- The starts that are out are lawful, and their players sit at their tables.
+pub record AreOut (plan : PlanTerms) (level : ℕ) (players : List Seated) (out : List (Option HandStart)) : Type 0 where
+  pub starts : (table : ℕ) → ForSome (start_at out table) (IsStartAt plan level table)
+  -- those who have nothing at rest are, in number, name and seat, the players of the start that is out at their table
+  pub lent : (table : ℕ) → map start_seat (filter (is_lent table) players) ≡ map without_stack (players_out (start_at out table))
+
+-- Chips are neither made nor lost, and every stack at rest is a multiple of the unit.
+pub record AreChips (book : BookState) : Type 0 where
+  pub kept : sold_by book ≡ rest_in book + play_of book
+  pub whole : list_all (λ player. player.stack % unit_of_level book.plan.blinds book.level == 0) book.seating.players ≡ true
+  -- the tables' unit is that of the level
+  pub units : (table : ℕ) → is_between 1 book.plan.tables table ≡ true → (status_at book.seating.tables table).unit ≡ unit_of_level book.plan.blinds book.level
+
+-- What holds of a book at every moment.
+pub record IsValid (book : BookState) : Type 0 where
+  pub plan : IsPlanned book.plan book.level
+  pub entries : AreEntered book.entries book.seating.players
+  pub tables : IsFitting book.plan book.seating book.out
+  pub hands : AreOut book.plan book.level book.seating.players book.out
+  pub chips : AreChips book
+  -- a hand that began was an event
+  pub counted : book.begun ≤ book.accepted
+
+-- What holds of a tournament whose plan is whole at every moment: each hand that is out is a lawful play of its start.
+pub record IsValidPlay (play : PlayState) : Type 0 where
+  pub book : IsValid play.book
+  pub room : length play.acts ≡ play.book.plan.tables + 1
+  pub plays : (table : ℕ) → ForSome (hand_at play table) IsLawfulPlay
+
+-- What holds of a state at every moment.
+pub record IsValidState (state : State) : Type 0 where
+  pub draft : IsLawful state.draft
+  pub play : ForSome state.play IsValidPlay
+  -- what the book accepted is accepted
+  pub counted : ForSome state.play (λ play. play.book.accepted ≤ state.accepted)

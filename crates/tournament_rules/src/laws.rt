@@ -1,0 +1,85 @@
+//! Laws of the tournament, over every list of events, lawful or not.
+
+ghost use Rattle.std.specs.Prelude.{◌≡◌, ◌+◌, ◌<◌, ◌≤◌, ◌%◌, ℕ, List, true, false, Some, None, length, map, filter, count_by, slice_get};
+ghost use Rattle.std.specs.List.{All};
+ghost use Rattle.std.specs.Option.{ForSome};
+ghost use Rattle.level_plan.specs.Plans.{PlanTerms, is_right};
+ghost use Rattle.level_plan.specs.Drafts.{plan_of};
+ghost use Rattle.card_set.specs.declared.card.CardRow.{CardRow};
+ghost use Rattle.floor_events.specs.declared.event.Event.{Event};
+ghost use Rattle.floor_events.specs.declared.event.Event.TheVariants.{Go, Begin};
+ghost use Rattle.floor_events.specs.declared.answer.Answer.TheVariants.{Ok};
+ghost use Rattle.seat_book.specs.Players.{is_numbered, sits_at, are_in_order};
+ghost use Rattle.seat_book.specs.Tables.{status_at};
+ghost use Rattle.table_engine.specs.Starts.{IsLawfulStart};
+ghost use Rattle.table_engine.specs.Plays.{IsLawfulPlay};
+ghost use Rattle.tournament_rules.specs.Books.{start_at, players_out};
+ghost use Rattle.tournament_rules.specs.Players.{is_in_hand, start_seat};
+ghost use Rattle.tournament_rules.specs.Dealing.{next_start};
+ghost use Rattle.tournament_rules.specs.States.{first_state, first_play, hand_at, answer_to, answers, answers_in_play, state_after, run, players_of};
+ghost use Rattle.tournament_rules.specs.Chips.{sold, rest, play};
+ghost use Rattle.tournament_rules.specs.Valid.{without_stack};
+ghost use Rattle.tournament_rules.specs.Apart.{first_apart, answers_apart};
+
+/// After any list of events, lawful or not, the chips sold are those at rest and those in play.
+pub fn chips_are_kept()
+    ensures { (events : List Event)
+        → sold (run first_state events) ≡ rest (run first_state events) + play (run first_state events) }
+{}
+
+/// After any list of events, lawful or not, the players are listed by table, at one table in rising seat, and no two
+/// of them sit in one seat.
+pub fn players_are_in_order()
+    ensures { (events : List Event) → are_in_order (players_of (run first_state events)) ≡ true }
+{}
+
+/// After any list of events, each entered player has exactly one seat, under the name with which they entered.
+pub fn each_entry_has_one_seat()
+    ensures one { (events : List Event) → ForSome (run first_state events).play (λ play. (number : ℕ)
+        → number < length play.book.entries → count_by (is_numbered number) play.book.seating.players ≡ 1) }
+    ensures named { (events : List Event) → ForSome (run first_state events).play (λ play.
+        All (λ player. slice_get play.book.entries player.player ≡ Some player.name) play.book.seating.players) }
+{}
+
+/// After any list of events, a player who sits and is in no started hand has a stack above 0 that is a multiple of
+/// the table's unit.
+pub fn stacks_are_lawful()
+    ensures above { (events : List Event) → ForSome (run first_state events).play (λ play.
+        All (λ player. is_in_hand play.book.out player ≡ false → 0 < player.stack) play.book.seating.players) }
+    ensures multiple { (events : List Event) → ForSome (run first_state events).play (λ play.
+        All (λ player. player.stack % (status_at play.book.seating.tables player.place.table).unit ≡ 0)
+        play.book.seating.players) }
+{}
+
+/// After any list of events, the players who are in a hand are, in number, name and seat, those of its start, and
+/// they have nothing at rest.
+pub fn hands_have_their_players()
+    ensures { (events : List Event) (table : ℕ) → ForSome (run first_state events).play (λ play.
+        map start_seat (filter (is_in_hand play.book.out) (filter (sits_at table) play.book.seating.players))
+        ≡ map without_stack (players_out (start_at play.book.out table))) }
+{}
+
+/// After any list of events, each hand that is out started lawfully, and its acts are a lawful play of that start.
+pub fn hands_are_lawful_plays()
+    ensures start { (events : List Event) (table : ℕ) → ForSome (run first_state events).play (λ play.
+        ForSome (hand_at play table) (λ hand. IsLawfulStart hand.start)) }
+    ensures play { (events : List Event) (table : ℕ) → ForSome (run first_state events).play (λ play.
+        ForSome (hand_at play table) IsLawfulPlay) }
+{}
+
+/// After any list of events, a hand that begins starts lawfully.
+pub fn starts_are_lawful()
+    ensures { (events : List Event) (table : ℕ) (row : CardRow) → ForSome (run first_state events).play (λ play.
+        answer_to (run first_state events) (Begin table row) ≡ Ok → IsLawfulStart (next_start play.book table row.cards)) }
+{}
+
+/// A book and the hands that are out, each by itself, run over any list of events, answer as the tournament does: as
+/// one that begins with the plan, and as any whose plan an accepted `go` has just made whole.
+pub fn a_book_and_its_hands_answer_alike()
+    ensures plan { (plan : PlanTerms) (events : List Event) → is_right plan ≡ true
+        → answers_apart (first_apart plan) events ≡ answers_in_play (first_play plan) events }
+    ensures tournament { (before events : List Event) → (run first_state before).play ≡ None
+        → answer_to (run first_state before) Go ≡ Ok
+        → answers_apart (first_apart (plan_of (run first_state before).draft)) events
+        ≡ answers (state_after (run first_state before) Go) events }
+{}

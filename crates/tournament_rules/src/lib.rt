@@ -1,0 +1,13 @@
+//! The rules of a tournament: its state, what an event is answered, what it makes of the state, and what holds of
+//! every list of events.
+//!
+//! It has definitions and laws, and no code but the laws' functions. What carries the events out stands on it.
+#![tactic(auto)]
+
+mod laws;
+
+pub use laws::{
+    a_book_and_its_hands_answer_alike, chips_are_kept, each_entry_has_one_seat,
+    hands_are_lawful_plays, hands_have_their_players, players_are_in_order, stacks_are_lawful,
+    starts_are_lawful,
+};
