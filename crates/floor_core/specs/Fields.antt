@@ -1,16 +1,16 @@
--- What contracts see of the fields of a tournament. This project's own.
-use Rattle.floor_core.specs.declared.tournament.Tournament.TheInside.{Inside}
-use Rattle.floor_core.specs.State.{State}
+-- What contracts see of the fields of a book. This project's own.
+use Rattle.floor_core.specs.declared.book.Book.TheInside.{Inside}
+use Rattle.tournament_rules.specs.Books.{BookState}
 
 -- the fields without the allocator
-abbrev pub state_of : Inside → State
-state_of fields = record {
-  draft = fields.draft;
+abbrev pub book_of : Inside → BookState
+book_of fields = record {
   plan = fields.plan;
-  entries = fields.entries.items;
-  seats = fields.seats.items;
-  tables = fields.tables.items;
+  entries = fields.entries;
+  seating = fields.seats;
+  out = fields.out.items;
   level = fields.level;
   begun = fields.begun;
+  accepted = fields.accepted;
   stopped = fields.stopped;
 }

@@ -1,11 +1,4 @@
-pub mod Places
-pub mod State
-pub mod Dealing
-pub mod Step
-pub mod Refusals
-pub mod Run
-pub mod Report
-pub mod Order
-pub mod Starts
-pub mod Valid
 pub mod Fields
+pub mod Orders
+pub mod Pay
+pub mod Seats

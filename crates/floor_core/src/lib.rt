@@ -1,25 +1,27 @@
-//! The tournament: its state, and what each event makes of it.
+//! The tournament, event by event: a book, and hands apart.
 //!
-//! It stands on floor_events, level_plan, table_engine, button_blinds and the crates below them.
-//! `Tournament::apply` answers an event by the first check that holds, and changes the state just as the
-//! definition says; `Tournament::report` reports it. `chips_are_kept` and
-//! `players_are_in_order` are laws of the step over any list of events.
+//! It stands on tournament_rules, whose definitions say what each event is answered and what it makes of the state.
+//! `Book` keeps all of a tournament but the acts of the hands that are out: who entered, who sits where, and the
+//! starts of those hands. `Tournament` is a plan's draft until `go`, and then a book and its hands by table.
 #![tactic(auto)]
 
-mod acting;
-mod beginning;
-mod checks;
-mod ending;
-mod entering;
-mod laws;
-mod planning;
-mod seated;
-mod standing;
+mod act;
+mod begin;
+mod book;
+mod enter;
+mod order;
+mod pay;
+mod plan;
+mod play;
+mod report;
+mod settle;
+mod slots;
+mod stop;
 mod table;
 mod tournament;
 
-pub use laws::{chips_are_kept, players_are_in_order};
-pub use seated::Seated;
+pub use book::Book;
+pub use table_engine::ActFault as BookFault;
 pub use tournament::Tournament;
 
 #[cfg(test)]

@@ -1,102 +1,158 @@
-//! A tournament, event by event.
+//! The sequential tournament.
 
-ghost use Rattle.std.specs.Prelude.{◌≡◌, ◌+◌, ◌<◌, ◌^◌, ℕ, sum_by, IfOk, OnOk, OnErr};
+ghost use Rattle.std.specs.Prelude.{◌≡◌, ◌<◌, ◌^◌, ℕ, true, None, is_some, if◌then◌else◌, IfOk, OnOk, OnErr};
+ghost use Rattle.std.specs.Option.{ForSome};
 ghost use Rattle.floor_events.specs.declared.answer.Answer.TheVariants as answers;
 ghost use Rattle.floor_events.specs.declared.event.Event.TheVariants as events;
 ghost use Rattle.card_set.specs.declared.card.CardRow.{CardRow};
-ghost use Rattle.floor_core.specs.State.{first_state};
-ghost use Rattle.floor_core.specs.Dealing.{next_start};
-ghost use Rattle.floor_core.specs.Starts.{IsLawfulStart};
-ghost use Rattle.floor_core.specs.Step.{answer_to, state_after};
-ghost use Rattle.floor_core.specs.Report.{report_of, play_at};
+ghost use Rattle.table_engine.specs.Starts.{IsLawfulStart};
+ghost use Rattle.tournament_rules.specs.Dealing.{next_start};
+ghost use Rattle.tournament_rules.specs.States.{first_state, answer_to, state_after, effect, is_accepted};
+ghost use Rattle.tournament_rules.specs.Valid.{IsValid};
+ghost use Rattle.tournament_rules.specs.Report.{report_of, empty_report};
 
-use crate::seated::{Seated, all_reported, rest_of};
-use crate::table::{Table, play_of};
+use crate::BookFault;
+use crate::plan::take_line;
+use crate::play::Play;
 use floor_events::{Answer, Event, Report};
-use floor_text::{List, Name};
-use level_plan::{Plan, PlanDraft};
+use floor_text::{List, Refusal};
+use level_plan::{PlanDraft, PlanFault};
 use std::alloc::{AllocError, Global};
 use std::marker::Model;
 
-/// The sequential tournament. Contracts see it as a `State`.
+/// The sequential tournament: a plan's draft until `go`, and then a book and its hands. Contracts see it as a
+/// `State`.
 #[derive(Debug, Drop)]
 pub struct Tournament {
-    pub(crate) alloc: Global,
-    pub(crate) draft: PlanDraft,
-    pub(crate) plan: Option<Plan>,
-    pub(crate) entries: Vec<Name>,
-    pub(crate) seats: Vec<Seated>,
-    pub(crate) tables: Vec<Table>,
-    pub(crate) level: u64,
-    pub(crate) begun: u64,
-    pub(crate) stopped: bool,
+    alloc: Global,
+    draft: PlanDraft,
+    play: Option<Play>,
+    accepted: u64,
 }
 
 impl Model for Tournament {
-    ghost use Rattle.floor_core.specs.State.{State};
-    ghost use Rattle.floor_core.specs.Fields.{state_of};
-    ghost use Rattle.floor_core.specs.Valid.{IsValid};
+    ghost use Rattle.std.specs.Prelude.{◌≤◌};
+    ghost use Rattle.std.specs.Option.{ForSome};
+    ghost use Rattle.tournament_rules.specs.States.{State};
 
     ghost Value = { State };
 
-    ghost view = { state_of };
+    ghost view = { λ fields. record { draft = fields.draft; play = fields.play; accepted = fields.accepted } };
 
-    ghost invariant = { λ fields. IsValid (state_of fields) };
+    // What the book accepted is accepted.
+    ghost invariant = { λ fields. ForSome fields.play (λ play. play.book.accepted ≤ fields.accepted) };
 }
 
 impl Tournament {
-    /// A tournament before any event.
+    /// Makes a tournament before any event.
     pub fn new(alloc: Global) -> Result<Tournament, AllocError>
         ensures { IfOk result (λ tournament. tournament ≡ first_state) }
     {
         Ok(Tournament {
             alloc,
             draft: PlanDraft::new(alloc),
-            plan: None,
-            entries: Vec::new(alloc),
-            seats: Vec::new(alloc),
-            tables: Vec::new(alloc),
-            level: 0,
-            begun: 0,
-            stopped: false,
+            play: None,
+            accepted: 0,
         })
+    }
+
+    /// Takes an event while there is no plan: the plan's lines and its end, and no other.
+    fn plan(&mut self, event: &Event) -> Result<Answer, AllocError>
+        requires { self.old.play ≡ None }
+        ensures answer { IfOk result (λ answer. answer ≡ answer_to self.old event.now) }
+        ensures state { OnOk result (self.new ≡ (if is_accepted (answer_to self.old event.now) then effect self.old event.now else self.old)) }
+        ensures err { OnErr result (self.new ≡ self.old) }
+        ensures lawful { OnErr result (answer_to self.old event.now ≡ answers.Ok) }
+    {
+        match event {
+            Event::Plan(line) => take_line(&mut self.draft, line),
+            Event::Go => self.go(),
+            _ => Ok(Answer::No(Refusal::NoPlan)),
+        }
+    }
+
+    /// Ends the plan.
+    fn go(&mut self) -> Result<Answer, AllocError>
+        requires { self.old.play ≡ None }
+        ensures answer { IfOk result (λ answer. answer ≡ answer_to self.old events.Go) }
+        ensures state { OnOk result (self.new ≡ (if is_accepted (answer_to self.old events.Go) then effect self.old events.Go else self.old)) }
+        ensures err { OnErr result (self.new ≡ self.old) }
+        ensures lawful { OnErr result (answer_to self.old events.Go ≡ answers.Ok) }
+    {
+        match self.draft.go() {
+            Ok(plan) => {
+                self.play = Some(Play::new(self.alloc, plan)?);
+                Ok(Answer::Ok)
+            }
+            Err(PlanFault::Wrong(item)) => Ok(Answer::PlanWrong(item)),
+            Err(PlanFault::NoMemory) => Err(AllocError),
+        }
+    }
+
+    /// Takes an event once there is a plan.
+    fn play(&mut self, event: &Event) -> Result<Answer, AllocError>
+        requires few { self.old.accepted < 2 ^ 60 }
+        requires playing { is_some self.old.play ≡ true }
+        ensures answer { IfOk result (λ answer. answer ≡ answer_to self.old event.now) }
+        ensures state { OnOk result (self.new ≡ state_after self.old event.now) }
+        ensures err { OnErr result (self.new ≡ self.old) }
+        ensures lawful { OnErr result (answer_to self.old event.now ≡ answers.Ok) }
+        ensures valid { ForSome self.old.play (λ play. IsValid play.book) }
+    {
+        match self.play.as_mut().unwrap().take(event) {
+            Ok(()) => {
+                self.accepted += 1;
+                Ok(Answer::Ok)
+            }
+            Err(BookFault::No(refusal)) => Ok(Answer::No(refusal)),
+            Err(BookFault::NoMemory) => Err(AllocError),
+        }
     }
 
     /// Answers an event by the first check that holds, and carries it out where none does. A refused event and
     /// want of memory change nothing, and memory is wanted only for an event that meets no check.
     pub fn apply(&mut self, event: &Event) -> Result<Answer, AllocError>
+        requires { self.old.accepted < 2 ^ 60 }
         ensures answer { IfOk result (λ answer. answer ≡ answer_to self.old event.now) }
         ensures state { OnOk result (self.new ≡ state_after self.old event.now) }
         ensures err { OnErr result (self.new ≡ self.old) }
         ensures lawful { OnErr result (answer_to self.old event.now ≡ answers.Ok) }
         // A hand that begins starts lawfully.
-        ensures start { (table : ℕ) (row : CardRow) → event.now ≡ events.Begin table row → IfOk result (λ answer. answer ≡ answers.Ok → IsLawfulStart (next_start self.old table row.cards)) }
+        ensures start { (table : ℕ) (row : CardRow) → event.now ≡ events.Begin table row → IfOk result (λ answer. answer ≡ answers.Ok → ForSome self.old.play (λ play. IsLawfulStart (next_start play.book table row.cards))) }
     {
-        match event {
-            Event::Plan(line) => self.plan_line(line),
-            Event::Go => self.go(),
-            Event::Enter { name, table, seat } => self.enter(*name, *table, *seat),
-            Event::Begin { table, row } => self.begin(*table, row),
-            Event::Act { table, name, act } => self.act(*table, *name, *act),
-            Event::Settle { table } => Ok(self.settle(*table)),
-            Event::Stop => Ok(self.stop()),
+        if self.play.is_some() {
+            return self.play(event);
         }
+        let answer = self.plan(event)?;
+        if answer == Answer::Ok {
+            self.accepted += 1;
+        }
+        Ok(answer)
     }
 
-    /// The report of the tournament as it stands.
+    /// Reports the tournament as it stands.
     pub fn report(&self) -> Result<Report, AllocError>
         ensures { IfOk result (λ report. report ≡ report_of self.now) }
     {
-        let stack = self.plan.as_ref().map_or(0, |plan| plan.stack);
-        Ok(Report {
-            level: self.level,
-            sold: self.entries.len() as u64 * stack,
-            removed: 0,
-            added: 0,
-            rest: rest_of(&self.seats),
-            play: play_of(&self.tables),
-            seats: all_reported(self.alloc, &self.seats)?,
-            outs: List::new(self.alloc),
-        })
+        match &self.play {
+            Some(play) => play.book.report(),
+            None => Ok(empty_report(self.alloc)),
+        }
+    }
+}
+
+/// Reports a tournament that has no plan.
+fn empty_report(alloc: Global) -> Report
+    ensures { result ≡ empty_report }
+{
+    Report {
+        level: 0,
+        sold: 0,
+        removed: 0,
+        added: 0,
+        rest: 0,
+        play: 0,
+        seats: List::new(alloc),
+        outs: List::new(alloc),
     }
 }

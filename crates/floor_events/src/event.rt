@@ -5,15 +5,6 @@ use card_set::CardRow;
 use floor_text::Name;
 use level_plan::PlanLine;
 
-/// A seat of a table.
-#[derive(Clone, Copy, Debug, PartialEq, Eq)]
-pub struct Place {
-    /// The table's number, from 1.
-    pub table: u8,
-    /// The seat's number, from 1, clockwise.
-    pub seat: u8,
-}
-
 /// An event of the tournament.
 #[derive(Debug, Drop)]
 pub enum Event {

@@ -18,7 +18,7 @@ mod share_list;
 
 pub use answer::Answer;
 pub use answer_writer::write_answer;
-pub use event::{Event, Item, Place};
+pub use event::{Event, Item};
 pub use item_reader::read_item;
 pub use report::{Report, ReportOut, ReportSeat};
 pub use report_writer::write_report;

@@ -1,7 +1,7 @@
 //! The state of the tournament as it is reported.
 
-use crate::event::Place;
 use floor_text::{List, Name};
+use seat_book::Place;
 
 /// Where the chips and the players are. All amounts are chips.
 #[derive(Debug, Drop)]

@@ -1,0 +1,13 @@
+use Rattle.std.proofs.Common.{◌≡◌, ◌∙◌, sym, ap, subst, true}
+use Rattle.level_plan.specs.Plans.{PlanTerms, is_right}
+use Rattle.tournament_rules.specs.Books.{no_hands}
+use Rattle.floor_core.proofs.Entered.{first_state_of}
+use Rattle.tournament_rules.specs.Valid.{IsValid}
+use Rattle.tournament_rules.proofs.Entries.{valid_first}
+use Rattle.floor_core.proofs.book.Book.new.Goals as goal
+
+pub invariant_of-result : goal.invariant_of-result
+invariant_of-result c =
+    let right : is_right c.args.plan ≡ true = rw (sym c.plan.view_is) c.plan.invariant in
+    let out : c.in_ok-out.out.items ≡ no_hands c.args.plan.tables = c.in_ok-out.ensures ∙ ap (λ (plan : PlanTerms). no_hands plan.tables) c.plan.view_is in
+    subst IsValid (sym (first_state_of c.args.plan c.new.result c.in_ok-seats.seats c.in_ok-out.out.items c.new.ensures c.in_ok-seats.ensures out)) (valid_first c.args.plan right)

@@ -1,0 +1,34 @@
+use Rattle.std.proofs.Common.{◌≡◌, ◌∙◌, sym, ap, subst, ℕ}
+use Rattle.std.specs.Prelude.{slice_set, Option, Some, None}
+use Rattle.table_engine.specs.declared.start.HandStart.{HandStart}
+use Rattle.table_engine.specs.Plays.{hand_of}
+use Rattle.table_engine.specs.Results.{with_stacks, players_after}
+use Rattle.table_engine.proofs.Stacks.{players-of_record}
+use Rattle.tournament_rules.specs.Books.{BookState, start_at}
+use Rattle.tournament_rules.specs.Effects.{settled}
+use Rattle.tournament_rules.specs.Valid.{IsValid}
+use Rattle.tournament_rules.proofs.Ends.{valid_settled}
+use Rattle.floor_core.specs.Fields.{book_of}
+use Rattle.floor_core.proofs.Begun.{settled_state}
+use Rattle.floor_core.proofs.book.Book.settle.Goals as goal
+
+pub invariant_of-self : goal.invariant_of-self
+invariant_of-self c =
+    let book = book_of c.self.inside in
+    let hand = hand_of c.args.done.now in
+    let payees : with_stacks c.items.result.now c.items-2.result.now ≡ players_after hand = rw (c.items.ensures, c.items-2.ensures) (players-of_record c.args.done.now c.requires.play) in
+    let none : Option HandStart = None in
+    let out = ap (λ (index : ℕ). slice_set c.self.inside.out.items index none) c.from.ensures in
+    let state = settled_state book hand (with_stacks c.items.result.now c.items-2.result.now) c.pay_stacks.new.seats c.rest_table.new.seats (slice_set c.self.inside.out.items c.from.result None) payees c.pay_stacks.ensures.paid c.rest_table.ensures out in
+    let is : start_at book.out hand.start.table ≡ Some hand.start = ap (λ (book : BookState). start_at book.out hand.start.table) c.self.view_is ∙ c.requires.out in
+    subst IsValid (sym state) (valid_settled book hand c.self.invariant is c.requires.play.play c.requires.play.won)
+
+pub returns : goal.returns
+returns c =
+    let book = book_of c.self.inside in
+    let hand = hand_of c.args.done.now in
+    let payees : with_stacks c.items.result.now c.items-2.result.now ≡ players_after hand = rw (c.items.ensures, c.items-2.ensures) (players-of_record c.args.done.now c.requires.play) in
+    let none : Option HandStart = None in
+    let out = ap (λ (index : ℕ). slice_set c.self.inside.out.items index none) c.from.ensures in
+    let state = settled_state book hand (with_stacks c.items.result.now c.items-2.result.now) c.pay_stacks.new.seats c.rest_table.new.seats (slice_set c.self.inside.out.items c.from.result None) payees c.pay_stacks.ensures.paid c.rest_table.ensures out in
+    state ∙ ap (λ (book : BookState). settled book hand) c.self.view_is

@@ -1,0 +1,21 @@
+-- The events that the book takes by itself. This project's own.
+use Rattle.std.specs.Prelude.{Bool, true, false, None, is_none, if◌then◌else◌}
+use Rattle.floor_events.specs.declared.event.Event.{Event}
+use Rattle.floor_events.specs.declared.event.Event.TheVariants as events
+use Rattle.tournament_rules.specs.Books.{BookState}
+use Rattle.tournament_rules.specs.Checks.{book_refusal}
+use Rattle.tournament_rules.specs.Effects.{book_effect}
+
+-- a player enters, or the tournament is stopped
+abbrev pub is_order : Event → Bool
+is_order (events.Plan line) = false
+is_order events.Go = false
+is_order (events.Enter name table seat) = true
+is_order (events.Begin table row) = false
+is_order (events.Act table name act) = false
+is_order (events.Settle table) = false
+is_order events.Stop = true
+
+-- the book after an order: one that is not refused has its effect, a refused one changes nothing
+abbrev pub book_after : BookState → Event → BookState
+book_after book event = if is_none (book_refusal book event) then book_effect book None event else book

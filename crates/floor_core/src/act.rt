@@ -1,0 +1,46 @@
+//! What the book says of an act and of a settle, before the hand is asked.
+
+ghost use Rattle.std.specs.Prelude.{◌≡◌, ◌<◌, length, Some, IfOk, IsSome};
+ghost use Rattle.table_engine.specs.declared.start.HandStart.{HandStart};
+ghost use Rattle.rulebook.specs.Checks.{IsChecked};
+ghost use Rattle.tournament_rules.specs.Books.{start_at};
+ghost use Rattle.tournament_rules.specs.Checks.{known_checks, before_act_checks, before_settle_checks};
+
+use crate::book::Book;
+use floor_text::{Name, Refusal};
+
+impl Book {
+    /// Checks that somebody of that name entered.
+    fn check_known(&self, name: Name) -> Result<(), Refusal>
+        ensures { IsChecked (known_checks self.now name) result }
+    {
+        if self.entries.find(name).is_none() {
+            return Err(Refusal::NameUnknown);
+        }
+        Ok(())
+    }
+
+    /// Makes the checks of an act before those of the hand, and gives the table's number.
+    pub(crate) fn check_act(&self, table: u64, name: Name) -> Result<u8, Refusal>
+        ensures checked { IsChecked (before_act_checks self.now table name) result }
+        ensures same { IfOk result (λ number. number ≡ table) }
+        ensures within { IfOk result (λ number. number < length self.now.out) }
+        ensures out { IfOk result (λ number. IsSome (start_at self.now.out number)) }
+    {
+        self.check_going()?;
+        self.check_known(name)?;
+        self.check_playing(table)
+    }
+
+    /// Makes the checks of a settle before those of the hand, and gives the table's number.
+    pub(crate) fn check_settle(&self, table: u64) -> Result<u8, Refusal>
+        ensures checked { IsChecked (before_settle_checks self.now table) result }
+        ensures same { IfOk result (λ number. number ≡ table) }
+        ensures within { IfOk result (λ number. number < length self.now.out) }
+        ensures out { IfOk result (λ number. IsSome (start_at self.now.out number)) }
+        ensures here { IfOk result (λ number. (start : HandStart) → start_at self.now.out number ≡ Some start → start.table ≡ number) }
+    {
+        self.check_going()?;
+        self.check_playing(table)
+    }
+}

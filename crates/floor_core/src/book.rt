@@ -1,0 +1,114 @@
+//! The book of a tournament.
+
+ghost use Rattle.std.specs.Prelude.{◌≡◌, length, IfOk};
+ghost use Rattle.seat_book.specs.Players.{players_in};
+ghost use Rattle.seat_book.specs.Tables.{IsStatusOf};
+ghost use Rattle.tournament_rules.specs.Effects.{first_book, first_seating, first_status};
+ghost use Rattle.tournament_rules.specs.Checks.{is_over_for_all};
+ghost use Rattle.tournament_rules.specs.Valid.{IsValid};
+
+use crate::slots::empty_slots;
+use entry_list::EntryList;
+use level_plan::Plan;
+use seat_book::{SeatBook, Seated, TableStatus};
+use std::alloc::{AllocError, Global};
+use std::marker::Model;
+use table_engine::HandStart;
+
+/// The book: who entered, who sits where, and the starts of the hands that are out. It keeps no acts. Contracts see
+/// it as a `BookState`.
+#[derive(Debug, Drop)]
+pub struct Book {
+    pub(crate) alloc: Global,
+    pub(crate) plan: Plan,
+    pub(crate) entries: EntryList,
+    pub(crate) seats: SeatBook,
+    /// By table number, the start of the hand that is out. There is no table 0, so its slot stays empty.
+    pub(crate) out: Vec<Option<HandStart>>,
+    pub(crate) level: u64,
+    pub(crate) begun: u64,
+    pub(crate) accepted: u64,
+    pub(crate) stopped: bool,
+}
+
+impl Model for Book {
+    ghost use Rattle.tournament_rules.specs.Books.{BookState};
+    ghost use Rattle.tournament_rules.specs.Valid.{IsValid};
+
+    ghost Value = { BookState };
+
+    ghost use Rattle.floor_core.specs.Fields.{book_of};
+
+    ghost view = { book_of };
+
+    ghost invariant = { λ fields. IsValid (book_of fields) };
+}
+
+/// Tells how a table stands before any hand, with the unit of the first level.
+fn first_status(plan: &Plan) -> TableStatus
+    ensures status { result ≡ first_status plan.now }
+    ensures lawful { IsStatusOf plan.now.seats result }
+{
+    let unit = plan.blinds.items()[0].unit;
+    TableStatus {
+        unit,
+        ..TableStatus::fresh()
+    }
+}
+
+/// Sets up the seats of a plan's tables, whose unit is that of the first level.
+fn first_seats(alloc: Global, plan: &Plan) -> Result<SeatBook, AllocError>
+    ensures { IfOk result (λ seats. seats ≡ first_seating plan.now) }
+{
+    let mut seats = SeatBook::new(alloc, plan.tables as u8, plan.seats as u8)?;
+    let status = first_status(plan);
+    for below in 0..seats.table_count() {
+        seats.set_status(below + 1, status);
+    }
+    Ok(seats)
+}
+
+/// Counts the players who sit in these slots.
+#[tactic(auto, using(crate::proofs::InSlots::length_players))]
+fn count_players(slots: &[Option<Seated>]) -> usize
+    ensures { result ≡ length (players_in slots.now) }
+{
+    slots.iter().filter(|slot| slot.is_some()).count()
+}
+
+impl Book {
+    /// Opens the book of a plan, before any entry. Want of memory is the only error.
+    #[tactic(auto, using(tournament_rules::proofs::Entries::valid_first))]
+    pub fn new(alloc: Global, plan: Plan) -> Result<Book, AllocError>
+        ensures { IfOk result (λ book. book ≡ first_book plan) }
+    {
+        let seats = first_seats(alloc, &plan)?;
+        let out = empty_slots(alloc, plan.tables as usize + 1)?;
+        Ok(Book {
+            alloc,
+            plan,
+            entries: EntryList::new(alloc),
+            seats,
+            out,
+            level: 1,
+            begun: 0,
+            accepted: 0,
+            stopped: false,
+        })
+    }
+
+    /// Gives the seats: who sits where, with which stack at rest, and how each table stands.
+    pub fn seats(&self) -> &SeatBook
+        ensures seats { result.now ≡ self.now.seating }
+        ensures lawful { IsValid self.now }
+    {
+        &self.seats
+    }
+
+    /// Tells whether the tournament is over: exactly one player is in, and somebody who entered is out.
+    pub fn over(&self) -> bool
+        ensures { result ≡ is_over_for_all self.now }
+    {
+        self.entries.len() > 1 && count_players(self.seats.slots()) == 1
+    }
+}

@@ -1,0 +1,49 @@
+//! The events that the book takes by itself.
+
+ghost use Rattle.std.specs.Prelude.{◌≡◌, ◌<◌, ◌^◌, true, None, Some, IfOk, OnOk, OnErr};
+ghost use Rattle.rulebook.specs.Checks.{IsChecked};
+ghost use Rattle.table_engine.specs.Acts.{IsAnswer};
+ghost use Rattle.tournament_rules.specs.Checks.{book_refusal};
+ghost use Rattle.tournament_rules.specs.Effects.{book_effect};
+ghost use Rattle.tournament_rules.specs.States.{answered};
+ghost use Rattle.floor_core.specs.Orders.{is_order, book_after};
+
+use crate::BookFault;
+use crate::book::Book;
+use floor_events::{Answer, Event};
+use std::alloc::AllocError;
+
+impl Book {
+    /// Carries an order out. An error leaves the book as it was.
+    pub(crate) fn carry_out(&mut self, event: &Event) -> Result<(), BookFault>
+        requires few { self.old.accepted < 2 ^ 60 }
+        requires order { is_order event.now ≡ true }
+        ensures answer { IsAnswer (book_refusal self.old event.now) result }
+        ensures state { OnOk result (self.new ≡ book_effect self.old None event.now) }
+        ensures err { OnErr result (self.new ≡ self.old) }
+    {
+        match event {
+            Event::Enter { name, table, seat } => self.enter(*name, *table, *seat),
+            Event::Stop => self.stop(),
+            _ => Ok(()),
+        }
+    }
+
+    /// Takes an order, which is `enter` or `stop`, answers it by the first check that holds, and carries it out where
+    /// none does. A refused order and want of memory change nothing, and memory is wanted only for an order that
+    /// meets no check.
+    pub fn order(&mut self, event: &Event) -> Result<Answer, AllocError>
+        requires few { self.old.accepted < 2 ^ 60 }
+        requires order { is_order event.now ≡ true }
+        ensures answer { IfOk result (λ answer. answer ≡ answered (book_refusal self.old event.now)) }
+        ensures state { OnOk result (self.new ≡ book_after self.old event.now) }
+        ensures err { OnErr result (self.new ≡ self.old) }
+        ensures lawful { OnErr result (book_refusal self.old event.now ≡ None) }
+    {
+        match self.carry_out(event) {
+            Ok(()) => Ok(Answer::Ok),
+            Err(BookFault::No(refusal)) => Ok(Answer::No(refusal)),
+            Err(BookFault::NoMemory) => Err(AllocError),
+        }
+    }
+}

@@ -1,0 +1,118 @@
+//! What is reported.
+
+ghost use Rattle.std.specs.Prelude.{◌≡◌, ◌<◌, ◌^◌, length, map, sum_by, IfOk};
+ghost use Rattle.std.specs.List.{All};
+ghost use Rattle.seat_book.specs.Players.{players_in};
+ghost use Rattle.table_engine.specs.Starts.{chips_of};
+ghost use Rattle.tournament_rules.specs.Books.{players_out};
+ghost use Rattle.tournament_rules.specs.Players.{is_one_of, is_in_hand};
+ghost use Rattle.tournament_rules.specs.Report.{reported, book_report};
+
+use crate::book::Book;
+use floor_events::{Report, ReportSeat};
+use floor_text::List;
+use seat_book::Seated;
+use std::alloc::{AllocError, Global};
+use table_engine::{HandStart, StartSeat};
+
+/// Sums the stacks at rest, in chips.
+fn rest_of(slots: &[Option<Seated>]) -> u64
+    requires { sum_by (λ player. player.stack) (players_in slots.now) < 2 ^ 64 }
+    ensures { result ≡ sum_by (λ player. player.stack) (players_in slots.now) }
+{
+    let mut chips = 0;
+    for slot in slots {
+        if let Some(player) = slot {
+            chips += player.stack;
+        }
+    }
+    chips
+}
+
+/// Gives the players with whom a hand started, where one did.
+fn players_out(start: &Option<HandStart>) -> &[StartSeat]
+    ensures { result.now ≡ players_out start.now }
+{
+    match start {
+        Some(start) => start.seats.items(),
+        None => &[],
+    }
+}
+
+/// Sums the stacks with which players began a hand, in chips.
+fn chips_of(players: &[StartSeat]) -> u64
+    requires { chips_of players.now < 2 ^ 64 }
+    ensures { result ≡ chips_of players.now }
+{
+    players.iter().map(|player| player.stack).sum()
+}
+
+/// Sums the stacks with which the players of all started hands began, in chips.
+fn play_of(out: &[Option<HandStart>]) -> u64
+    requires { sum_by (λ start. chips_of (players_out start)) out.now < 2 ^ 64 }
+    ensures { result ≡ sum_by (λ start. chips_of (players_out start)) out.now }
+{
+    let mut chips = 0;
+    for start in out {
+        chips += chips_of(players_out(start));
+    }
+    chips
+}
+
+/// Tells whether a player is one of those with whom a hand started.
+fn is_one_of(starters: &[StartSeat], player: &Seated) -> bool
+    ensures { result ≡ is_one_of starters.now player.now }
+{
+    starters
+        .iter()
+        .any(|starter| starter.player == player.player)
+}
+
+/// Reports a player who is in, with the stack at rest, or in play.
+fn reported(out: &[Option<HandStart>], player: &Seated) -> ReportSeat
+    requires { player.now.place.table < length out.now }
+    ensures { result ≡ reported out.now player.now }
+{
+    let is_in_hand = is_one_of(players_out(&out[usize::from(player.place.table)]), player);
+    ReportSeat {
+        place: player.place,
+        name: player.name,
+        stack: (!is_in_hand).then_some(player.stack),
+    }
+}
+
+/// Reports the players who are in, by table and then seat.
+fn all_reported(
+    alloc: Global,
+    out: &[Option<HandStart>],
+    slots: &[Option<Seated>],
+) -> Result<List<ReportSeat>, AllocError>
+    requires { All (λ player. player.place.table < length out.now) (players_in slots.now) }
+    ensures { IfOk result (λ lines. lines ≡ map (reported out.now) (players_in slots.now)) }
+{
+    let mut lines = List::new(alloc);
+    for slot in slots {
+        if let Some(player) = slot {
+            lines.push(reported(out, player))?;
+        }
+    }
+    Ok(lines)
+}
+
+impl Book {
+    /// Reports how the tournament stands.
+    pub fn report(&self) -> Result<Report, AllocError>
+        ensures { IfOk result (λ report. report ≡ book_report self.now) }
+    {
+        Ok(Report {
+            level: self.level,
+            sold: u64::from(self.entries.len()) * self.plan.stack,
+            removed: 0,
+            added: 0,
+            rest: rest_of(self.seats.slots()),
+            play: play_of(&self.out),
+            seats: all_reported(self.alloc, &self.out, self.seats.slots())?,
+            outs: List::new(self.alloc),
+        })
+    }
+}

@@ -1,0 +1,32 @@
+//! A hand is settled.
+
+ghost use Rattle.std.specs.Prelude.{◌≡◌, ◌<◌, ◌^◌, Some};
+ghost use Rattle.table_engine.specs.Plays.{IsCompletePlay, hand_of};
+ghost use Rattle.tournament_rules.specs.Books.{start_at};
+ghost use Rattle.tournament_rules.specs.Effects.{settled};
+
+use crate::book::Book;
+use crate::pay::{pay_stacks, rest_table};
+use table_engine::HandRecord;
+
+impl Book {
+    /// Settles a hand that is out: each of its players has at rest the stack that its record names for him. It takes
+    /// no memory.
+    #[tactic(auto, using(tournament_rules::proofs::Ends::valid_settled))]
+    pub fn settle(&mut self, done: &HandRecord)
+        requires few { self.old.accepted < 2 ^ 60 }
+        requires out { start_at self.old.out done.now.start.table ≡ Some done.now.start }
+        requires play { IsCompletePlay done.now }
+        ensures { self.new ≡ settled self.old (hand_of done.now) }
+    {
+        let table = done.start.table;
+        pay_stacks(
+            &mut self.seats,
+            done.start.seats.items(),
+            done.stacks.items(),
+        );
+        rest_table(&mut self.seats, table);
+        self.out[usize::from(table)] = None;
+        self.accepted += 1;
+    }
+}
