@@ -8,7 +8,7 @@ use Rattle.floor_text.specs.LineReader.{Reads}
 use Rattle.std.specs.List.{flat_map}
 use Rattle.floor_events.specs.Spelling.{answer_text}
 use Rattle.floor_events.specs.declared.event.Item.{Item}
-use Rattle.floor_core.specs.State.{State}
+use Rattle.tournament_rules.specs.States.{State}
 use Rattle.floor_offline.specs.Replay.{item_of_cut, answer_to_item, state_after_item, answers_to_items, state_after_items, items_of_bytes, final_text, text_from}
 use Rattle.floor_offline.specs.Promise.{whole_text, Keeps}
 

@@ -3,7 +3,7 @@ use Rattle.std.proofs.Common.{◌≡◌, ℕ, ◌+◌, ◌<◌, ◌≤◌, refl,
 use Rattle.std.specs.Prelude.{◌⊎◌, Option, Some, None, IfSome, IsSomeAnd, Result, Ok, Err, OnOk, Contains}
 use Rattle.floor_text.specs.Lines.{lines_of_bytes}
 use Rattle.floor_text.specs.Outside.{Rose}
-use Rattle.floor_core.specs.State.{State, first_state}
+use Rattle.tournament_rules.specs.States.{State, first_state}
 use Rattle.floor_offline.specs.declared.fault.Fault.{Fault}
 use Rattle.floor_offline.specs.declared.fault.Fault.TheVariants as faults
 use Rattle.floor_offline.specs.declared.replay.TheConstants.{INPUT_LIMIT}
@@ -11,13 +11,14 @@ use Rattle.floor_offline.specs.Endings.{fault_status}
 use Rattle.floor_offline.specs.Replay.{final_text, replay_text}
 use Rattle.floor_offline.specs.Promise.{whole_text, Keeps, Counts, GivesMore}
 
--- The whole text stays what it was, the bytes taken are counted, and no count of faults has fallen.
-pub record IsRunning (first_whole whole first_left left : Option (List ℕ)) (taken limit first_input input first_out out : ℕ) : Type 0 where
+-- The whole text stays what it was, the bytes taken are counted, no count of faults has fallen, and each accepted event took a byte.
+pub record IsRunning (first_whole whole first_left left : Option (List ℕ)) (taken limit first_input input first_out out accepted ahead : ℕ) : Type 0 where
   pub keeps : Keeps first_whole whole
   pub counts : Counts first_left left taken
   pub at_limit : limit ≡ INPUT_LIMIT
   pub input_later : first_input ≤ input
   pub out_later : first_out ≤ out
+  pub few : accepted + ahead ≤ limit + 1
 
 pub keeps_same : (text : Option (List ℕ)) → Keeps text text
 keeps_same None = tt

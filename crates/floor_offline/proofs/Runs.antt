@@ -4,9 +4,9 @@ use Rattle.std.specs.Prelude.{Option, Some, None, map}
 use Rattle.floor_events.specs.declared.event.Event.{Event as EventOfLine}
 use Rattle.floor_events.specs.declared.event.Item.{Item}
 use Rattle.floor_events.specs.declared.event.Item.TheVariants.{Event}
-use Rattle.floor_core.specs.State.{State}
-use Rattle.floor_core.specs.Step.{answer_to, state_after}
-use Rattle.floor_core.specs.Run.{run, answers}
+use Rattle.tournament_rules.specs.States.{State}
+use Rattle.tournament_rules.specs.States.{answer_to, state_after}
+use Rattle.tournament_rules.specs.States.{run, answers}
 use Rattle.floor_offline.specs.Replay.{answers_to_items, state_after_items, events_of, item_of_event}
 
 -- the state after items is the state after their events

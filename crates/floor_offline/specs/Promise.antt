@@ -1,7 +1,7 @@
 -- What a run in its midst will have written. This project's own.
 use Rattle.std.specs.Prelude.{◌≡◌, ℕ, ◌+◌, ◌<◌, List, ◌++◌, length, Option, Some, option_and_then, IfSome, IsSomeAnd}
 use Rattle.std.specs.Option.{option_map}
-use Rattle.floor_core.specs.State.{State}
+use Rattle.tournament_rules.specs.States.{State}
 use Rattle.floor_offline.specs.Replay.{items_of_bytes, text_from}
 
 -- the whole text of a run: what is written, and then what the bytes that are held and left will be answered

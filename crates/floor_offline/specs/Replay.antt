@@ -10,9 +10,9 @@ use Rattle.floor_events.specs.declared.event.Item.{Item}
 use Rattle.floor_events.specs.declared.event.Item.TheVariants.{Event}
 use Rattle.floor_events.specs.Grammar.{item_of_bytes}
 use Rattle.floor_events.specs.Spelling.{answer_text, report_text}
-use Rattle.floor_core.specs.State.{State, first_state}
-use Rattle.floor_core.specs.Step.{answer_to, state_after}
-use Rattle.floor_core.specs.Report.{report_of}
+use Rattle.tournament_rules.specs.States.{State, first_state}
+use Rattle.tournament_rules.specs.States.{answer_to, state_after}
+use Rattle.tournament_rules.specs.Report.{report_of}
 
 -- the item of a line, where the line is not too long and in the grammar
 abbrev pub item_of_cut : Option (List ℕ) → Option Item

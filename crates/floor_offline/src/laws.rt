@@ -3,8 +3,8 @@
 ghost use Rattle.std.specs.Prelude.{◌≡◌, List, Option, map};
 ghost use Rattle.floor_events.specs.declared.event.Event.{Event};
 ghost use Rattle.floor_events.specs.declared.event.Item.{Item};
-ghost use Rattle.floor_core.specs.State.{first_state};
-ghost use Rattle.floor_core.specs.Run.{run, answers};
+ghost use Rattle.tournament_rules.specs.States.{first_state};
+ghost use Rattle.tournament_rules.specs.States.{run, answers};
 ghost use Rattle.floor_offline.specs.Replay.{answers_to_items, state_after_items, events_of, item_of_event};
 
 /// The lines of a stream leave the state that the run of their events leaves, so the laws of runs hold of what

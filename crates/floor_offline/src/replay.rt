@@ -1,6 +1,6 @@
 //! Lines are answered one by one, and at the end comes the report.
 
-ghost use Rattle.std.specs.Prelude.{◌≡◌, ◌≤◌, ◌<◌, ◌++◌, List, ℕ, length, Option, Ok, true, false, [], Some, IfOk, IfSome, OnOk, OnErr, IfErr, IsErrOf};
+ghost use Rattle.std.specs.Prelude.{◌≡◌, ◌≤◌, ◌<◌, ◌+◌, ◌^◌, ◌++◌, List, ℕ, length, Option, Ok, true, false, [], Some, IfOk, IfSome, OnOk, OnErr, IfErr, IsErrOf};
 ghost use Rattle.floor_text.specs.Outside.{Rose};
 ghost use Rattle.floor_text.specs.Reading.{bytes_ahead};
 ghost use Rattle.floor_events.specs.Spelling.{answer_text};
@@ -19,13 +19,16 @@ use std::alloc::{AllocError, Global};
 pub const INPUT_LIMIT: u64 = 268_435_456;
 
 /// The answer to a line of at most 400 bytes.
+#[tactic(auto, using(crate::proofs::Counted::counted_item))]
 fn answer_line(
     alloc: Global,
     tournament: &mut Tournament,
     line: &[u8],
 ) -> Result<Answer, AllocError>
+    requires { tournament.old.accepted < 2 ^ 60 }
     ensures answer { IfOk result (λ answer. answer ≡ answer_to_item tournament.old (item_of_bytes line.now)) }
     ensures state { OnOk result (tournament.new ≡ state_after_item tournament.old (item_of_bytes line.now)) }
+    ensures counted { OnOk result (tournament.new.accepted ≤ tournament.old.accepted + 1) }
 {
     match read_item(alloc, line)? {
         Some(Item::Event(event)) => tournament.apply(&event),
@@ -84,11 +87,14 @@ fn answer_next<I: Source, O: Sink>(
     input: &mut I,
     out: &mut O,
 ) -> Result<bool, Fault>
+    requires { tournament.old.accepted < 2 ^ 60 }
+
     // What is written and what is to come make the same text.
     ensures keeps { OnOk result (Keeps
         (whole_text tournament.old reader.old.held (I.left input.old) (O.written out.old))
         (whole_text tournament.new reader.new.held (I.left input.new) (O.written out.new))) }
     ensures shorter { result ≡ Ok true → bytes_ahead reader.new < bytes_ahead reader.old }
+    ensures counted { OnOk result (tournament.new.accepted ≤ tournament.old.accepted + 1) }
 
     // At the end nothing is held or left, and no more was taken than the limit allows.
     ensures end { result ≡ Ok false → reader.new.held ≡ [] }

@@ -1,4 +1,4 @@
-use Rattle.floor_core.specs.State.{first_state}
+use Rattle.tournament_rules.specs.States.{first_state}
 use Rattle.floor_offline.proofs.Runs.{state_after_items_is_run, answers_to_events}
 use Rattle.floor_offline.proofs.laws.lines_are_a_run.Goals as goal
 

@@ -1,6 +1,6 @@
 use Rattle.std.proofs.Common.{◌<◌, ◌∙◌, ap, rules, []}
 use Rattle.std.specs.Prelude.{Ok}
-use Rattle.floor_core.specs.State.{first_state}
+use Rattle.tournament_rules.specs.States.{first_state}
 use Rattle.floor_offline.specs.Promise.{whole_text}
 use Rattle.floor_offline.proofs.Running.{keeps_on, ends, within_at_end, gives_more, text_at_end, on_ok, on_ok_from}
 use Rattle.floor_offline.proofs.replay.replay.Goals as goal

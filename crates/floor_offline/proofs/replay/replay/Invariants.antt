@@ -1,6 +1,6 @@
 use Rattle.std.proofs.Common.{[]}
 use Rattle.floor_text.specs.Reading.{bytes_ahead}
-use Rattle.floor_core.specs.State.{first_state}
+use Rattle.tournament_rules.specs.States.{first_state}
 use Rattle.floor_offline.specs.Promise.{whole_text}
 use Rattle.floor_offline.proofs.Running.{IsRunning}
 use Rattle.floor_offline.proofs.replay.replay.Given as goal
@@ -13,6 +13,7 @@ invariant-lines g l = IsRunning
     l.reader.taken l.reader.limit
     (g.I.Source.faults l.fn.input) (g.I.Source.faults l.input)
     (g.O.Sink.faults l.fn.out) (g.O.Sink.faults l.out)
+    l.tournament.accepted (bytes_ahead l.reader)
 
 abbrev pub decreases-lines : goal.decreases-lines
 decreases-lines g l = bytes_ahead l.reader
