@@ -9,7 +9,6 @@ ghost use Rattle.std.specs.Cmp.Rules.{comparing, hashing};
 ghost use Rattle.floor_text.specs.Names.{is_name, is_name_byte};
 
 use crate::limits::LONGEST_NAME;
-
 use std::hash::{Hash, Hasher};
 use std::marker::Model;
 
