@@ -3,6 +3,7 @@ use betting_round::Act;
 use card_set::{Card, Game};
 use floor_text::{List, Name, Refusal};
 use level_plan::{PlanItem, PlanLine};
+use seat_book::Place;
 use std::test::Fail;
 
 /// Lines that are not in the grammar.
