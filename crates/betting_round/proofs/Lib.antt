@@ -1,1 +1,4 @@
-pub mod Clockwise
+pub mod ActRefusals
+pub mod Steps
+pub mod Walks
+pub mod Turns

@@ -1,6 +1,7 @@
 pub mod Checks
 pub mod OccupiedSeats
 pub mod Pairs
+pub mod Rewrites
 pub mod Searches
 pub mod Tests
 pub mod Walks

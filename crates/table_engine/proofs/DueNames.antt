@@ -1,80 +1,124 @@
 -- Who is due is a player of the hand, so he has a name.
-use Rattle.std.proofs.Common.{◌≡◌, ◌∙◌, ℕ, List, [], ◌∷◌, Bool, true, false, cond, Some, None, refl, ap, sym, arith}
-use Rattle.std.specs.Prelude.{not, ◌&&◌, ◌||◌, ◌==◌, nat_lt, Option, is_some, is_none, option_map, find, filter}
-use Rattle.std.specs.List.{list_any}
-use Rattle.std.proofs.lemmas.Bool.{and_parts, and_from, or_left, or_right}
-use Rattle.std.proofs.lemmas.Bool.Decides.{nat_tests}
-use Rattle.std.proofs.lemmas.List.Folds.{list_any-append}
-use Rattle.rulebook.specs.Seats.{people_clockwise_after}
-use Rattle.rulebook.proofs.Tests.{list_any-follows, list_any-made, find-passes, find-any}
-use Rattle.betting_round.specs.declared.on_street.OnStreet.{OnStreet}
-use Rattle.betting_round.specs.Streets.{may_be_due, is_closed, due_seat}
+use Rattle.std.proofs.Common.{◌≡◌, ◌∙◌, ℕ, zero, suc, ◌+◌, ◌-◌, ◌≤◌, List, [], ◌∷◌, Bool, true, false, cond, map, Some, None, refl, ap, sym, inl, inr, arith}
+use Rattle.std.specs.Prelude.{Option, ◌==◌, not, nat_lt, find, is_none, option_map, slice_index_or}
+use Rattle.std.specs.Option.{is_some}
+use Rattle.std.specs.List.{list_all}
+use Rattle.std.specs.Str.{bytes_eq}
+use Rattle.std.proofs.lemmas.Bool.{and_from, and_parts, cases_Bool, not-true}
+use Rattle.std.proofs.lemmas.Slice.Eq.{bytes_eq-Decides}
+use Rattle.rulebook.specs.Pairs.{are_distinct}
+use Rattle.rulebook.specs.Seats.{walk}
+use Rattle.rulebook.proofs.Tests.{find-all}
+use Rattle.betting_round.specs.ActChecks.{facing_in}
+use Rattle.betting_round.specs.declared.street.Street.{Street}
+use Rattle.betting_round.specs.WhoIsDue.{due_seat, player_at}
+use Rattle.betting_round.proofs.Turns.{due-can_act, due-low, due-may_check, due-may_fold, slot-there}
+use Rattle.table_engine.specs.declared.start.HandStart.{HandStart}
 use Rattle.table_engine.specs.declared.start.StartSeat.{StartSeat}
-use Rattle.table_engine.specs.Hands.{HandTerms, on_street, players_on_street, search_after, level, name_in_seat, due_in_hand, due_name}
-use Rattle.table_engine.proofs.Refusals.{any-found}
+use Rattle.table_engine.specs.Hands.{HandTerms, due_in_hand, due_name, name_in_seat, player_of, players_by_seat, seat_of_name, street_of}
+use Rattle.table_engine.specs.Acts.{act_in_time, limits_of, refusal_in_seat, refusal_of_time, time_act}
+use Rattle.table_engine.proofs.Starts.{player_of-seat}
 
--- Where one of two holds and each gives a third, the third holds.
-or_once : (first second goal : Bool) → (first || second) ≡ true → (first ≡ true → goal ≡ true) → (second ≡ true → goal ≡ true) → goal ≡ true
-or_once true second goal either left right = left refl
-or_once false second goal either left right = right either
+-- Whether somebody is in a slot, by the list of whether somebody is in each.
+some-at : {A : Type 0} (slots : List (Option A)) (index : ℕ) → slice_index_or (map is_some slots) index false ≡ is_some (slice_index_or slots index None)
+some-at [] index = refl
+some-at (slot ∷ slots) zero = refl
+some-at (slot ∷ slots) (suc index) = some-at slots index
 
--- Who passes a test among some passes it among all.
-any-of_filter_step : {X : Type 0} (other : X → Bool) (x : X) (keeps : Bool) (left : List X) (rest : Bool) → list_any other (cond keeps (x ∷ left) left) ≡ true
-    → (list_any other left ≡ true → rest ≡ true) → (other x || rest) ≡ true
-any-of_filter_step other x true left rest passes more = or_once (other x) (list_any other left) (other x || rest) passes (or_left (other x) rest) (λ later. or_right (other x) rest (more later))
-any-of_filter_step other x false left rest passes more = or_right (other x) rest (more passes)
+-- Where somebody is listed at the index of a seat, somebody is at the seat.
+walk-at : {A : Type 0} (at : ℕ → Option A) (steps from index : ℕ) → is_some (slice_index_or (map at (walk (λ seat. seat + 1) steps from)) index None) ≡ true → is_some (at (from + index + 1)) ≡ true
+walk-at at zero from index there = absurd cc
+walk-at at (suc steps) from zero there = let same : from + 0 + 1 ≡ from + 1 = omega arith in rw same there
+walk-at at (suc steps) from (suc index) there =
+    let same : from + suc index + 1 ≡ from + 1 + index + 1 = omega arith in
+    rw same (walk-at at steps (from + 1) index there)
 
-any-of_filter : {X : Type 0} (kept other : X → Bool) (xs : List X) → list_any other (filter kept xs) ≡ true → list_any other xs ≡ true
-any-of_filter kept other [] passes = passes
-any-of_filter kept other (x ∷ xs) passes = any-of_filter_step other x (kept x) (filter kept xs) (list_any other xs) passes (any-of_filter kept other xs)
+-- Who is due was dealt in at his seat.
+pub due-dealt : (start : HandStart) (street : Street) (seat : ℕ) → map is_some street.players ≡ map is_some (players_by_seat start) → due_seat street ≡ Some seat → is_some (player_of start seat) ≡ true
+due-dealt start street seat same due =
+    let low = due-low street seat due in
+    let slot = slot-there (player_at street.players seat) (due-can_act street seat due) in
+    let there : is_some (player_at street.players seat) ≡ true = ap is_some slot.1 in
+    let listed : is_some (slice_index_or (players_by_seat start) (seat - 1) None) ≡ true =
+    sym (some-at (players_by_seat start) (seat - 1)) ∙ ap (λ tests. slice_index_or tests (seat - 1) false) (sym same) ∙ some-at street.players (seat - 1) ∙ there in
+    let back : 0 + (seat - 1) + 1 ≡ seat = omega arith in
+    ap (λ (n : ℕ). is_some (player_of start n)) (sym back) ∙ walk-at (player_of start) 10 0 (seat - 1) listed
 
--- Who passes a test clockwise passes it.
-any-of_clockwise : {X : Type 0} (other : X → Bool) (seat_of : X → ℕ) (people : List X) (seat : ℕ) → list_any other (people_clockwise_after seat_of people seat) ≡ true → list_any other people ≡ true
-any-of_clockwise other seat_of people seat passes =
-    or_once (list_any other (filter (λ person. nat_lt seat (seat_of person)) people)) (list_any other (filter (λ person. not (nat_lt seat (seat_of person))) people)) (list_any other people)
-    (sym (list_any-append other (filter (λ person. nat_lt seat (seat_of person)) people) (filter (λ person. not (nat_lt seat (seat_of person))) people)) ∙ passes)
-    (any-of_filter (λ person. nat_lt seat (seat_of person)) other people)
-    (any-of_filter (λ person. not (nat_lt seat (seat_of person))) other people)
-
-same_seat : (seat : ℕ) → (seat == seat) ≡ true
-same_seat seat = grind (arith, nat_tests)
-
--- The seat that is due is the seat of a player who may be due.
-pub due-may : (players : List OnStreet) (after level seat : ℕ) → due_seat players after level ≡ Some seat → list_any (λ player. (player.seat == seat) && may_be_due level player) players ≡ true
-due-may players after level seat due = by_closed (is_closed players) due
-  where
-    by_found : (found : Option OnStreet) → find (may_be_due level) (people_clockwise_after (λ player. player.seat) players after) ≡ found → option_map (λ (player : OnStreet). player.seat) found ≡ Some seat
-        → list_any (λ player. (player.seat == seat) && may_be_due level player) players ≡ true
-    by_found None is same = cc
-    by_found (Some player) is same =
-        let his : player.seat ≡ seat = cc in
-        let sits : (player.seat == seat) ≡ true = ap (λ (n : ℕ). n == seat) his ∙ same_seat seat in
-        let may = find-passes (may_be_due level) (people_clockwise_after (λ (player : OnStreet). player.seat) players after) player is in
-        any-of_clockwise (λ player. (player.seat == seat) && may_be_due level player) (λ player. player.seat) players after
-        (find-any (may_be_due level) (λ player. (player.seat == seat) && may_be_due level player) (people_clockwise_after (λ (player : OnStreet). player.seat) players after) player is (and_from _ _ sits may))
-
-    by_closed : (closed : Bool) → cond closed None (option_map (λ player. player.seat) (find (may_be_due level) (people_clockwise_after (λ player. player.seat) players after))) ≡ Some seat
-        → list_any (λ player. (player.seat == seat) && may_be_due level player) players ≡ true
-    by_closed true same = cc
-    by_closed false same = by_found (find (may_be_due level) (people_clockwise_after (λ (player : OnStreet). player.seat) players after)) refl same
-
--- The seat that is due is the seat of a player.
-due-seated : (players : List OnStreet) (after level seat : ℕ) → due_seat players after level ≡ Some seat → list_any (λ player. player.seat == seat) players ≡ true
-due-seated players after level seat due =
-    list_any-follows (λ (player : OnStreet). (player.seat == seat) && may_be_due level player) (λ player. player.seat == seat) players (λ player both. (and_parts (player.seat == seat) (may_be_due level player) both).0) (due-may players after level seat due)
-
-none-of_some : {X : Type 0} (found : Option X) → is_some found ≡ true → is_none found ≡ false
-none-of_some None there = cc
-none-of_some (Some x) there = refl
+named : (slot : Option StartSeat) → is_some slot ≡ true → is_none (option_map (λ (player : StartSeat). player.name) slot) ≡ false
+named None there = absurd cc
+named (Some player) there = refl
 
 -- A name is due exactly where a seat is.
-pub due_name-none : (hand : HandTerms) → is_none (due_name hand) ≡ is_none (due_in_hand hand)
-due_name-none hand = by_seat (due_in_hand hand) refl
+pub due_name-none : (hand : HandTerms) → map is_some (street_of hand).players ≡ map is_some (players_by_seat hand.start) → is_none (due_name hand) ≡ is_none (due_in_hand hand)
+due_name-none hand same = by_due (due_in_hand hand) refl
   where
-    by_seat : (due : Option ℕ) → due_in_hand hand ≡ due → is_none (due_name hand) ≡ is_none (due_in_hand hand)
-    by_seat None same = rw same
-    by_seat (Some seat) same =
-        let there = due-seated (players_on_street hand) (search_after hand) (level hand.start) seat same in
-        let player = sym (list_any-made (λ (other : OnStreet). other.seat == seat) (on_street hand.start hand.acts) hand.start.seats) ∙ there in
-        let named : is_some (name_in_seat hand.start seat) ≡ true = sym (any-found (λ (other : StartSeat). other.seat == seat) (λ (other : StartSeat). other.name) hand.start.seats) ∙ player in
-        rw same (none-of_some (name_in_seat hand.start seat) named)
+    by_due : (due : Option ℕ) → due_in_hand hand ≡ due → is_none (due_name hand) ≡ is_none (due_in_hand hand)
+    by_due None is = rw is
+    by_due (Some seat) is = rw is (named (player_of hand.start seat) (due-dealt hand.start (street_of hand) seat same is))
+
+-- Who is due has a name.
+pub due-named : (hand : HandTerms) (seat : ℕ) → map is_some (street_of hand).players ≡ map is_some (players_by_seat hand.start) → due_in_hand hand ≡ Some seat → name_in_seat hand.start seat ≡ None → ⊥
+due-named hand seat same due none =
+    let there = named (player_of hand.start seat) (due-dealt hand.start (street_of hand) seat same due) in
+    let nobody : is_none (name_in_seat hand.start seat) ≡ true = ap is_none none in absurd cc
+
+-- What all made of a list pass, all pass once made.
+all-made : {A B : Type 0} (test : B → Bool) (made : A → B) (items : List A) → list_all test (map made items) ≡ true → list_all (λ item. test (made item)) items ≡ true
+all-made test made [] all = refl
+all-made test made (item ∷ items) all =
+    let both = and_parts (test (made item)) (list_all test (map made items)) all in
+    and_from (test (made item)) (list_all (λ other. test (made other)) items) both.0 (all-made test made items both.1)
+
+-- Where names are distinct, who is found at a seat is found by his name.
+found-by_name : (players : List StartSeat) (seat : ℕ) (player : StartSeat) → are_distinct bytes_eq (map (λ (other : StartSeat). other.name) players) ≡ true → find (λ other. other.seat == seat) players ≡ Some player
+    → find (λ other. bytes_eq other.name player.name) players ≡ Some player
+found-by_name [] seat player distinct found = absurd cc
+found-by_name (other ∷ players) seat player distinct found =
+    let both = and_parts (list_all (λ name. not (bytes_eq other.name name)) (map (λ (o : StartSeat). o.name) players)) (are_distinct bytes_eq (map (λ (o : StartSeat). o.name) players)) distinct in
+    elim (cases_Bool (other.seat == seat)) [
+      | inl here ↦
+          let first : Some other ≡ Some player = rw here at found in
+          let same : other ≡ player = cc in
+          let named_so : bytes_eq other.name player.name ≡ true = ap (λ (p : StartSeat). bytes_eq other.name p.name) (sym same) ∙ (bytes_eq-Decides other.name other.name).1 refl in
+          rw named_so first
+      | inr elsewhere ↦
+          let later : find (λ o. o.seat == seat) players ≡ Some player = rw elsewhere at found in
+          let apart = find-all (λ (o : StartSeat). o.seat == seat) (λ (o : StartSeat). not (bytes_eq other.name o.name)) players player later (all-made (λ name. not (bytes_eq other.name name)) (λ (o : StartSeat). o.name) players both.0) in
+          let differs : bytes_eq other.name player.name ≡ false = not-true (bytes_eq other.name player.name) apart in
+          rw differs (found-by_name players seat player both.1 later)
+    ]
+
+-- The seat of the name of who is found at a seat is that seat.
+pub seat-of_named : (start : HandStart) (seat : ℕ) (name : List ℕ) → are_distinct bytes_eq (map (λ (other : StartSeat). other.name) start.seats) ≡ true → name_in_seat start seat ≡ Some name
+    → seat_of_name start name ≡ Some seat
+seat-of_named start seat name distinct named_so = by_player (player_of start seat) refl
+  where
+    by_player : (slot : Option StartSeat) → player_of start seat ≡ slot → seat_of_name start name ≡ Some seat
+    by_player None is = let no_name : None ≡ Some name = ap (option_map (λ (p : StartSeat). p.name)) (sym is) ∙ named_so in absurd cc
+    by_player (Some player) is =
+        let his : Some player.name ≡ Some name = ap (option_map (λ (p : StartSeat). p.name)) (sym is) ∙ named_so in
+        let same : player.name ≡ name = cc in
+        let found = found-by_name start.seats seat player distinct is in
+        let sits = player_of-seat start seat player is in
+        ap (λ n. option_map (λ (p : StartSeat). p.seat) (find (λ (o : StartSeat). bytes_eq o.name n) start.seats)) (sym same)
+        ∙ ap (option_map (λ (p : StartSeat). p.seat)) found
+        ∙ ap (λ (n : ℕ). Some n) sits
+
+-- A called time is refused where nobody is due alone.
+pub time-free : (hand : HandTerms) (seat : ℕ) → due_in_hand hand ≡ Some seat → refusal_of_time hand ≡ None
+time-free hand seat due = rw due
+
+-- Who is due is not refused the act that a called time makes of him.
+pub time-allowed : (hand : HandTerms) (seat : ℕ) → due_in_hand hand ≡ Some seat → refusal_in_seat hand (act_in_time hand seat) seat ≡ None
+time-allowed hand seat due = by_test (nat_lt (facing_in (street_of hand) seat).put (facing_in (street_of hand) seat).level) refl
+  where
+    by_test : (short : Bool) → nat_lt (facing_in (street_of hand) seat).put (facing_in (street_of hand) seat).level ≡ short → refusal_in_seat hand (act_in_time hand seat) seat ≡ None
+    by_test true is = rw is (due-may_fold (limits_of hand.start.game) (street_of hand) seat due)
+    by_test false is = rw is (due-may_check (limits_of hand.start.game) (street_of hand) seat due is)
+
+-- The act that a called time makes, by the seat and the name that are due.
+pub time_act-is : (hand : HandTerms) (seat : ℕ) (name : List ℕ) → due_in_hand hand ≡ Some seat
+    → name_in_seat hand.start seat ≡ Some name
+    → time_act hand ≡ record { name = name; act = act_in_time hand seat; by_time = true }
+unfolding time_act
+time_act-is hand seat name due named = rw (due, named)

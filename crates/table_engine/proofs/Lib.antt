@@ -1,10 +1,8 @@
-pub mod Chips
 pub mod DueNames
-pub mod Folds
-pub mod Later
 pub mod Plays
 pub mod Refusals
-pub mod Rewrites
+pub mod Slots
 pub mod Stacks
-pub mod StacksAfter
+pub mod Standings
+pub mod Starts
 pub mod Units

@@ -6,12 +6,13 @@ use Rattle.std.specs.List.{list_any}
 use Rattle.std.specs.Str.{bytes_eq}
 use Rattle.floor_text.specs.declared.refusal.Refusal.{Refusal}
 use Rattle.floor_text.specs.declared.refusal.Refusal.TheVariants.{NotDealt}
-use Rattle.rulebook.specs.Checks.{first_that_holds}
+use Rattle.betting_round.specs.declared.act.Act.{Act}
+use Rattle.betting_round.specs.ActChecks.{act_refusal}
 use Rattle.table_engine.specs.declared.record.ActFault.{ActFault}
 use Rattle.table_engine.specs.declared.record.ActFault.TheVariants.{No, NoMemory}
 use Rattle.table_engine.specs.declared.start.HandStart.{HandStart}
 use Rattle.table_engine.specs.Hands.{HandTerms, seat_of_name}
-use Rattle.table_engine.specs.Acts.{is_dealt, turn_checks, refusal_of_act, IsAnswer}
+use Rattle.table_engine.specs.Acts.{act_checks, done_in_seat, done_of_act, is_dealt, refusal_in_seat, refusal_of_act, IsAnswer}
 
 -- Somebody passes a test exactly where somebody is found by it.
 any-found_step : {X Y : Type 0} (f : X → Y) (x : X) (passes more : Bool) (left : Option X) → more ≡ is_some (option_map f left)
@@ -28,16 +29,26 @@ dealt-seat : (start : HandStart) (name : List ℕ) → is_dealt start name ≡ i
 dealt-seat start name = any-found (λ player. bytes_eq player.name name) (λ player. player.seat) start.seats
 
 -- An act of a player who has no seat is refused as one of a player who is not dealt in.
-pub refused-without_seat : (hand : HandTerms) (name : List ℕ) → seat_of_name hand.start name ≡ None → refusal_of_act hand name ≡ Some NotDealt
-refused-without_seat hand name none =
+pub refused-without_seat : (hand : HandTerms) (name : List ℕ) (act : Act) → seat_of_name hand.start name ≡ None
+    → refusal_of_act hand name act ≡ Some NotDealt
+unfolding act_checks
+refused-without_seat hand name act none =
     let dealt : is_dealt hand.start name ≡ false = dealt-seat hand.start name ∙ ap is_some none in
     rw dealt
 
--- An act of a player who has a seat is refused only where it is not his turn.
-pub refused-by_turn : (hand : HandTerms) (name : List ℕ) (seat : ℕ) → seat_of_name hand.start name ≡ Some seat → refusal_of_act hand name ≡ first_that_holds (turn_checks hand name)
-refused-by_turn hand name seat found =
+-- An act of a player who has a seat is refused only as the street refuses it of his seat.
+pub refused-in_seat : (hand : HandTerms) (name : List ℕ) (act : Act) (seat : ℕ) → seat_of_name hand.start name ≡ Some seat
+    → refusal_of_act hand name act ≡ refusal_in_seat hand act seat
+unfolding act_checks act_refusal
+refused-in_seat hand name act seat found =
     let dealt : is_dealt hand.start name ≡ true = dealt-seat hand.start name ∙ ap is_some found in
-    rw dealt
+    rw (dealt, found)
+
+-- What an act of a player who has a seat comes to.
+pub done-in_seat : (hand : HandTerms) (name : List ℕ) (act : Act) (seat : ℕ) → seat_of_name hand.start name ≡ Some seat
+    → done_of_act hand name act ≡ done_in_seat hand act seat
+unfolding done_of_act
+done-in_seat hand name act seat found = rw found
 
 -- A fault that tells the refusal that there is answers an act.
 pub answer-refused : {T : Type 0} (result : Result T ActFault) (refusal : Option Refusal) (reason : Refusal) → refusal ≡ Some reason → IsErr result × IsErrAnd result (λ fault. fault ≡ No reason)

@@ -8,7 +8,7 @@ use Rattle.table_engine.specs.declared.record.HandRecord.{HandRecord}
 use Rattle.table_engine.specs.Hands.{HandTerms}
 use Rattle.table_engine.specs.Results.{stack_after_hand, stacks_after_hand, with_stack, with_stacks, players_after}
 use Rattle.table_engine.specs.Plays.{hand_of, IsCompletePlay}
-use Rattle.table_engine.proofs.Rewrites.{rewritten-more, rewritten-here}
+use Rattle.rulebook.proofs.Rewrites.{rewritten-more, rewritten-here}
 
 -- Another stack for one player more.
 pub stacks-more : (before now : List StartSeat) (stacks : List ℕ) (i : ℕ) (player : StartSeat) → length stacks ≡ length before → i < length before → player ≡ get_or now i player

@@ -1,12 +1,13 @@
--- A hand is its start and its acts. What each player has put in, and who is due. The Poker TDA Rules and Robert's Rules of Poker.
-use Rattle.std.specs.Prelude.{ℕ, ◌-◌, min, Bool, true, false, not, ◌==◌, ◌&&◌, List, length, map, find, slice_get, Option, is_none, option_map, option_and_then, if◌then◌else◌}
-use Rattle.std.specs.List.{list_any, zip}
+-- A hand is its start and its acts. Its streets are cut out of its acts. The Poker TDA Rules and Robert's Rules of Poker.
+use Rattle.std.specs.Prelude.{ℕ, zero, suc, ◌+◌, ◌-◌, min, Bool, true, false, not, ◌==◌, ◌&&◌, List, [], ◌∷◌, map, reverse, find, sum_by, Option, is_none, option_map, option_and_then, unwrap_or, if◌then◌else◌}
 use Rattle.std.specs.Option.{option_map_or}
 use Rattle.std.specs.Str.{bytes_eq}
-use Rattle.betting_round.specs.declared.act.Act.{Act}
-use Rattle.betting_round.specs.declared.act.Act.TheVariants.{Fold}
-use Rattle.betting_round.specs.declared.on_street.OnStreet.{OnStreet}
-use Rattle.betting_round.specs.Streets.{due_seat, at_next_street}
+use Rattle.rulebook.specs.Seats.{walk}
+use Rattle.betting_round.specs.declared.bettor.Bettor.{Bettor}
+use Rattle.betting_round.specs.declared.bettor.Player.{Player}
+use Rattle.betting_round.specs.declared.street.Street.{Street}
+use Rattle.betting_round.specs.StreetActs.{StreetStart, SeatAct, next_bettors, street_after, sum_over}
+use Rattle.betting_round.specs.WhoIsDue.{due_seat, is_one_live, player_in}
 use Rattle.table_engine.specs.declared.start.HandStart.{HandStart}
 use Rattle.table_engine.specs.declared.start.StartSeat.{StartSeat}
 use Rattle.table_engine.specs.declared.record.ActOf.{ActOf}
@@ -16,54 +17,107 @@ pub record HandTerms : Type 0 where
   pub start : HandStart
   pub acts : List ActOf
 
--- What a player posts: the one in the big mark's seat the lesser of his stack and the big blind, the one in the small mark's seat the lesser of his stack and the small blind. An empty small mark posts nothing.
-abbrev pub posted : HandStart → StartSeat → ℕ
-posted start player =
-    if player.seat == start.marks.big then min player.stack start.big
-    else if player.seat == start.marks.small then min player.stack start.small
+-- The blind that is due of a seat. An empty small mark posts nothing.
+abbrev pub blind_of : HandStart → ℕ → ℕ
+blind_of start seat =
+    if seat == start.marks.big then start.big
+    else if seat == start.marks.small then start.small
     else 0
 
--- Whether an act is a fold.
-abbrev pub is_fold : Act → Bool
-is_fold Fold = true
+-- What a player posts: the lesser of his stack and the blind that is due of his seat.
+abbrev pub posted : HandStart → StartSeat → ℕ
+posted start player = min player.stack (blind_of start player.seat)
 
--- Whether a player has acted on this street. With folds alone all acts are made before the flop.
-abbrev pub has_acted : List ActOf → List ℕ → Bool
-has_acted acts name = list_any (λ act. bytes_eq act.name name) acts
+-- What a player's blind lacks because his stack is short.
+abbrev pub lacking : HandStart → StartSeat → ℕ
+lacking start player = blind_of start player.seat - posted start player
 
--- Whether a player has folded.
-abbrev pub has_folded : List ActOf → List ℕ → Bool
-has_folded acts name = list_any (λ act. is_fold act.act && bytes_eq act.name name) acts
+-- A player of the start as he begins the hand.
+abbrev pub seated : HandStart → StartSeat → Bettor
+seated start player = record { seat = player.seat; put = posted start player; behind = player.stack - posted start player; live = true }
 
--- What a player has put in on the street: what he posted, and what his acts put in. A fold puts nothing in.
-abbrev pub put_on_street : HandStart → List ActOf → StartSeat → ℕ
-put_on_street start acts player = posted start player
+-- The player who is dealt in at a seat, if one is.
+abbrev pub player_of : HandStart → ℕ → Option StartSeat
+player_of start seat = find (λ player. player.seat == seat) start.seats
 
--- What a player has put in during the whole hand: the sum over its streets. With folds alone nothing is put in after the flop.
-abbrev pub put_in_hand : HandStart → List ActOf → StartSeat → ℕ
-put_in_hand start acts player = put_on_street start acts player
+-- The players who are dealt in, by the seats 1 to 10.
+abbrev pub players_by_seat : HandStart → List (Option StartSeat)
+players_by_seat start = map (player_of start) (walk (λ seat. seat + 1) 10 0)
 
--- What a player has behind: his stack without what he has put in.
-abbrev pub behind : HandStart → List ActOf → StartSeat → ℕ
-behind start acts player = player.stack - put_in_hand start acts player
-
--- The level before the flop: the big blind, even where it was posted short. No act has raised it.
-abbrev pub level : HandStart → ℕ
-level start = start.big
-
--- A player of the hand on the street.
-abbrev pub on_street : HandStart → List ActOf → StartSeat → OnStreet
-on_street start acts player = record {
-  seat = player.seat;
-  put = put_on_street start acts player;
-  behind = behind start acts player;
-  live = not (has_folded acts player.name);
-  acted = has_acted acts player.name;
+-- The first street, before the flop: the blinds are posted, the search for who is due starts after the big mark's seat, and the bet level is the big blind even where it was posted short. Beside what was put in, the pot counts what short blinds lack (this project's own).
+abbrev pub first_street : HandStart → StreetStart
+first_street start = record {
+  bettors = map (option_map (seated start)) (players_by_seat start);
+  after = start.marks.big;
+  opening = start.big;
+  big = start.big;
+  unit = start.unit;
+  counted = sum_over (lacking start) (players_by_seat start);
 }
 
--- The players of the hand on the street, in rising seat.
-abbrev pub players_on_street : HandTerms → List OnStreet
-players_on_street hand = map (on_street hand.start hand.acts) hand.start.seats
+-- A street of a hand: how it began, and its acts, the newest first.
+pub record StreetPlayed : Type 0 where
+  pub start : StreetStart
+  pub acts : List SeatAct
+
+-- The streets of a hand: the last that has begun, those before it, the newest first, and how many are to come.
+pub record Streets : Type 0 where
+  pub last : StreetPlayed
+  pub before : List StreetPlayed
+  pub left : ℕ
+
+-- The last street as it stands.
+abbrev pub street_now : Streets → Street
+street_now streets = street_after streets.last.start streets.last.acts
+
+-- What was put in on a street.
+abbrev pub put_on : StreetPlayed → ℕ
+put_on played = sum_over (λ (player : Player). player.bettor.put) (street_after played.start played.acts).players
+
+-- What was put in on all streets so far.
+abbrev pub put_so_far : Streets → ℕ
+put_so_far streets = put_on streets.last + sum_by put_on streets.before
+
+-- A later street: nothing is put in, the search for who is due starts after the button's seat, the bet level is 0, and the pot counts what was put in on the streets before.
+abbrev pub later_street : HandStart → Streets → StreetStart
+later_street start streets = record {
+  bettors = next_bettors (street_now streets);
+  after = start.marks.button;
+  opening = 0;
+  big = start.big;
+  unit = start.unit;
+  counted = put_so_far streets;
+}
+
+-- The streets once the next one has begun.
+abbrev pub with_next_street : HandStart → Streets → Streets
+with_next_street start streets = record {
+  last = record { start = later_street start streets; acts = [] };
+  before = streets.last ∷ streets.before;
+  left = streets.left - 1;
+}
+
+-- A street has ended where nobody is due and more than one player is live.
+abbrev pub has_ended : Street → Bool
+has_ended street = is_none (due_seat street) && not (is_one_live street.players)
+
+-- The streets once so many more have begun, each where the one before it has ended.
+abbrev pub dealt_on : HandStart → ℕ → Streets → Streets
+dealt_on start zero streets = streets
+dealt_on start (suc more) streets = if has_ended (street_now streets) then dealt_on start more (with_next_street start streets) else streets
+
+-- The streets once every street has begun that may.
+abbrev pub all_dealt_on : HandStart → Streets → Streets
+all_dealt_on start streets = dealt_on start streets.left streets
+
+-- The streets with one more act on the last.
+abbrev pub with_act : Streets → SeatAct → Streets
+with_act streets entry = record streets { last = record { start = streets.last.start; acts = entry ∷ streets.last.acts } }
+
+-- The streets of a hand after these acts, the newest first: three streets follow the first.
+unfoldable pub streets_after : HandStart → List SeatAct → Streets
+streets_after start [] = all_dealt_on start (record { last = record { start = first_street start; acts = [] }; before = []; left = 3 })
+streets_after start (entry ∷ acts) = all_dealt_on start (with_act (streets_after start acts) entry)
 
 -- The seat of the player of this name.
 abbrev pub seat_of_name : HandStart → List ℕ → Option ℕ
@@ -71,33 +125,44 @@ seat_of_name start name = option_map (λ player. player.seat) (find (λ player. 
 
 -- The name of the player in this seat.
 abbrev pub name_in_seat : HandStart → ℕ → Option (List ℕ)
-name_in_seat start seat = option_map (λ player. player.name) (find (λ player. player.seat == seat) start.seats)
+name_in_seat start seat = option_map (λ player. player.name) (player_of start seat)
 
--- The search for who is due starts after the seat of the last actor, and before any act after the big mark's seat.
-abbrev pub search_after : HandTerms → ℕ
-search_after hand =
-    option_map_or (λ seat. seat) (option_and_then (λ act. seat_of_name hand.start act.name) (slice_get hand.acts (length hand.acts - 1))) hand.start.marks.big
+-- An act by the seat that it came from.
+abbrev pub by_seat : HandStart → ActOf → SeatAct
+by_seat start act = record { seat = unwrap_or (seat_of_name start act.name) 0; act = act.act }
+
+-- The streets of a hand.
+abbrev pub streets_of : HandTerms → Streets
+streets_of hand = streets_after hand.start (reverse (map (by_seat hand.start) hand.acts))
+
+-- The street of a hand as it stands.
+abbrev pub street_of : HandTerms → Street
+street_of hand = street_now (streets_of hand)
 
 -- The seat of the player who is due, if somebody is.
 abbrev pub due_in_hand : HandTerms → Option ℕ
-due_in_hand hand = due_seat (players_on_street hand) (search_after hand) (level hand.start)
+due_in_hand hand = due_seat (street_of hand)
 
 -- The name of the player who is due, if somebody is.
 abbrev pub due_name : HandTerms → Option (List ℕ)
 due_name hand = option_and_then (name_in_seat hand.start) (due_in_hand hand)
 
--- Who would be due on a later street: the search starts after the button's seat, and the level is 0.
-abbrev pub due_later : HandTerms → Option ℕ
-due_later hand = due_seat (map at_next_street (players_on_street hand)) hand.start.marks.button 0
-
--- A hand is over where nobody is due on the street and on no later one.
+-- A hand is over where nobody is due on the street and on no later one: each later street has begun that may.
 abbrev pub is_over : HandTerms → Bool
-is_over hand = is_none (due_in_hand hand) && is_none (due_later hand)
+is_over hand = is_none (due_in_hand hand)
 
--- A player of the street after the player of this name has folded: if it is he, he is no longer live, and has acted.
-abbrev pub folded_player : StartSeat → OnStreet → List ℕ → OnStreet
-folded_player seat player name = if bytes_eq name seat.name then record player { live = false; acted = true } else player
+-- What the player in a seat has put in on a street.
+abbrev pub put_from : ℕ → StreetPlayed → ℕ
+put_from seat played = option_map_or (λ (player : Player). player.bettor.put) (player_in (street_after played.start played.acts).players seat) 0
 
--- The players of the street after the player of this name has folded.
-abbrev pub folded : List StartSeat → List OnStreet → List ℕ → List OnStreet
-folded seats players name = map (λ pair. folded_player pair.0 pair.1 name) (zip seats players)
+-- What a player has put in during the whole hand: the sum over its streets.
+abbrev pub put_in_hand : HandTerms → StartSeat → ℕ
+put_in_hand hand player = put_from player.seat (streets_of hand).last + sum_by (put_from player.seat) (streets_of hand).before
+
+-- What a player has behind: his stack without what he has put in.
+abbrev pub behind : HandTerms → StartSeat → ℕ
+behind hand player = player.stack - put_in_hand hand player
+
+-- Whether a player is live: he is until he folds.
+abbrev pub is_live : HandTerms → StartSeat → Bool
+is_live hand player = option_map_or (λ (other : Player). other.bettor.live) (player_in (street_of hand).players player.seat) false

@@ -1,15 +1,18 @@
 -- What holds of a hand's running fields at every moment.
-use Rattle.std.specs.Prelude.{◌≡◌, ℕ, List, length}
-use Rattle.betting_round.specs.declared.on_street.OnStreet.{OnStreet}
+use Rattle.std.specs.Prelude.{◌≡◌, ℕ, List, length, map}
+use Rattle.std.specs.Option.{is_some}
+use Rattle.table_engine.specs.declared.standing.Standing.{Standing}
 use Rattle.table_engine.specs.Starts.{IsLawfulStart}
-use Rattle.table_engine.specs.Hands.{HandTerms, players_on_street, search_after}
+use Rattle.table_engine.specs.Hands.{HandTerms, players_by_seat, streets_of}
 use Rattle.table_engine.specs.Plays.{IsLawfulPlay}
+use Rattle.table_engine.specs.Standings.{IsAt, IsReady}
 
-pub record IsHandKept (hand : HandTerms) (players : List OnStreet) (after : ℕ) (stacks : List ℕ) : Type 0 where
-  -- the players are those of the start, after the acts
-  pub seated : players ≡ players_on_street hand
-  -- the search starts after the last actor's seat, and before any act after the big mark's
-  pub search : after ≡ search_after hand
+pub record IsHandKept (hand : HandTerms) (standing : Standing) (stacks : List ℕ) : Type 0 where
+  -- the hand stands on its streets
+  pub at : IsAt (streets_of hand) standing
+  pub ready : IsReady standing
+  -- a player sits in a seat of the street exactly where one was dealt in
+  pub there : map is_some standing.round.players ≡ map is_some (players_by_seat hand.start)
   -- there is room for a stack of each player
   pub room : length stacks ≡ length hand.start.seats
   -- the start is lawful, and the acts are a lawful play of it

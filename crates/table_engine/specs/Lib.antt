@@ -1,6 +1,7 @@
-pub mod Starts
-pub mod Hands
 pub mod Acts
-pub mod Results
-pub mod Plays
+pub mod Hands
 pub mod Kept
+pub mod Plays
+pub mod Results
+pub mod Standings
+pub mod Starts

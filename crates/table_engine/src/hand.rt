@@ -1,17 +1,17 @@
 //! A hand that is played.
 
-ghost use Rattle.std.specs.Prelude.{◌≡◌, [], IsTrue, false, sum, is_none, IfOk, IfErr, OnOk, OnErr};
-ghost use Rattle.rulebook.specs.Checks.{IsChecked};
+ghost use Rattle.std.specs.Prelude.{◌≡◌, [], Some, None, IsTrue, false, true, sum, is_none, unwrap_or, IfOk, IfErr, OnOk, OnErr};
 ghost use Rattle.table_engine.specs.Starts.{IsLawfulStart};
-ghost use Rattle.table_engine.specs.Hands.{due_in_hand, due_name, is_over};
-ghost use Rattle.table_engine.specs.Acts.{turn_checks, refusal_of_act, done_by, hand_after, IsAnswer};
+ghost use Rattle.table_engine.specs.Hands.{due_in_hand, due_name, is_over, seat_of_name};
+ghost use Rattle.table_engine.specs.Acts.{refusal_in_seat, refusal_of_act, refusal_of_time, act_in_time, done_in_seat, done_of_act, done_of_time, hand_after, hand_after_time, IsAnswer};
 ghost use Rattle.table_engine.specs.Results.{is_won_by_folds, starting_stacks};
 ghost use Rattle.table_engine.specs.Plays.{IsLawfulPlay, IsCompletePlay};
 
-use crate::players::{all_seated, fold, pay, pot_of};
+use crate::players::pay;
 use crate::record::{ActFault, ActOf, HandRecord};
+use crate::standing::Standing;
 use crate::start::HandStart;
-use betting_round::{Act, Done, OnStreet, due_seat, is_one_live};
+use betting_round::{Act, Done};
 use floor_text::{List, Name, Refusal};
 use std::alloc::Global;
 use std::marker::Model;
@@ -22,10 +22,7 @@ use std::marker::Model;
 pub struct Hand {
     start: HandStart,
     acts: List<ActOf>,
-    /// The players on the street, in the order of the start.
-    players: Vec<OnStreet>,
-    /// The seat after which the search for who is due starts.
-    after: u8,
+    standing: Standing,
     /// Room for the stacks after the hand.
     stacks: Vec<u64>,
 }
@@ -38,28 +35,25 @@ impl Model for Hand {
 
     ghost view = { λ h. record { start = h.start; acts = h.acts } };
 
-    ghost invariant = { λ h. IsHandKept (record { start = h.start; acts = h.acts }) h.players.items h.after h.stacks.items };
+    ghost invariant = { λ h. IsHandKept (record { start = h.start; acts = h.acts }) h.standing h.stacks.items };
 }
 
 impl Hand {
-    /// A hand of a lawful start, before any act. It takes the room for its end; want of memory hands the start back.
+    /// A hand before any act. It takes the room for its end; want of memory hands the start back.
     pub fn new(alloc: Global, start: HandStart) -> Result<Hand, HandStart>
         requires { IsLawfulStart start }
         ensures hand { IfOk result (λ hand. hand ≡ record { start = start; acts = [] }) }
+        ensures played { IfOk result (λ hand. IsLawfulPlay hand) }
         ensures back { IfErr result (λ back. back ≡ start) }
     {
-        let Ok(players) = all_seated(alloc, &start) else {
+        let Ok(stacks) = Vec::from_elem(alloc, 0, start.seats.items().len()) else {
             return Err(start);
         };
-        let Ok(stacks) = Vec::from_elem(alloc, 0, players.len()) else {
-            return Err(start);
-        };
-        let after = start.marks.big;
+        let standing = Standing::first(&start).deal_on(&start);
         Ok(Hand {
             start,
             acts: List::new(alloc),
-            players,
-            after,
+            standing,
             stacks,
         })
     }
@@ -77,7 +71,7 @@ impl Hand {
     fn due_seat(&self) -> Option<u8>
         ensures { result ≡ due_in_hand self.now }
     {
-        due_seat(&self.players, self.after, self.start.level())
+        self.standing.round.due()
     }
 
     /// The name of the player who is due. `None` exactly where nobody is.
@@ -100,48 +94,77 @@ impl Hand {
     pub fn is_won_by_folds(&self) -> bool
         ensures { result ≡ is_won_by_folds self.now }
     {
-        is_one_live(&self.players)
+        self.standing.round.is_one_live()
     }
 
-    /// Checks that it is the turn of a player who is dealt in: nobody else is due, and somebody is.
-    fn check_turn(&self, name: Name) -> Result<(), Refusal>
-        ensures { IsChecked (turn_checks self.now name) result }
+    /// An act of the player in a seat. `NoMemory` is want of memory for an act that is not refused.
+    fn act_in_seat(
+        &mut self,
+        name: Name,
+        seat: u8,
+        act: Act,
+        by_time: bool,
+    ) -> Result<Done, ActFault>
+        requires { seat_of_name self.old.start name ≡ Some seat }
+        ensures answer { IsAnswer (refusal_in_seat self.old act seat) result }
+        ensures state { OnOk result (self.new ≡ hand_after self.old name act by_time) }
+        ensures done { IfOk result (λ done. done ≡ done_in_seat self.old act seat) }
+        ensures err { OnErr result (self.new ≡ self.old) }
+        ensures played { IsLawfulPlay self.new }
     {
-        let Some(due) = self.due() else {
-            return Err(Refusal::HandOver);
-        };
-        if due == name {
-            Ok(())
-        } else {
-            Err(Refusal::NotTurn)
-        }
+        let mut standing = self.standing;
+        let done = standing.apply(self.start.game, seat, act)?;
+        self.acts.push(ActOf { name, act, by_time })?;
+        self.standing = standing.deal_on(&self.start);
+        Ok(done)
     }
 
-    /// An act of a player. It is refused exactly with the lowest of NotDealt (20), where the player is not dealt in,
-    /// NotTurn (21), where another is due, and HandOver (22), where nobody is, that holds. `NoMemory` is want of
+    /// Takes an act of a player. It is refused exactly with the first check of `act_checks` that holds: NotDealt (20)
+    /// where the player is not dealt in, NotTurn (21), HandOver (22), and those of the act. `NoMemory` is want of
     /// memory for an act that is not refused. Either leaves the hand as it was.
     pub fn act(&mut self, name: Name, act: Act) -> Result<Done, ActFault>
-        ensures answer { IsAnswer (refusal_of_act self.old name) result }
+        ensures answer { IsAnswer (refusal_of_act self.old name act) result }
         ensures state { OnOk result (self.new ≡ hand_after self.old name act false) }
-        ensures done { IfOk result (λ done. done ≡ done_by act) }
+        ensures done { IfOk result (λ done. done ≡ done_of_act self.old name act) }
         ensures err { OnErr result (self.new ≡ self.old) }
+        ensures played { IsLawfulPlay self.new }
     {
         let Some(seat) = self.start.seat_of_name(name) else {
             return Err(ActFault::No(Refusal::NotDealt));
         };
-        self.check_turn(name)?;
-        self.acts.push(ActOf {
-            name,
-            act,
-            by_time: false,
-        })?;
-        match act {
-            Act::Fold => {
-                fold(&mut self.players, self.start.seats.items(), name);
-                self.after = seat;
-                Ok(Done::Folded)
-            }
+        self.act_in_seat(name, seat, act, false)
+    }
+
+    /// What the player in a seat does where time is called on him.
+    fn act_in_time(&self, seat: u8) -> Act
+        ensures { result ≡ act_in_time self.now seat }
+    {
+        let facing = self.standing.round.facing(seat);
+        if facing.put < facing.level {
+            Act::Fold
+        } else {
+            Act::Check
         }
+    }
+
+    /// Calls time. The player who is due folds where he has put in less than the bet level, and else he checks. It is
+    /// refused with HandOver (22) exactly where nobody is due. `NoMemory` is want of memory where somebody is. Either
+    /// leaves the hand as it was.
+    pub fn time(&mut self) -> Result<Done, ActFault>
+        ensures answer { IsAnswer (refusal_of_time self.old) result }
+        ensures state { OnOk result (self.new ≡ hand_after_time self.old) }
+        ensures done { IfOk result (λ done. done ≡ done_of_time self.old) }
+        ensures err { OnErr result (self.new ≡ self.old) }
+        ensures played { IsLawfulPlay self.new }
+    {
+        let Some(seat) = self.due_seat() else {
+            return Err(ActFault::No(Refusal::HandOver));
+        };
+        let Some(name) = self.start.name_in_seat(seat) else {
+            return Err(ActFault::No(Refusal::HandOver));
+        };
+        let act = self.act_in_time(seat);
+        self.act_in_seat(name, seat, act, true)
     }
 
     /// Ends a hand that is over and won by folds: the player who alone is live gets everything. It takes no memory.
@@ -153,9 +176,14 @@ impl Hand {
         ensures complete { IsCompletePlay result }
         ensures kept { sum result.stacks ≡ sum (starting_stacks self) }
     {
-        let pot = pot_of(&self.players);
+        let pot = self.standing.before + self.standing.round.put();
         let mut stacks = self.stacks;
-        pay(&mut stacks, &self.players, pot);
+        pay(
+            &mut stacks,
+            self.start.seats.items(),
+            &self.standing.round,
+            pot,
+        );
         HandRecord {
             start: self.start,
             acts: self.acts,

@@ -18,7 +18,7 @@ pub struct ActOf {
     pub name: Name,
     /// What he did.
     pub act: Act,
-    /// Whether the act was made for him because time was called. So far no time is called.
+    /// Whether the act was made for him because time was called.
     pub by_time: bool,
 }
 

@@ -1,7 +1,7 @@
 //! How a hand starts.
 
 ghost use Rattle.std.specs.Prelude.{◌≡◌, IfOk};
-ghost use Rattle.table_engine.specs.Hands.{level, seat_of_name, name_in_seat};
+ghost use Rattle.table_engine.specs.Hands.{player_of, seat_of_name, name_in_seat};
 
 use button_blinds::Marks;
 use card_set::{Deck, Game};
@@ -66,11 +66,12 @@ impl HandStart {
         })
     }
 
-    /// The level before the flop, in chips: the big blind, even where it was posted short.
-    pub(crate) fn level(&self) -> u64
-        ensures { result ≡ level self.now }
+    /// The player who is dealt in at a seat, if one is.
+    pub(crate) fn player_of(&self, seat: u8) -> Option<StartSeat>
+        ensures { result ≡ player_of self.now seat }
     {
-        self.big
+        let mut seats = self.seats.items().iter().copied();
+        seats.find(|player| player.seat == seat)
     }
 
     /// The seat of the player of this name.

@@ -1,12 +1,16 @@
 use Rattle.std.proofs.Common.{◌∙◌, arith}
+use Rattle.betting_round.specs.WhoIsDue.{player_in}
+use Rattle.table_engine.specs.declared.start.StartSeat.{StartSeat}
 use Rattle.table_engine.specs.Results.{stack_after}
-use Rattle.table_engine.proofs.Rewrites.{rewritten-more, rewritten-all}
+use Rattle.rulebook.proofs.Rewrites.{rewritten-all, rewritten-more}
 use Rattle.table_engine.proofs.players.pay.Goals as goal
 
-pub loop-place-preserved : goal.loop-place-preserved
-loop-place-preserved c =
-    rw (c.stack_after.ensures, c.loop-place.invariant) (rewritten-more (stack_after c.args.pot) c.args.players.now c.args.stacks.now c.loop-place.place _ (omega arith) (omega arith))
+pub loop-index-preserved : goal.loop-index-preserved
+loop-index-preserved c =
+    rw (c.stack_after.ensures, c.loop-index.invariant)
+    (rewritten-more (λ (player : StartSeat). stack_after c.args.pot (player_in c.args.round.now.players player.seat)) c.args.players.now c.args.stacks.now c.loop-index.index _ (omega arith) (omega arith))
 
 pub returns : goal.returns
 returns c =
-    c.loop-place.invariant ∙ rewritten-all (stack_after c.args.pot) c.args.players.now c.args.stacks.now c.loop-place.place (omega arith) (omega arith)
+    c.loop-index.invariant
+    ∙ rewritten-all (λ (player : StartSeat). stack_after c.args.pot (player_in c.args.round.now.players player.seat)) c.args.players.now c.args.stacks.now c.loop-index.index (omega arith) (omega arith)

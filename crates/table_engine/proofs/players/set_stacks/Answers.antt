@@ -2,7 +2,7 @@ use Rattle.std.proofs.Common.{◌∙◌, arith}
 use Rattle.std.specs.List.{zip}
 use Rattle.std.proofs.lemmas.Slice.Zip.{length-zip}
 use Rattle.table_engine.specs.Results.{with_stack}
-use Rattle.table_engine.proofs.Rewrites.{rewritten-all}
+use Rattle.rulebook.proofs.Rewrites.{rewritten-all}
 use Rattle.table_engine.proofs.Stacks.{stacks-more}
 use Rattle.table_engine.proofs.players.set_stacks.Goals as goal
 

@@ -1,5 +1,5 @@
 -- The ten players are dealt in lawfully: each test of their list computes.
-use Rattle.std.proofs.Common.{◌≡◌, ◌∙◌, ℕ, List, [], ◌∷◌, lit<, lit≤}
+use Rattle.std.proofs.Common.{◌≡◌, ◌∙◌, ap, refl, sym, ℕ, List, [], ◌∷◌, get_or, arith, lit<, lit≤}
 use Rattle.table_engine.specs.declared.start.StartSeat.{StartSeat}
 use Rattle.table_engine.proofs.tests.ten.Goals as goal
 

@@ -1,5 +1,5 @@
 use Rattle.std.proofs.Common.{◌∙◌, arith}
-use Rattle.table_engine.proofs.Rewrites.{written-back}
+use Rattle.rulebook.proofs.Rewrites.{written-back}
 use Rattle.table_engine.proofs.Stacks.{players-of_record}
 use Rattle.table_engine.proofs.record.HandRecord.into_players.Goals as goal
 
