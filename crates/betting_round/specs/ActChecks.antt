@@ -29,7 +29,8 @@ turn_checks street seat =
     (NotTurn, option_map_or (λ due. not (due == seat)) (due_seat street) false) ∷
     (HandOver, is_none (due_seat street)) ∷ []
 
--- A bet: nobody has bet, it is no less than the least unless it is all that he has, no more than he has, no more than the most, and a multiple of the unit.
+-- A bet: nobody has bet, it is no less than the least unless it is all that he has, no more than he has, no more than
+-- the most, and a multiple of the unit.
 abbrev pub bet_checks : Limits → ℕ → Facing → ℕ → List (Refusal × Bool)
 bet_checks limits unit facing n =
     (BetFacing, nat_lt 0 facing.level) ∷
@@ -38,7 +39,8 @@ bet_checks limits unit facing n =
     (PastPot, nat_lt (limits.most facing) n) ∷
     (NotUnit, not (n % unit == 0)) ∷ []
 
--- A raise: somebody has bet, it is no less than the least unless it is all that he has and above the level, no more than he has, no more than the most, the betting is open to him, and it is a multiple of the unit.
+-- A raise: somebody has bet, it is no less than the least unless it is all that he has and above the level, no more
+-- than he has, no more than the most, the betting is open to him, and it is a multiple of the unit.
 abbrev pub raise_checks : Limits → ℕ → Facing → ℕ → List (Refusal × Bool)
 raise_checks limits unit facing n =
     (NothingToRaise, facing.level == 0) ∷
@@ -48,11 +50,13 @@ raise_checks limits unit facing n =
     (NotReopened, not (limits.reopened facing)) ∷
     (NotUnit, not (n % unit == 0)) ∷ []
 
--- All-in: up to the bet level it is a call, and never refused; above it is a bet or a raise, which the most and the reopening bound.
+-- All-in: up to the bet level it is a call, and never refused; above it is a bet or a raise, which the most and the
+-- reopening bound.
 abbrev pub all_in_checks : Limits → Facing → List (Refusal × Bool)
 all_in_checks limits facing =
-    (PastPot, nat_lt facing.level (facing.put + facing.behind) && nat_lt (limits.most facing) (facing.put + facing.behind)) ∷
-    (NotReopened, nat_lt facing.level (facing.put + facing.behind) && not (limits.reopened facing)) ∷ []
+    let stack = facing.put + facing.behind in
+    (PastPot, nat_lt facing.level stack && nat_lt (limits.most facing) stack) ∷
+    (NotReopened, nat_lt facing.level stack && not (limits.reopened facing)) ∷ []
 
 -- The checks of a due player's act, in their order.
 abbrev pub act_checks : Limits → ℕ → Facing → Act → List (Refusal × Bool)

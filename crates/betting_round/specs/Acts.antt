@@ -6,7 +6,8 @@ use Rattle.betting_round.specs.declared.act.Done.{Done}
 use Rattle.betting_round.specs.declared.act.Done.TheVariants.{Folded, Checked, Called, BetTo, RaisedTo}
 use Rattle.betting_round.specs.declared.facing.Facing.{Facing}
 
--- What an act puts in, from the bet level and what its player has put in and has behind. Robert's Rules of Poker: a player who cannot meet the bet calls for all that he has.
+-- What an act puts in, from the bet level and what its player has put in and has behind. Robert's Rules of Poker: a
+-- player who cannot meet the bet calls for all that he has.
 abbrev pub amount : ℕ → ℕ → ℕ → Act → ℕ
 amount level put behind Fold = 0
 amount level put behind Check = 0
@@ -20,7 +21,8 @@ abbrev pub is_fold : Act → Bool
 is_fold Fold = true
 is_fold act = false
 
--- What an accepted act comes to. To go all-in is a call up to the bet level, above it a bet where the level is 0, and else a raise.
+-- What an accepted act comes to. To go all-in is a call up to the bet level, above it a bet where the level is 0, and
+-- else a raise.
 abbrev pub done_by : Facing → Act → Done
 done_by facing Fold = Folded
 done_by facing Check = Checked

@@ -9,13 +9,15 @@ pub record AreFewChips (facing : Facing) : Type 0 where
   pub pot : facing.pot < 2 ^ 60
   pub stack : facing.put + facing.behind < 2 ^ 60
 
--- A structure of betting: by what a player faces, the least and the most that may be bet or raised to, and whether he may raise.
+-- A structure of betting: by what a player faces, the least and the most that may be bet or raised to, and whether he
+-- may raise.
 pub record Limits : Type 0 where
   pub least : Facing → ℕ
   pub most : Facing → ℕ
   pub reopened : Facing → Bool
 
--- The Poker TDA Rules: a raise adds at least the greatest bet or raise of the street, and a player who has acted may raise again only where the bet level has risen by a full raise since, by one bet or by several.
+-- The Poker TDA Rules: a raise adds at least the greatest bet or raise of the street, and a player who has acted may
+-- raise again only where the bet level has risen by a full raise since, by one bet or by several.
 abbrev pub is_reopened : Facing → Bool
 is_reopened facing = not facing.acted || nat_le facing.full (facing.level - facing.put)
 

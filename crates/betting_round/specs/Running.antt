@@ -37,7 +37,9 @@ placed street seat player act put_in = record {
 
 -- A street after an act of the player in a seat.
 abbrev pub stepped : Street → ℕ → Act → Street
-stepped street seat act = option_map_or (λ player. placed street seat player act (amount_of street.level player act)) (player_at street.players seat) street
+stepped street seat act =
+    option_map_or (λ player. placed street seat player act (amount_of street.level player act))
+    (player_at street.players seat) street
 
 -- No sum of a street's chips comes near the end of its type, and there is a smallest denomination.
 pub record IsStreetKept (street : Street) : Type 0 where

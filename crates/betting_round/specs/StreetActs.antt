@@ -6,7 +6,8 @@ use Rattle.betting_round.specs.declared.bettor.Player.{Player}
 use Rattle.betting_round.specs.declared.street.Street.{Street}
 use Rattle.betting_round.specs.Acts.{amount, is_fold}
 
--- How a street begins: who plays, the seat after which the search for who is due starts, the bet level that it opens at, the big blind, the smallest denomination in play, and what the pot holds beside the street's chips.
+-- How a street begins: who plays, the seat after which the search for who is due starts, the bet level that it opens
+-- at, the big blind, the smallest denomination in play, and what the pot holds beside the street's chips.
 pub record StreetStart : Type 0 where
   pub bettors : List (Option Bettor)
   pub after : ℕ
@@ -42,7 +43,9 @@ unfoldable pub put_by_acts : StreetStart → List SeatAct → Bettor → ℕ
 put_by_acts start [] bettor = 0
 put_by_acts start (entry ∷ acts) bettor =
     if entry.seat == bettor.seat
-    then put_by_acts start acts bettor + amount (greatest start.opening (λ other. other.put + put_by_acts start acts other) start.bettors) (bettor.put + put_by_acts start acts bettor) (bettor.behind - put_by_acts start acts bettor) entry.act
+    then put_by_acts start acts bettor
+        + amount (greatest start.opening (λ other. other.put + put_by_acts start acts other) start.bettors)
+        (bettor.put + put_by_acts start acts bettor) (bettor.behind - put_by_acts start acts bettor) entry.act
     else put_by_acts start acts bettor
 
 -- What a player has put in on the street: what he posted, and what his acts put in.
@@ -130,7 +133,8 @@ chips_of bettor = bettor.put + bettor.behind
 abbrev pub chips_on : Street → ℕ
 chips_on street = sum_over (λ (player : Player). chips_of player.bettor) street.players
 
--- How a street may begin: the player listed at index i sits in seat i + 1, there is a smallest denomination, and no sum of chips comes near the end of its type.
+-- How a street may begin: the player listed at index i sits in seat i + 1, there is a smallest denomination, and no sum
+-- of chips comes near the end of its type.
 pub record IsStreetStart (start : StreetStart) : Type 0 where
   pub seated : AreSeated 1 start.bettors
   pub chips : start.counted + sum_over chips_of start.bettors < 2 ^ 60

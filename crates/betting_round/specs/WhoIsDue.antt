@@ -32,18 +32,21 @@ is_one_live players = count_by (is_there is_live) players == 1
 
 -- Whether no live player has put in more than this.
 abbrev pub has_put_most : List (Option Player) → ℕ → Bool
-has_put_most players put = list_all (λ slot. not (is_there (λ other. other.bettor.live && nat_lt put other.bettor.put) slot)) players
+has_put_most players put =
+    list_all (λ slot. not (is_there (λ other. other.bettor.live && nat_lt put other.bettor.put) slot)) players
 
 -- Exactly one live player is not all-in, and he has put in at least as much as every other live player.
 abbrev pub is_only_one_to_act : List (Option Player) → Bool
 is_only_one_to_act players =
-    count_by (is_there can_act) players == 1 && list_any (is_there (λ player. can_act player && has_put_most players player.bettor.put)) players
+    count_by (is_there can_act) players == 1
+        && list_any (is_there (λ player. can_act player && has_put_most players player.bettor.put)) players
 
 -- Nobody is due where one player alone is live, or where only one could act and has nothing to answer.
 abbrev pub is_closed : List (Option Player) → Bool
 is_closed players = is_one_live players || is_only_one_to_act players
 
--- A player may be due where he is live, he is not all-in, and he has not acted on this street or has put in less than the bet level.
+-- A player may be due where he is live, he is not all-in, and he has not acted on this street or has put in less than
+-- the bet level.
 abbrev pub may_be_due : ℕ → Player → Bool
 may_be_due level player = can_act player && (not player.acted || nat_lt player.bettor.put level)
 
@@ -52,4 +55,5 @@ unfoldable pub due_seat : Street → Option ℕ
 due_seat street =
     if is_closed street.players
     then None
-    else find (λ seat. is_there (may_be_due street.level) (player_at street.players seat)) (clockwise_after 10 street.after)
+    else find (λ seat. is_there (may_be_due street.level) (player_at street.players seat))
+    (clockwise_after 10 street.after)

@@ -104,7 +104,9 @@ impl Round {
     pub fn apply<B: Bounds>(&mut self, bounds: &B, seat: u8, act: Act) -> Result<Done, Refusal>
         ensures ok { OnOk result (act_refusal (B.limits bounds.now) self.old seat act ≡ None) }
         ensures done { IfOk result (λ done. done ≡ done_by (facing_in self.old seat) act) }
-        ensures after { OnOk result ((start : StreetStart) → (acts : List SeatAct) → IsStreetStart start → self.old ≡ street_after start acts → self.new ≡ street_after start (record { seat = seat; act = act } ∷ acts)) }
+        ensures after { OnOk result ((start : StreetStart) → (acts : List SeatAct) → IsStreetStart start
+            → self.old ≡ street_after start acts
+            → self.new ≡ street_after start (record { seat = seat; act = act } ∷ acts)) }
         ensures err { IfErr result (λ refusal. act_refusal (B.limits bounds.now) self.old seat act ≡ Some refusal) }
         ensures kept { IfErr result (λ _. self.new ≡ self.old) }
     {

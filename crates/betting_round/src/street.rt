@@ -235,7 +235,8 @@ impl Street {
         ensures first { OnOk result (1 ≤ seat) }
         ensures last { OnOk result (seat ≤ 10) }
         ensures sits { OnOk result (IsSome (player_at self.now.players seat)) }
-        ensures held { OnOk result (IfSome (player_at self.now.players seat) (λ player. amount_of self.now.level player act ≤ player.bettor.behind)) }
+        ensures held { OnOk result (IfSome (player_at self.now.players seat)
+            (λ player. amount_of self.now.level player act ≤ player.bettor.behind)) }
         ensures err { IfErr result (λ refusal. act_refusal (B.limits bounds.now) self.now seat act ≡ Some refusal) }
     {
         self.check_turn(seat)?;
@@ -249,7 +250,8 @@ impl Street {
         requires kept { IsStreetKept self.old }
         requires first { 1 ≤ seat }
         requires last { seat ≤ 10 }
-        requires held { IfSome (player_at self.old.players seat) (λ player. amount_of self.old.level player act ≤ player.bettor.behind) }
+        requires held { IfSome (player_at self.old.players seat)
+            (λ player. amount_of self.old.level player act ≤ player.bettor.behind) }
         ensures stepped { self.new ≡ stepped self.old seat act }
         ensures kept { IsStreetKept self.new }
     {

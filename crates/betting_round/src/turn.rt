@@ -76,7 +76,8 @@ fn can_act_and_has_put_most(slot: &Option<Player>, players: &[Option<Player>]) -
 
 /// Whether somebody can act, and no live player has put in more than he has.
 fn one_has_put_most(players: &[Option<Player>]) -> bool
-    ensures { result ≡ list_any (is_there (λ player. can_act player && has_put_most players.now player.bettor.put)) players.now }
+    ensures { result ≡ list_any (is_there (λ player. can_act player && has_put_most players.now player.bettor.put))
+        players.now }
 {
     players
         .iter()
@@ -127,7 +128,8 @@ pub(crate) fn first_to_act(
 ) -> Option<u8>
     requires some { 1 ≤ seats }
     requires most { seats ≤ 10 }
-    ensures first { result ≡ find (λ seat. is_there (may_be_due level) (player_at players.now seat)) (clockwise_after seats after) }
+    ensures first { result ≡ find (λ seat. is_there (may_be_due level) (player_at players.now seat))
+        (clockwise_after seats after) }
     ensures within { IfSome result (λ seat. (1 ≤ seat) × (seat ≤ 10)) }
     ensures sits { IfSome result (λ seat. IsSome (player_at players.now seat)) }
 {

@@ -23,7 +23,7 @@ use Rattle.table_engine.specs.declared.start.HandStart.{HandStart}
 use Rattle.table_engine.specs.declared.start.StartSeat.{StartSeat}
 use Rattle.table_engine.specs.declared.standing.Standing.{Standing}
 use Rattle.table_engine.specs.Starts.{IsLawfulStart}
-use Rattle.table_engine.specs.Hands.{HandTerms, Streets, all_dealt_on, blind_of, by_seat, dealt_on, first_street, has_ended, lacking, later_street, player_of, players_by_seat, posted, put_on, put_so_far, seat_of_name, seated, street_now, streets_after, streets_of, with_act, with_next_street}
+use Rattle.table_engine.specs.Hands.{HandTerms, Streets, all_dealt_on, blind_of, by_seat, dealt_on, first_streets, has_ended, lacking, later_street, player_of, players_by_seat, posted, put_on, put_so_far, seat_of_name, seated, street_now, streets_after, streets_of, with_act, with_next_street}
 use Rattle.table_engine.specs.Standings.{IsAt, IsReady}
 
 -- Where a street has not ended no other begins.
@@ -162,7 +162,7 @@ there-act streets standing after seat act at round =
     ∙ sym (ap (λ (s : Street). map is_some s.players) at.round)
 
 -- The streets of a hand before any act.
-pub streets-none : (start : HandStart) → streets_after start [] ≡ dealt_on start 3 (record { last = record { start = first_street start; acts = [] }; before = []; left = 3 })
+pub streets-none : (start : HandStart) → streets_after start [] ≡ dealt_on start 3 (first_streets start)
 unfolding streets_after
 streets-none start = refl
 

@@ -1,4 +1,5 @@
--- A hand is its start and its acts. Its streets are cut out of its acts. The Poker TDA Rules and Robert's Rules of Poker.
+-- A hand is its start and its acts. Its streets are cut out of its acts. The Poker TDA Rules and Robert's Rules of
+-- Poker.
 use Rattle.std.specs.Prelude.{ℕ, zero, suc, ◌+◌, ◌-◌, min, Bool, true, false, not, ◌==◌, ◌&&◌, List, [], ◌∷◌, map, reverse, find, sum_by, Option, is_none, option_map, option_and_then, unwrap_or, if◌then◌else◌}
 use Rattle.std.specs.Option.{option_map_or}
 use Rattle.std.specs.Str.{bytes_eq}
@@ -34,7 +35,12 @@ lacking start player = blind_of start player.seat - posted start player
 
 -- A player of the start as he begins the hand.
 abbrev pub seated : HandStart → StartSeat → Bettor
-seated start player = record { seat = player.seat; put = posted start player; behind = player.stack - posted start player; live = true }
+seated start player = record {
+  seat = player.seat;
+  put = posted start player;
+  behind = player.stack - posted start player;
+  live = true;
+}
 
 -- The player who is dealt in at a seat, if one is.
 abbrev pub player_of : HandStart → ℕ → Option StartSeat
@@ -44,7 +50,9 @@ player_of start seat = find (λ player. player.seat == seat) start.seats
 abbrev pub players_by_seat : HandStart → List (Option StartSeat)
 players_by_seat start = map (player_of start) (walk (λ seat. seat + 1) 10 0)
 
--- The first street, before the flop: the blinds are posted, the search for who is due starts after the big mark's seat, and the bet level is the big blind even where it was posted short. Beside what was put in, the pot counts what short blinds lack (this project's own).
+-- The first street, before the flop: the blinds are posted, the search for who is due starts after the big mark's seat,
+-- and the bet level is the big blind even where it was posted short. Beside what was put in, the pot counts what short
+-- blinds lack (this project's own).
 abbrev pub first_street : HandStart → StreetStart
 first_street start = record {
   bettors = map (option_map (seated start)) (players_by_seat start);
@@ -78,7 +86,8 @@ put_on played = sum_over (λ (player : Player). player.bettor.put) (street_after
 abbrev pub put_so_far : Streets → ℕ
 put_so_far streets = put_on streets.last + sum_by put_on streets.before
 
--- A later street: nothing is put in, the search for who is due starts after the button's seat, the bet level is 0, and the pot counts what was put in on the streets before.
+-- A later street: nothing is put in, the search for who is due starts after the button's seat, the bet level is 0, and
+-- the pot counts what was put in on the streets before.
 abbrev pub later_street : HandStart → Streets → StreetStart
 later_street start streets = record {
   bettors = next_bettors (street_now streets);
@@ -104,7 +113,8 @@ has_ended street = is_none (due_seat street) && not (is_one_live street.players)
 -- The streets once so many more have begun, each where the one before it has ended.
 abbrev pub dealt_on : HandStart → ℕ → Streets → Streets
 dealt_on start zero streets = streets
-dealt_on start (suc more) streets = if has_ended (street_now streets) then dealt_on start more (with_next_street start streets) else streets
+dealt_on start (suc more) streets =
+    if has_ended (street_now streets) then dealt_on start more (with_next_street start streets) else streets
 
 -- The streets once every street has begun that may.
 abbrev pub all_dealt_on : HandStart → Streets → Streets
@@ -112,11 +122,16 @@ all_dealt_on start streets = dealt_on start streets.left streets
 
 -- The streets with one more act on the last.
 abbrev pub with_act : Streets → SeatAct → Streets
-with_act streets entry = record streets { last = record { start = streets.last.start; acts = entry ∷ streets.last.acts } }
+with_act streets entry =
+    record streets { last = record { start = streets.last.start; acts = entry ∷ streets.last.acts } }
 
--- The streets of a hand after these acts, the newest first: three streets follow the first.
+-- The streets of a hand before any act, where the first alone has begun: three streets may follow it.
+abbrev pub first_streets : HandStart → Streets
+first_streets start = record { last = record { start = first_street start; acts = [] }; before = []; left = 3 }
+
+-- The streets of a hand after these acts, the newest first.
 unfoldable pub streets_after : HandStart → List SeatAct → Streets
-streets_after start [] = all_dealt_on start (record { last = record { start = first_street start; acts = [] }; before = []; left = 3 })
+streets_after start [] = all_dealt_on start (first_streets start)
 streets_after start (entry ∷ acts) = all_dealt_on start (with_act (streets_after start acts) entry)
 
 -- The seat of the player of this name.
@@ -153,11 +168,14 @@ is_over hand = is_none (due_in_hand hand)
 
 -- What the player in a seat has put in on a street.
 abbrev pub put_from : ℕ → StreetPlayed → ℕ
-put_from seat played = option_map_or (λ (player : Player). player.bettor.put) (player_in (street_after played.start played.acts).players seat) 0
+put_from seat played =
+    option_map_or (λ (player : Player). player.bettor.put)
+    (player_in (street_after played.start played.acts).players seat) 0
 
 -- What a player has put in during the whole hand: the sum over its streets.
 abbrev pub put_in_hand : HandTerms → StartSeat → ℕ
-put_in_hand hand player = put_from player.seat (streets_of hand).last + sum_by (put_from player.seat) (streets_of hand).before
+put_in_hand hand player =
+    put_from player.seat (streets_of hand).last + sum_by (put_from player.seat) (streets_of hand).before
 
 -- What a player has behind: his stack without what he has put in.
 abbrev pub behind : HandTerms → StartSeat → ℕ
@@ -165,4 +183,5 @@ behind hand player = player.stack - put_in_hand hand player
 
 -- Whether a player is live: he is until he folds.
 abbrev pub is_live : HandTerms → StartSeat → Bool
-is_live hand player = option_map_or (λ (other : Player). other.bettor.live) (player_in (street_of hand).players player.seat) false
+is_live hand player =
+    option_map_or (λ (other : Player). other.bettor.live) (player_in (street_of hand).players player.seat) false

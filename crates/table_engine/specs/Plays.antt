@@ -11,7 +11,8 @@ use Rattle.table_engine.specs.Results.{is_won_by_folds, stacks_after_hand}
 abbrev pub are_lawful_after : HandStart → List ActOf → List ActOf → Bool
 are_lawful_after start before [] = true
 are_lawful_after start before (act ∷ acts) =
-    is_none (refusal_of_act (record { start = start; acts = before }) act.name act.act) && are_lawful_after start (before ++ act ∷ []) acts
+    is_none (refusal_of_act (record { start = start; acts = before }) act.name act.act)
+        && are_lawful_after start (before ++ act ∷ []) acts
 
 -- A hand is a lawful play of its start where each act is refused by no check on those before it.
 pub record IsLawfulPlay (hand : HandTerms) : Type 0 where
@@ -21,7 +22,8 @@ pub record IsLawfulPlay (hand : HandTerms) : Type 0 where
 abbrev pub hand_of : HandRecord → HandTerms
 hand_of done = record { start = done.start; acts = done.acts }
 
--- A record is a complete play of its start where its acts are a lawful play that is over, and its stacks are those that this play comes to. So far a hand is played to its end only where it is won by folds.
+-- A record is a complete play of its start where its acts are a lawful play that is over, and its stacks are those that
+-- this play comes to. So far a hand is played to its end only where it is won by folds.
 pub record IsCompletePlay (done : HandRecord) : Type 0 where
   pub play : IsLawfulPlay (hand_of done)
   pub over : is_over (hand_of done) ≡ true

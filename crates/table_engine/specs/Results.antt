@@ -29,7 +29,8 @@ stacks_after_hand hand = map (stack_after_hand hand) hand.start.seats
 
 -- What a player of the street, if one is there, has after a hand with this pot that is won without a showdown.
 abbrev pub stack_after : ℕ → Option Player → ℕ
-stack_after pot slot = option_map_or (λ (player : Player). player.bettor.behind + (if player.bettor.live then pot else 0)) slot 0
+stack_after pot slot =
+    option_map_or (λ (player : Player). player.bettor.behind + (if player.bettor.live then pot else 0)) slot 0
 
 -- A player with another stack.
 abbrev pub with_stack : StartSeat → ℕ → StartSeat

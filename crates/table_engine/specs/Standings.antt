@@ -15,7 +15,8 @@ pub record IsAt (streets : Streets) (standing : Standing) : Type 0 where
   -- the last street began as a street may
   pub right : IsStreetStart streets.last.start
 
--- The next street may begin from here: each player sits in the seat of his place in the list, and the chips of the hand are far from the end of their type.
+-- The next street may begin from here: each player sits in the seat of his place in the list, and the chips of the hand
+-- are far from the end of their type.
 pub record IsReady (standing : Standing) : Type 0 where
   pub seated : AreSeated 1 (next_bettors standing.round)
   pub chips : standing.before + chips_on standing.round < 2 ^ 60

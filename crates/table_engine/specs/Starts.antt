@@ -38,7 +38,8 @@ pub record IsLawfulStart (start : HandStart) : Type 0 where
   -- each has a stack above 0 that is a multiple of the unit, and all are far from the end of their type
   pub stacks : have_playable_stacks start.unit start.seats ≡ true
   pub chips : chips_of start.seats < 2 ^ 53
-  -- the button and the blinds are at seats of the table, a player sits in the big mark's seat, and the small mark is another seat
+  -- the button and the blinds are at seats of the table, a player sits in the big mark's seat, and the small mark is
+  -- another seat
   pub marks : AreMarksOf start.seat_count start.marks
   pub big : list_any (λ player. player.seat == start.marks.big) start.seats ≡ true
   pub small : start.marks.small ≢ start.marks.big

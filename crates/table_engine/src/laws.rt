@@ -8,5 +8,6 @@ ghost use Rattle.table_engine.specs.Plays.{IsLawfulPlay};
 
 /// Each act of a lawful play is refused by no check on the acts before it.
 pub fn acts_of_a_hand()
-    ensures { (hand : HandTerms) (front : List ActOf) (act : ActOf) (back : List ActOf) → IsLawfulPlay hand → hand.acts ≡ front ++ act ∷ back → refusal_of_act (record hand { acts = front }) act.name act.act ≡ None }
+    ensures { (hand : HandTerms) (front : List ActOf) (act : ActOf) (back : List ActOf) → IsLawfulPlay hand
+        → hand.acts ≡ front ++ act ∷ back → refusal_of_act (record hand { acts = front }) act.name act.act ≡ None }
 {}

@@ -1,12 +1,12 @@
 //! How a hand stands: its street, and what came before it.
 
-ghost use Rattle.std.specs.Prelude.{◌≡◌, ◌+◌, ◌<◌, ◌≤◌, ◌^◌, List, [], ◌∷◌, None, Some, option_map, map, IfOk, OnOk, IfErr};
+ghost use Rattle.std.specs.Prelude.{◌≡◌, ◌+◌, ◌<◌, ◌≤◌, ◌^◌, List, ◌∷◌, None, Some, option_map, map, IfOk, OnOk, IfErr};
 ghost use Rattle.std.specs.Option.{is_some};
 ghost use Rattle.betting_round.specs.Acts.{done_by};
 ghost use Rattle.betting_round.specs.ActChecks.{act_refusal, facing_in};
 ghost use Rattle.betting_round.specs.StreetActs.{StreetStart, SeatAct, IsStreetStart, sum_over, street_after};
 ghost use Rattle.table_engine.specs.Starts.{IsLawfulStart};
-ghost use Rattle.table_engine.specs.Hands.{Streets, blind_of, posted, lacking, seated, player_of, players_by_seat, first_street, has_ended, with_next_street, dealt_on, with_act};
+ghost use Rattle.table_engine.specs.Hands.{Streets, blind_of, posted, lacking, seated, player_of, players_by_seat, first_streets, has_ended, with_next_street, dealt_on, with_act};
 ghost use Rattle.table_engine.specs.Acts.{limits_of};
 ghost use Rattle.table_engine.specs.Standings.{IsAt, IsReady};
 
@@ -136,7 +136,9 @@ fn has_ended(round: &Round) -> bool
 fn apply(round: &mut Round, game: Game, seat: u8, act: Act) -> Result<Done, Refusal>
     ensures ok { OnOk result (act_refusal (limits_of game) round.old seat act ≡ None) }
     ensures done { IfOk result (λ done. done ≡ done_by (facing_in round.old seat) act) }
-    ensures after { OnOk result ((start : StreetStart) → (acts : List SeatAct) → IsStreetStart start → round.old ≡ street_after start acts → round.new ≡ street_after start (record { seat = seat; act = act } ∷ acts)) }
+    ensures after { OnOk result ((start : StreetStart) → (acts : List SeatAct) → IsStreetStart start
+        → round.old ≡ street_after start acts
+        → round.new ≡ street_after start (record { seat = seat; act = act } ∷ acts)) }
     ensures err { IfErr result (λ refusal. act_refusal (limits_of game) round.old seat act ≡ Some refusal) }
 {
     match game {
@@ -150,7 +152,7 @@ impl Standing {
     /// A hand before the first act, on its first street.
     pub fn first(start: &HandStart) -> Standing
         requires { IsLawfulStart start.now }
-        ensures at { IsAt (record { last = record { start = first_street start.now; acts = [] }; before = []; left = 3 }) result }
+        ensures at { IsAt (first_streets start.now) result }
         ensures ready { IsReady result }
         ensures there { map is_some result.round.players ≡ map is_some (players_by_seat start.now) }
     {
@@ -218,9 +220,11 @@ impl Standing {
         requires { IsReady self.old }
         ensures ok { OnOk result (act_refusal (limits_of game) self.old.round seat act ≡ None) }
         ensures done { IfOk result (λ done. done ≡ done_by (facing_in self.old.round seat) act) }
-        ensures at { OnOk result ((streets : Streets) → IsAt streets self.old → IsAt (with_act streets (record { seat = seat; act = act })) self.new) }
+        ensures at { OnOk result ((streets : Streets) → IsAt streets self.old
+            → IsAt (with_act streets (record { seat = seat; act = act })) self.new) }
         ensures ready { OnOk result ((streets : Streets) → IsAt streets self.old → IsReady self.new) }
-        ensures there { OnOk result ((streets : Streets) → IsAt streets self.old → map is_some self.new.round.players ≡ map is_some self.old.round.players) }
+        ensures there { OnOk result ((streets : Streets) → IsAt streets self.old
+            → map is_some self.new.round.players ≡ map is_some self.old.round.players) }
         ensures err { IfErr result (λ refusal. act_refusal (limits_of game) self.old.round seat act ≡ Some refusal) }
     {
         let done = apply(&mut self.round, game, seat, act)?;
