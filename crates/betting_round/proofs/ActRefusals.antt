@@ -30,7 +30,7 @@ refusal_act limits street seat act turn =
     first_that_holds-later (turn_checks street seat) (act_checks limits street.unit (facing_in street seat) act) turn
 
 -- A seat from 1 on is the index before it.
-player_in-at : (players : _) (seat : ℕ) → 1 ≤ seat → player_in players seat ≡ player_at players seat
+pub player_in-at : (players : _) (seat : ℕ) → 1 ≤ seat → player_in players seat ≡ player_at players seat
 player_in-at players seat low = let no : (seat == 0) ≡ false = grind (arith, nat_tests) in rw no
 
 -- What a player faces on a street that is kept is few chips.

@@ -48,11 +48,17 @@ due-found : (street : Street) (seat : ℕ) → due_seat street ≡ Some seat →
 unfolding due_seat
 due-found street seat due = found-open (is_closed street.players) (find (λ s. is_there (may_be_due street.level) (player_at street.players s)) (clockwise_after 10 street.after)) seat due
 
+-- The player who is due may be.
+pub due-may : (street : Street) (seat : ℕ) → due_seat street ≡ Some seat
+    → is_there (may_be_due street.level) (player_at street.players seat) ≡ true
+due-may street seat due =
+    find-passes (λ s. is_there (may_be_due street.level) (player_at street.players s)) (clockwise_after 10 street.after)
+    seat (due-found street seat due)
+
 -- The player who is due can act.
 pub due-can_act : (street : Street) (seat : ℕ) → due_seat street ≡ Some seat → is_there can_act (player_at street.players seat) ≡ true
 due-can_act street seat due =
-    can_act-due street.level (player_at street.players seat)
-    (find-passes (λ s. is_there (may_be_due street.level) (player_at street.players s)) (clockwise_after 10 street.after) seat (due-found street seat due))
+    can_act-due street.level (player_at street.players seat) (due-may street seat due)
 
 -- What is found on a walk clockwise is a seat from 1 on.
 found-low : (test : ℕ → Bool) (seats steps from seat : ℕ) → find test (walk (seat_after seats) steps from) ≡ Some seat → 1 ≤ seat
@@ -154,9 +160,10 @@ level-grows start entry acts =
     (λ bettor. let grows = put_by_acts-grows start entry acts bettor in omega arith)
 
 -- Where a slot passes a test somebody is there.
-pub slot-there : (slot : Option Player) → is_there can_act slot ≡ true → (player : Player) × (slot ≡ Some player)
-slot-there None passes = absurd cc
-slot-there (Some player) passes = (player, refl)
+pub slot-there : (test : Player → Bool) (slot : Option Player) → is_there test slot ≡ true
+    → (player : Player) × (slot ≡ Some player)
+slot-there test None passes = absurd cc
+slot-there test (Some player) passes = (player, refl)
 
 -- An act of a player who has the chips for it keeps the chips of the street.
 chips-placed : (street : Street) (seat : ℕ) (player : Player) (act : Act) (put_in : ℕ) → player_at street.players seat ≡ Some player → put_in ≤ player.bettor.behind
@@ -171,7 +178,7 @@ chips-kept limits start acts entry right accepted =
     let street = street_after start acts in
     let due = accepted-due limits street entry.seat entry.act accepted in
     let low = due-low street entry.seat due in
-    let there = slot-there (player_at street.players entry.seat) (due-can_act street entry.seat due) in
+    let there = slot-there can_act (player_at street.players entry.seat) (due-can_act street entry.seat due) in
     let covered = rw there.1 at (accepted-covered limits street entry.seat entry.act accepted) in
     let step = street_stepped start acts entry there.0 right.seated low there.1 in
     let placed_is = ap (λ slot. chips_on (option_map_or (λ player. placed street entry.seat player entry.act (amount_of street.level player entry.act)) slot street)) there.1 in

@@ -1,6 +1,7 @@
 -- The first check that holds of groups that are joined.
 use Rattle.std.proofs.Common.{◌≡◌, refl, Bool, true, false, cond, List, [], ◌∷◌, ◌++◌, map, Option, Some, None}
-use Rattle.std.specs.Prelude.{option_map}
+use Rattle.std.specs.Prelude.{not, ◌&&◌, option_map}
+use Rattle.std.specs.List.{list_all}
 use Rattle.std.specs.Option.{option_or}
 use Rattle.rulebook.specs.Checks.{first_that_holds}
 
@@ -29,6 +30,18 @@ none_holds-both one other none = by_one (first_that_holds one) refl
     by_one : (found : Option _) → first_that_holds one ≡ found → (first_that_holds one ≡ None) × (first_that_holds other ≡ None)
     by_one None same = (same, rw (first_that_holds-later one other same) at none)
     by_one (Some check) same = let sooner = first_that_holds-sooner one other check same in absurd cc
+
+-- Where no check holds first, none holds.
+pub none_holds : {A : Type 0} (checks : List (A × Bool)) → first_that_holds checks ≡ None
+    → list_all (λ check. not check.1) checks ≡ true
+none_holds [] none = refl
+none_holds (check ∷ checks) none = by_test check.1 none (none_holds checks)
+  where
+    by_test : (holds : Bool) → cond holds (Some check.0) (first_that_holds checks) ≡ None
+        → (first_that_holds checks ≡ None → list_all (λ check. not check.1) checks ≡ true)
+        → (not holds && list_all (λ check. not check.1) checks) ≡ true
+    by_test true none rest = cc
+    by_test false none rest = rest none
 
 -- Where what each check answers is put in other words, the first that holds is the same in these words.
 pub first_that_holds-map : {A B : Type 0} (words : A → B) (checks : List (A × Bool)) → first_that_holds (map (λ check. (words check.0, check.1)) checks) ≡ option_map words (first_that_holds checks)

@@ -11,7 +11,7 @@ use Rattle.rulebook.specs.Seats.{walk}
 use Rattle.rulebook.proofs.Tests.{find-all}
 use Rattle.betting_round.specs.ActChecks.{facing_in}
 use Rattle.betting_round.specs.declared.street.Street.{Street}
-use Rattle.betting_round.specs.WhoIsDue.{due_seat, player_at}
+use Rattle.betting_round.specs.WhoIsDue.{can_act, due_seat, player_at}
 use Rattle.betting_round.proofs.Turns.{due-can_act, due-low, due-may_check, due-may_fold, slot-there}
 use Rattle.table_engine.specs.declared.start.HandStart.{HandStart}
 use Rattle.table_engine.specs.declared.start.StartSeat.{StartSeat}
@@ -37,7 +37,7 @@ walk-at at (suc steps) from (suc index) there =
 pub due-dealt : (start : HandStart) (street : Street) (seat : ℕ) → map is_some street.players ≡ map is_some (players_by_seat start) → due_seat street ≡ Some seat → is_some (player_of start seat) ≡ true
 due-dealt start street seat same due =
     let low = due-low street seat due in
-    let slot = slot-there (player_at street.players seat) (due-can_act street seat due) in
+    let slot = slot-there can_act (player_at street.players seat) (due-can_act street seat due) in
     let there : is_some (player_at street.players seat) ≡ true = ap is_some slot.1 in
     let listed : is_some (slice_index_or (players_by_seat start) (seat - 1) None) ≡ true =
     sym (some-at (players_by_seat start) (seat - 1)) ∙ ap (λ tests. slice_index_or tests (seat - 1) false) (sym same) ∙ some-at street.players (seat - 1) ∙ there in
