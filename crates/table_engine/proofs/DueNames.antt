@@ -17,21 +17,8 @@ use Rattle.table_engine.specs.declared.start.HandStart.{HandStart}
 use Rattle.table_engine.specs.declared.start.StartSeat.{StartSeat}
 use Rattle.table_engine.specs.Hands.{HandTerms, due_in_hand, due_name, name_in_seat, player_of, players_by_seat, seat_of_name, street_of}
 use Rattle.table_engine.specs.Acts.{act_in_time, limits_of, refusal_in_seat, refusal_of_time, time_act}
+use Rattle.table_engine.proofs.BySeat.{along-there, some-at}
 use Rattle.table_engine.proofs.Starts.{player_of-seat}
-
--- Whether somebody is in a slot, by the list of whether somebody is in each.
-some-at : {A : Type 0} (slots : List (Option A)) (index : ℕ) → slice_index_or (map is_some slots) index false ≡ is_some (slice_index_or slots index None)
-some-at [] index = refl
-some-at (slot ∷ slots) zero = refl
-some-at (slot ∷ slots) (suc index) = some-at slots index
-
--- Where somebody is listed at the index of a seat, somebody is at the seat.
-walk-at : {A : Type 0} (at : ℕ → Option A) (steps from index : ℕ) → is_some (slice_index_or (map at (walk (λ seat. seat + 1) steps from)) index None) ≡ true → is_some (at (from + index + 1)) ≡ true
-walk-at at zero from index there = absurd cc
-walk-at at (suc steps) from zero there = let same : from + 0 + 1 ≡ from + 1 = omega arith in rw same there
-walk-at at (suc steps) from (suc index) there =
-    let same : from + suc index + 1 ≡ from + 1 + index + 1 = omega arith in
-    rw same (walk-at at steps (from + 1) index there)
 
 -- Who is due was dealt in at his seat.
 pub due-dealt : (start : HandStart) (street : Street) (seat : ℕ) → map is_some street.players ≡ map is_some (players_by_seat start) → due_seat street ≡ Some seat → is_some (player_of start seat) ≡ true
@@ -40,9 +27,9 @@ due-dealt start street seat same due =
     let slot = slot-there can_act (player_at street.players seat) (due-can_act street seat due) in
     let there : is_some (player_at street.players seat) ≡ true = ap is_some slot.1 in
     let listed : is_some (slice_index_or (players_by_seat start) (seat - 1) None) ≡ true =
-    sym (some-at (players_by_seat start) (seat - 1)) ∙ ap (λ tests. slice_index_or tests (seat - 1) false) (sym same) ∙ some-at street.players (seat - 1) ∙ there in
+        sym (some-at (players_by_seat start) (seat - 1)) ∙ ap (λ tests. slice_index_or tests (seat - 1) false) (sym same) ∙ some-at street.players (seat - 1) ∙ there in
     let back : 0 + (seat - 1) + 1 ≡ seat = omega arith in
-    ap (λ (n : ℕ). is_some (player_of start n)) (sym back) ∙ walk-at (player_of start) 10 0 (seat - 1) listed
+    ap (λ (n : ℕ). is_some (player_of start n)) (sym back) ∙ along-there (player_of start) 10 0 (seat - 1) listed
 
 named : (slot : Option StartSeat) → is_some slot ≡ true → is_none (option_map (λ (player : StartSeat). player.name) slot) ≡ false
 named None there = absurd cc
@@ -121,4 +108,4 @@ pub time_act-is : (hand : HandTerms) (seat : ℕ) (name : List ℕ) → due_in_h
     → name_in_seat hand.start seat ≡ Some name
     → time_act hand ≡ record { name = name; act = act_in_time hand seat; by_time = true }
 unfolding time_act
-time_act-is hand seat name due named = rw (due, named)
+time_act-is hand seat name due called = rw (due, called)

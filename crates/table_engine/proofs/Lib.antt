@@ -1,3 +1,4 @@
+pub mod BySeat
 pub mod DueNames
 pub mod Plays
 pub mod Refusals
