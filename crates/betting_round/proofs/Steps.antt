@@ -94,7 +94,7 @@ seat_at bettor from (suc index) (None ∷ bettors) seated there = omega (arith, 
 seat_at bettor from (suc index) (Some other ∷ bettors) seated there = omega (arith, seat_at bettor (from + 1) index bettors seated.1 there)
 
 -- Who sits at an index of a table that is made from another.
-map_at : {A B : Type 0} (f : A → B) (index : ℕ) (slots : List (Option A)) → slice_index_or (map (option_map f) slots) index None ≡ option_map f (slice_index_or slots index None)
+pub map_at : {A B : Type 0} (f : A → B) (index : ℕ) (slots : List (Option A)) → slice_index_or (map (option_map f) slots) index None ≡ option_map f (slice_index_or slots index None)
 map_at f index [] = refl
 map_at f zero (slot ∷ slots) = refl
 map_at f (suc index) (slot ∷ slots) = map_at f index slots

@@ -3,7 +3,9 @@ pub mod DueNames
 pub mod Plays
 pub mod Refusals
 pub mod Slots
+pub mod Sound
 pub mod Stacks
 pub mod Standings
 pub mod Starts
 pub mod Units
+pub mod WholeUnits

@@ -1,6 +1,6 @@
 -- Multiples of a unit.
 use Rattle.std.proofs.Common.{◌≡◌, ◌∙◌, refl, sym, ap, ℕ, ◌+◌, ◌-◌, ◌*◌, ◌/◌, ◌%◌, ◌<◌, ◌≤◌, Bool, true, false, List, [], ◌∷◌, inl, inr, add-zero, arith}
-use Rattle.std.specs.Prelude.{◌==◌, nat_lt, min, sum_by}
+use Rattle.std.specs.Prelude.{◌==◌, nat_lt, max, min, sum_by}
 use Rattle.std.specs.List.{list_any, list_all}
 use Rattle.std.proofs.Math.Nat.{div-add-mod, mul-add-mod_self_left, zero-mod, min-eq_left, min-eq_right}
 use Rattle.std.proofs.lemmas.Bool.{and_parts, cases_lt}
@@ -47,3 +47,11 @@ sum-above f (x ∷ xs) some = rw (sum_by-cons f x xs) (by_first (nat_lt 0 (f x))
     by_first : (above : Bool) → nat_lt 0 (f x) ≡ above → (list_any (λ y. nat_lt 0 (f y)) xs ≡ true → 0 < sum_by f xs) → 0 < f x + sum_by f xs
     by_first true is later = let above : 0 < f x = grind (arith, nat_tests) in omega arith
     by_first false is later = let rest = later (rw is at some) in omega arith
+
+-- The greater of two multiples is one.
+pub multiple-max : (unit one other : ℕ) → one % unit ≡ 0 → other % unit ≡ 0 → max one other % unit ≡ 0
+multiple-max unit one other first second =
+    elim (cases_lt one other) [
+      | inl less ↦ let is : max one other ≡ other = omega arith in rw is second
+      | inr more ↦ let is : max one other ≡ one = omega arith in rw is first
+    ]

@@ -1,0 +1,228 @@
+-- What holds of the streets of every lawful play of a lawful start.
+use Rattle.std.proofs.Common.{◌≡◌, ◌≢◌, ◌∙◌, ℕ, zero, suc, ◌+◌, ◌-◌, ◌*◌, ◌%◌, ◌≤◌, ◌<◌, Bool, true, false, cond, List, [], ◌∷◌, ◌++◌, length, map, Some, None, refl, ap, sym, subst, inl, inr, append_assoc, append-nil, length-append, arith}
+use Rattle.std.specs.Prelude.{Option, ◌==◌, ◌&&◌, ◌||◌, ◌⊎◌, is_none, max, nat_lt, not, option_map, slice_index_or, slice_set, sum_by}
+use Rattle.std.specs.Option.{is_some, option_map_or}
+use Rattle.std.proofs.Math.Nat.{zero-mod}
+use Rattle.std.proofs.lemmas.Bool.{and_parts, cases_Bool, cases_eq}
+use Rattle.std.proofs.lemmas.Bool.Decides.{nat_tests}
+use Rattle.std.proofs.lemmas.List.{length-map}
+use Rattle.std.proofs.lemmas.List.Sums.{sum_by-cons}
+use Rattle.card_set.specs.declared.game.Game.{Game}
+use Rattle.card_set.specs.declared.game.Game.TheVariants.{Holdem, Omaha, Hilo}
+use Rattle.betting_round.specs.declared.act.Act.{Act}
+use Rattle.betting_round.specs.declared.act.Act.TheVariants.{Fold, Check, Call, AllIn, Bet, Raise}
+use Rattle.betting_round.specs.declared.bettor.Bettor.{Bettor}
+use Rattle.betting_round.specs.declared.bettor.Player.{Player}
+use Rattle.betting_round.specs.declared.facing.Facing.{Facing}
+use Rattle.betting_round.specs.declared.street.Street.{Street}
+use Rattle.betting_round.specs.Acts.{amount, is_fold}
+use Rattle.betting_round.specs.ActChecks.{act_refusal}
+use Rattle.betting_round.specs.Limits.{Limits}
+use Rattle.betting_round.specs.Running.{amount_of, moved, placed}
+use Rattle.betting_round.specs.StreetActs.{IsStreetStart, SeatAct, StreetStart, at_next_street, fresh, greatest, next_bettors, street_after, sum_over}
+use Rattle.betting_round.specs.WhoIsDue.{player_at, player_in}
+use Rattle.betting_round.proofs.Acted.{Acts, still, still-falls, who-acts}
+use Rattle.betting_round.proofs.Steps.{map_at, street_start_is, street_stepped, sum_map, sum_set}
+use Rattle.table_engine.specs.declared.record.ActOf.{ActOf}
+use Rattle.table_engine.specs.declared.standing.Standing.{Standing}
+use Rattle.table_engine.specs.declared.start.HandStart.{HandStart}
+use Rattle.table_engine.specs.declared.start.StartSeat.{StartSeat}
+use Rattle.table_engine.specs.Acts.{limits_of, refusal_in_seat, refusal_of_act}
+use Rattle.table_engine.specs.Hands.{HandTerms, StreetPlayed, Streets, dealt_on, first_street, first_streets, has_ended, later_street, player_of, players_by_seat, posted, put_from, put_on, seat_of_name, seated, street_now, streets_of, with_act, with_next_street}
+use Rattle.table_engine.specs.Plays.{IsLawfulPlay, are_lawful_after}
+use Rattle.table_engine.specs.Standings.{IsAt, IsReady}
+use Rattle.table_engine.specs.Starts.{IsLawfulStart, chips_of}
+use Rattle.table_engine.proofs.BySeat.{along-at, along-past, player_in-there, sum-of_start}
+use Rattle.table_engine.proofs.Plays.{nothing}
+use Rattle.table_engine.proofs.Refusals.{refused-in_seat, refused-without_seat}
+use Rattle.table_engine.proofs.Standings.{lawful-big, lawful-small, ready-act, ready-start, right-next, somes-made, somes-street, streets-more, streets-none}
+use Rattle.table_engine.proofs.Starts.{right-first}
+use Rattle.table_engine.proofs.Units.{multiple-add, multiple-max, multiple-sub}
+use Rattle.table_engine.proofs.WholeUnits.{AreBlinds, amount-whole, blinds-lawful, found-playable, posted-whole}
+
+-- What the player in a seat has put in on all streets so far.
+abbrev pub put_by_seat : ℕ → Streets → ℕ
+put_by_seat seat streets = put_from seat streets.last + sum_by (put_from seat) streets.before
+
+-- What holds of a player of a street: he has put in no more than the bet level, he is live or has chips behind, his
+-- chips are multiples of the unit, and what he has behind and has put in is the stack with which he began.
+pub record IsPlayerSound (start : HandStart) (street : Street) (put_in seat : ℕ) (now : Player) : Type 0 where
+  pub met : now.bettor.put ≤ street.level
+  pub more : (now.bettor.live || nat_lt 0 now.bettor.behind) ≡ true
+  pub put : now.bettor.put % start.unit ≡ 0
+  pub behind : now.bettor.behind % start.unit ≡ 0
+  pub stack : (player : StartSeat) → player_of start seat ≡ Some player → now.bettor.behind + put_in ≡ player.stack
+
+-- Somebody is in each slot of each of these streets where one is dealt in at its seat.
+abbrev pub AreThere : HandStart → List StreetPlayed → Type 0
+AreThere start [] = Unit {0}
+AreThere start (played ∷ streets) =
+    (map is_some (street_after played.start played.acts).players ≡ map is_some (players_by_seat start)) × AreThere start streets
+
+-- A hand that stands on these streets.
+abbrev pub standing_on : Streets → Standing
+standing_on streets = record { round = street_now streets; before = sum_by put_on streets.before; left = streets.left }
+
+-- What holds of the streets of a lawful play after so many acts.
+pub record IsSound (start : HandStart) (streets : Streets) (acts : ℕ) : Type 0 where
+  pub right : IsStreetStart streets.last.start
+  pub ready : IsReady (standing_on streets)
+  pub unit : (street_now streets).unit ≡ start.unit
+  pub there : map is_some (street_now streets).players ≡ map is_some (players_by_seat start)
+  pub earlier : AreThere start streets.before
+  pub level : (street_now streets).level % start.unit ≡ 0
+  pub full : 0 < (street_now streets).full
+  pub each : (seat : ℕ) (now : Player) → 1 ≤ seat → player_at (street_now streets).players seat ≡ Some now
+      → IsPlayerSound start (street_now streets) (put_by_seat seat streets) seat now
+  -- the acts are as many as chips were put in at most, and as many as folds and checks were possible
+  pub short : acts + (sum_over still (street_now streets).players + 10 * streets.left) ≤ chips_of start.seats + 50
+
+-- What a player of a street has put in on it.
+put_from-there : (played : StreetPlayed) (seat : ℕ) (now : Player) → 1 ≤ seat
+    → player_at (street_after played.start played.acts).players seat ≡ Some now → put_from seat played ≡ now.bettor.put
+put_from-there played seat now low there =
+    ap (λ (slot : Option Player). option_map_or (λ (p : Player). p.bettor.put) slot 0)
+    (player_in-there (street_after played.start played.acts).players seat low ∙ there)
+
+-- Who is in a slot of a table in which one was put into a slot.
+set-at : (slots : List (Option Player)) (index other : ℕ) (was item found : Player) → slice_index_or slots index None ≡ Some was
+    → slice_index_or (slice_set slots index (Some item)) other None ≡ Some found
+    → ((other ≡ index) × (found ≡ item)) ⊎ ((other ≢ index) × (slice_index_or slots other None ≡ Some found))
+set-at [] index other was item found there is = absurd cc
+set-at (slot ∷ slots) zero zero was item found there is = let same : found ≡ item = cc in inl (refl, same)
+set-at (slot ∷ slots) zero (suc other) was item found there is = let apart : suc other ≢ 0 = λ same. omega arith in inr (apart, is)
+set-at (slot ∷ slots) (suc index) zero was item found there is = let apart : 0 ≢ suc index = λ same. omega arith in inr (apart, is)
+set-at (slot ∷ slots) (suc index) (suc other) was item found there is =
+    elim (set-at slots index other was item found there is) [
+      | inl here ↦ inl (ap (λ (n : ℕ). suc n) here.0, here.1)
+      | inr elsewhere ↦ let apart : suc other ≢ suc index = λ same. elsewhere.0 (omega arith) in inr (apart, elsewhere.1)
+    ]
+
+-- A fold puts nothing in.
+fold-none : (level put behind : ℕ) (act : Act) → is_fold act ≡ true → amount level put behind act ≡ 0
+fold-none level put behind Fold fold = refl
+fold-none level put behind Check fold = absurd cc
+fold-none level put behind Call fold = absurd cc
+fold-none level put behind AllIn fold = absurd cc
+fold-none level put behind (Bet n) fold = absurd cc
+fold-none level put behind (Raise n) fold = absurd cc
+
+-- After his act a player is live, or has chips behind.
+more-moved : (live fold : Bool) (behind put_in : ℕ) → live ≡ true → 0 < behind → (fold ≡ true → put_in ≡ 0)
+    → ((live && not fold) || nat_lt 0 (behind - put_in)) ≡ true
+more-moved true false behind put_in is some none = refl
+more-moved true true behind put_in is some none = let nothing_in = none refl in let left : 0 < behind - put_in = omega arith in grind (arith, nat_tests)
+more-moved false fold behind put_in is some none = absurd cc
+
+-- What holds of a player holds of him after his act.
+player-moved : (start : HandStart) (limits : Limits) (street : Street) (seat : ℕ) (act : Act) (now : Player) (before after : ℕ)
+    → Acts limits street seat act now → street.unit ≡ start.unit → street.level % start.unit ≡ 0
+    → IsPlayerSound start street before seat now → after ≡ before + amount_of street.level now act
+    → IsPlayerSound start (placed street seat now act (amount_of street.level now act)) after seat (moved (amount_of street.level now act) now act)
+player-moved start limits street seat act now before after acts unit level sound is =
+    let put_in = amount_of street.level now act in
+    let held : put_in ≤ now.bettor.behind = acts.covered in
+    let whole : put_in % start.unit ≡ 0 =
+        rw unit at (amount-whole limits street seat act now acts (rw unit level) (rw unit sound.put) (rw unit sound.behind) sound.met) in
+    record {
+      met = omega arith;
+      more = more-moved now.bettor.live (is_fold act) now.bettor.behind put_in acts.live acts.more (fold-none street.level now.bettor.put now.bettor.behind act);
+      put = multiple-add start.unit now.bettor.put put_in sound.put whole;
+      behind = multiple-sub start.unit now.bettor.behind put_in held sound.behind whole;
+      stack = λ player found. let was = sound.stack player found in omega arith;
+    }
+
+-- What holds of a player holds of him after an act of another.
+player-kept : (start : HandStart) (street later : Street) (before after seat : ℕ) (now : Player) → street.level ≤ later.level → after ≡ before
+    → IsPlayerSound start street before seat now → IsPlayerSound start later after seat now
+player-kept start street later before after seat now grows is sound =
+    let met = sound.met in
+    record {
+      met = omega arith;
+      more = sound.more;
+      put = sound.put;
+      behind = sound.behind;
+      stack = λ player found. let was = sound.stack player found in omega arith;
+    }
+
+-- The street after an act that is not refused.
+placed-is : (limits : Limits) (start : StreetStart) (acts : List SeatAct) (entry : SeatAct) (now : Player) → IsStreetStart start
+    → Acts limits (street_after start acts) entry.seat entry.act now
+    → street_after start (entry ∷ acts) ≡ placed (street_after start acts) entry.seat now entry.act (amount_of (street_after start acts).level now entry.act)
+placed-is limits start acts entry now right acted =
+    let street = street_after start acts in
+    street_stepped start acts entry now right.seated acted.low acted.sits
+    ∙ ap (λ (slot : Option Player). option_map_or (λ player. placed street entry.seat player entry.act (amount_of street.level player entry.act)) slot street) acted.sits
+
+-- The least bet or raise of each game is a full raise above the bet level.
+least-of_game : (game : Game) (facing : Facing) → (limits_of game).least facing ≡ facing.level + facing.full
+least-of_game Holdem facing = refl
+least-of_game Omaha facing = refl
+least-of_game Hilo facing = refl
+
+-- What holds of the streets after an act that is not refused.
+sound-act : (start : HandStart) (streets : Streets) (acts : ℕ) (seat : ℕ) (act : Act) → IsSound start streets acts
+    → act_refusal (limits_of start.game) (street_now streets) seat act ≡ None
+    → IsSound start (with_act streets (record { seat = seat; act = act })) (acts + 1)
+sound-act start streets acts seat act sound free =
+    let limits = limits_of start.game in
+    let street = street_now streets in
+    let entry : SeatAct = record { seat = seat; act = act } in
+    let acting = who-acts limits street seat act free in
+    let now = acting.0 in
+    let acted = acting.1 in
+    let put_in = amount_of street.level now act in
+    let after = with_act streets entry in
+    let is : street_now after ≡ placed street seat now act put_in = placed-is limits streets.last.start streets.last.acts entry now sound.right acted in
+    let his = sound.each seat now acted.low acted.sits in
+    let falls = still-falls limits street seat act now acted (least-of_game start.game _) sound.full his.met in
+    let sums = sum_set (seat - 1) still now (moved put_in now act) street.players acted.sits in
+    let same = ap (λ (s : Street). sum_over still s.players) is in
+    let at : IsAt streets (standing_on streets) = record { round = refl; before = refl; left = refl; right = sound.right } in
+    let level : (placed street seat now act put_in).level % start.unit ≡ 0 =
+        (let whole = player-moved start limits street seat act now (put_by_seat seat streets) (put_by_seat seat streets + put_in) acted sound.unit sound.level his refl in
+        multiple-max start.unit street.level (now.bettor.put + put_in) sound.level whole.put) in
+    let full = sound.full in
+    let short = sound.short in
+    record {
+      right = sound.right;
+      ready = ready-act limits streets (standing_on streets) (standing_on after) seat act at sound.ready free refl refl;
+      unit = ap (λ (s : Street). s.unit) is ∙ sound.unit;
+      there = somes-street streets.last.start (entry ∷ streets.last.acts) ∙ sym (somes-street streets.last.start streets.last.acts) ∙ sound.there;
+      earlier = sound.earlier;
+      level = ap (λ (s : Street). s.level % start.unit) is ∙ level;
+      full = subst (λ (s : Street). 0 < s.full) (sym is) (omega arith);
+      each = λ other found low there. each-after start limits streets acts seat act now sound acted is other found low there;
+      short = omega arith;
+    }
+  where
+    each-after : (start : HandStart) (limits : Limits) (streets : Streets) (acts seat : ℕ) (act : Act) (now : Player) → IsSound start streets acts
+        → Acts limits (street_now streets) seat act now
+        → street_now (with_act streets (record { seat = seat; act = act })) ≡ placed (street_now streets) seat now act (amount_of (street_now streets).level now act)
+        → (other : ℕ) (found : Player) → 1 ≤ other → player_at (street_now (with_act streets (record { seat = seat; act = act }))).players other ≡ Some found
+        → IsPlayerSound start (street_now (with_act streets (record { seat = seat; act = act }))) (put_by_seat other (with_act streets (record { seat = seat; act = act }))) other found
+    each-after start limits streets acts seat act now sound acted is other found low there =
+        let street = street_now streets in
+        let put_in = amount_of street.level now act in
+        let after = with_act streets (record { seat = seat; act = act }) in
+        let mine = put_from-there after.last other found low there in
+        let set : slice_index_or (slice_set street.players (seat - 1) (Some (moved put_in now act))) (other - 1) None ≡ Some found =
+            ap (λ (s : Street). player_at s.players other) (sym is) ∙ there in
+        let first = acted.low in
+        elim (set-at street.players (seat - 1) (other - 1) now (moved put_in now act) found acted.sits set) [
+          | inl here ↦
+              let same : other ≡ seat = (let index = here.0 in omega arith) in
+              let before = put_from-there streets.last seat now acted.low acted.sits in
+              let put : found.bettor.put ≡ now.bettor.put + put_in = ap (λ (p : Player). p.bettor.put) here.1 in
+              let earlier : sum_by (put_from other) streets.before ≡ sum_by (put_from seat) streets.before = ap (λ (n : ℕ). sum_by (put_from n) streets.before) same in
+              let all : put_by_seat other after ≡ put_by_seat seat streets + put_in = omega arith in
+              let moved_so = player-moved start limits street seat act now (put_by_seat seat streets) (put_by_seat other after) acted sound.unit sound.level (sound.each seat now acted.low acted.sits) all in
+              subst (λ (s : Street). IsPlayerSound start s (put_by_seat other after) other found) (sym is)
+              (subst (λ (n : ℕ). IsPlayerSound start (placed street seat now act put_in) (put_by_seat other after) n found) (sym same)
+              (subst (λ (p : Player). IsPlayerSound start (placed street seat now act put_in) (put_by_seat other after) seat p) (sym here.1) moved_so))
+          | inr elsewhere ↦
+              let before = put_from-there streets.last other found low elsewhere.1 in
+              let grows : street.level ≤ (placed street seat now act put_in).level = omega arith in
+              subst (λ (s : Street). IsPlayerSound start s (put_by_seat other after) other found) (sym is)
+              (player-kept start street (placed street seat now act put_in) (put_by_seat other streets) (put_by_seat other after) other found grows (omega arith) (sound.each other found low elsewhere.1))
+        ]

@@ -1,0 +1,121 @@
+-- What is put in and what is behind are multiples of the unit.
+use Rattle.std.proofs.Common.{◌≡◌, ◌∙◌, ℕ, ◌+◌, ◌-◌, ◌%◌, ◌≤◌, ◌<◌, Bool, true, false, List, Some, None, refl, ap, sym, inl, inr, arith}
+use Rattle.std.specs.Prelude.{◌==◌, ◌&&◌, min, nat_le, nat_lt, not}
+use Rattle.std.proofs.Math.Nat.{zero-mod}
+use Rattle.std.proofs.lemmas.Bool.{and_parts, cases_Bool, cases_lt}
+use Rattle.std.proofs.lemmas.Bool.Decides.{nat_tests}
+use Rattle.rulebook.proofs.Checks.{none_holds}
+use Rattle.rulebook.proofs.Tests.{find-all}
+use Rattle.betting_round.specs.declared.act.Act.{Act}
+use Rattle.betting_round.specs.declared.act.Act.TheVariants.{Fold, Check, Call, AllIn, Bet, Raise}
+use Rattle.betting_round.specs.declared.bettor.Player.{Player}
+use Rattle.betting_round.specs.declared.facing.Facing.{Facing}
+use Rattle.betting_round.specs.declared.street.Street.{Street}
+use Rattle.betting_round.specs.ActChecks.{act_checks}
+use Rattle.betting_round.specs.Limits.{Limits}
+use Rattle.betting_round.specs.Running.{amount_of}
+use Rattle.betting_round.proofs.Acted.{Acts, facing_of}
+use Rattle.level_plan.specs.Items.{is_blind, greatest_amount}
+use Rattle.table_engine.specs.declared.start.HandStart.{HandStart}
+use Rattle.table_engine.specs.declared.start.StartSeat.{StartSeat}
+use Rattle.table_engine.specs.Starts.{IsLawfulStart, is_playable_stack}
+use Rattle.table_engine.specs.Hands.{blind_of, player_of, posted}
+use Rattle.table_engine.proofs.Units.{multiple-min, multiple-sub}
+
+is-whole : (n unit : ℕ) → not (not (n % unit == 0)) ≡ true → n % unit ≡ 0
+is-whole n unit so = grind (arith, nat_tests)
+
+-- Of tests that all hold the fifth holds.
+fifth-holds : (one two three four five rest : Bool) → (one && (two && (three && (four && (five && rest))))) ≡ true → five ≡ true
+fifth-holds false two three four five rest all = absurd cc
+fifth-holds true false three four five rest all = absurd cc
+fifth-holds true true false four five rest all = absurd cc
+fifth-holds true true true false five rest all = absurd cc
+fifth-holds true true true true false rest all = absurd cc
+fifth-holds true true true true true rest all = refl
+
+-- What an act that is not refused puts in is a multiple of the unit where all else is.
+pub amount-whole : (limits : Limits) (street : Street) (seat : ℕ) (act : Act) (now : Player) → Acts limits street seat act now
+    → street.level % street.unit ≡ 0 → now.bettor.put % street.unit ≡ 0 → now.bettor.behind % street.unit ≡ 0
+    → now.bettor.put ≤ street.level → amount_of street.level now act % street.unit ≡ 0
+amount-whole limits street seat Fold now acts level put behind met = zero-mod street.unit
+amount-whole limits street seat Check now acts level put behind met = zero-mod street.unit
+amount-whole limits street seat Call now acts level put behind met =
+    multiple-min street.unit now.bettor.behind (street.level - now.bettor.put) behind
+    (multiple-sub street.unit street.level now.bettor.put met level put)
+amount-whole limits street seat AllIn now acts level put behind met = behind
+amount-whole limits street seat (Bet n) now acts level put behind met =
+    let all = none_holds (act_checks limits street.unit (facing_of street now) (Bet n)) acts.checked in
+    is-whole n street.unit
+    (fifth-holds (not (nat_lt 0 street.level))
+    (not (nat_lt n (limits.least (facing_of street now)) && not (n == now.bettor.behind)))
+    (not (nat_lt now.bettor.behind n))
+    (not (nat_lt (limits.most (facing_of street now)) n))
+    (not (not (n % street.unit == 0))) true all)
+amount-whole limits street seat (Raise n) now acts level put behind met =
+    let all = none_holds (act_checks limits street.unit (facing_of street now) (Raise n)) acts.checked in
+    let stack = now.bettor.put + now.bettor.behind in
+    let later = and_parts (not (street.level == 0)) _ all in
+    let whole : not (not (n % street.unit == 0)) ≡ true =
+        fifth-holds (not (nat_lt n (limits.least (facing_of street now)) && not (n == stack && nat_lt street.level n)))
+        (not (nat_lt stack n)) (not (nat_lt (limits.most (facing_of street now)) n))
+        (not (not (limits.reopened (facing_of street now))))
+        (not (not (n % street.unit == 0))) true later.1 in
+    elim (cases_lt n now.bettor.put) [
+      | inl less ↦ let none : n - now.bettor.put ≡ 0 = omega arith in rw none (zero-mod street.unit)
+      | inr more ↦ multiple-sub street.unit n now.bettor.put more (is-whole n street.unit whole) put
+    ]
+
+-- Lawful blinds are above 0 and multiples of a unit above 0.
+pub record AreBlinds (start : HandStart) : Type 0 where
+  pub unit : 0 < start.unit
+  pub small : start.small % start.unit ≡ 0
+  pub big : start.big % start.unit ≡ 0
+  pub some : 0 < start.big
+
+pub blinds-lawful : (start : HandStart) → IsLawfulStart start → AreBlinds start
+blinds-lawful start lawful =
+    let a = and_parts (nat_le 1 start.unit) _ lawful.blinds in
+    let b = and_parts (nat_le 1 start.small) _ a.1 in
+    let c = and_parts (nat_le start.small start.big) _ b.1 in
+    let d = and_parts (nat_le start.big greatest_amount) _ c.1 in
+    let e = and_parts (start.small % start.unit == 0) (start.big % start.unit == 0) d.1 in
+    let unit : 0 < start.unit = grind (arith, nat_tests) in
+    let some : 0 < start.big = grind (arith, nat_tests) in
+    let small : start.small % start.unit ≡ 0 = grind (arith, nat_tests) in
+    let big : start.big % start.unit ≡ 0 = grind (arith, nat_tests) in
+    record { unit = unit; small = small; big = big; some = some }
+
+-- A stack that can be played with is above 0 and a multiple of the unit.
+pub playable-parts : (unit stack : ℕ) → is_playable_stack unit stack ≡ true → (0 < stack) × (stack % unit ≡ 0)
+playable-parts unit stack playable =
+    let parts = and_parts (nat_lt 0 stack) (stack % unit == 0) playable in
+    let above : 0 < stack = grind (arith, nat_tests) in
+    let whole : stack % unit ≡ 0 = grind (arith, nat_tests) in
+    (above, whole)
+
+-- The stack of who is found at a seat of a lawful start can be played with.
+pub found-playable : (start : HandStart) (seat : ℕ) (player : StartSeat) → IsLawfulStart start → player_of start seat ≡ Some player
+    → (0 < player.stack) × (player.stack % start.unit ≡ 0)
+found-playable start seat player lawful found =
+    playable-parts start.unit player.stack
+    (find-all (λ (other : StartSeat). other.seat == seat) (λ (other : StartSeat). is_playable_stack start.unit other.stack)
+    start.seats player found lawful.stacks)
+
+-- A blind is a multiple of the unit.
+blind-whole : (start : HandStart) (seat : ℕ) → AreBlinds start → blind_of start seat % start.unit ≡ 0
+blind-whole start seat blinds =
+    elim (cases_Bool (seat == start.marks.big)) [
+      | inl is ↦ rw is blinds.big
+      | inr other ↦
+          elim (cases_Bool (seat == start.marks.small)) [
+            | inl is ↦ rw (other, is) blinds.small
+            | inr none ↦ rw (other, none) (zero-mod start.unit)
+          ]
+    ]
+
+-- What a player posts is a multiple of the unit where his stack is.
+pub posted-whole : (start : HandStart) (player : StartSeat) → AreBlinds start → player.stack % start.unit ≡ 0
+    → posted start player % start.unit ≡ 0
+posted-whole start player blinds whole =
+    multiple-min start.unit player.stack (blind_of start player.seat) whole (blind-whole start player.seat blinds)
