@@ -3,12 +3,13 @@ use Rattle.std.proofs.Common.{◌≡◌, ◌≢◌, ◌∙◌, ℕ, zero, suc, �
 use Rattle.std.specs.Prelude.{Option, ◌==◌, ◌&&◌, ◌||◌, ◌⊎◌, is_none, max, nat_lt, not, option_map, slice_index_or, slice_set, sum_by}
 use Rattle.std.specs.Option.{is_some, option_map_or}
 use Rattle.std.proofs.Math.Nat.{zero-mod}
-use Rattle.std.proofs.lemmas.Bool.{and_parts, cases_Bool, cases_eq}
+use Rattle.std.proofs.lemmas.Bool.{and_parts, cases_Bool, cases_lt}
 use Rattle.std.proofs.lemmas.Bool.Decides.{nat_tests}
 use Rattle.std.proofs.lemmas.List.{length-map}
 use Rattle.std.proofs.lemmas.List.Sums.{sum_by-cons}
 use Rattle.card_set.specs.declared.game.Game.{Game}
 use Rattle.card_set.specs.declared.game.Game.TheVariants.{Holdem, Omaha, Hilo}
+use Rattle.floor_text.specs.declared.refusal.Refusal.TheVariants.{NotDealt}
 use Rattle.betting_round.specs.declared.act.Act.{Act}
 use Rattle.betting_round.specs.declared.act.Act.TheVariants.{Fold, Check, Call, AllIn, Bet, Raise}
 use Rattle.betting_round.specs.declared.bettor.Bettor.{Bettor}
@@ -226,3 +227,254 @@ sound-act start streets acts seat act sound free =
               subst (λ (s : Street). IsPlayerSound start s (put_by_seat other after) other found) (sym is)
               (player-kept start street (placed street seat now act put_in) (put_by_seat other streets) (put_by_seat other after) other found grows (omega arith) (sound.each other found low elsewhere.1))
         ]
+
+-- Who is at an index of a table that is made of another is made of who is there.
+made-from : {A B : Type 0} (f : A → B) (slot : Option A) (found : B) → option_map f slot ≡ Some found
+    → (was : A) × ((slot ≡ Some was) × (found ≡ f was))
+made-from f None found is = absurd cc
+made-from f (Some was) found is = let same : found ≡ f was = cc in (was, (refl, same))
+
+-- The greatest number is at least the least, and the least where no number is greater.
+greatest-least : {A : Type 0} (least : ℕ) (number : A → ℕ) (slots : List (Option A)) → least ≤ greatest least number slots
+greatest-least least number [] = omega arith
+greatest-least least number (None ∷ slots) = greatest-least least number slots
+greatest-least least number (Some item ∷ slots) = let later = greatest-least least number slots in omega arith
+
+greatest-no_more : {A B : Type 0} (least : ℕ) (number : B → ℕ) (f : A → B) (slots : List (Option A)) → ((item : A) → number (f item) ≤ least)
+    → greatest least number (map (option_map f) slots) ≡ least
+greatest-no_more least number f [] less = refl
+greatest-no_more least number f (None ∷ slots) less = greatest-no_more least number f slots less
+greatest-no_more least number f (Some item ∷ slots) less =
+    let here = less item in let later = greatest-no_more least number f slots less in omega arith
+
+-- Where each number is at most another and so much more, so is the sum, for each slot.
+sum-no_more : {A : Type 0} (one other : A → ℕ) (more : ℕ) (slots : List (Option A)) → ((item : A) → one item ≤ other item + more)
+    → sum_over one slots ≤ sum_over other slots + length slots * more
+sum-no_more one other more [] less = omega arith
+sum-no_more one other more (None ∷ slots) less =
+    let later = sum-no_more one other more slots less in let all = one-more_times (length slots) more in omega arith
+  where
+    one-more_times : (count more : ℕ) → suc count * more ≡ count * more + more
+    one-more_times count more = grind arith
+sum-no_more one other more (Some item ∷ slots) less =
+    let here = less item in
+    let later = sum-no_more one other more slots less in let all = one-more_times (length slots) more in omega arith
+  where
+    one-more_times : (count more : ℕ) → suc count * more ≡ count * more + more
+    one-more_times count more = grind arith
+
+-- As many slots as there are seats.
+ten-slots : (start : HandStart) (slots : List (Option Player)) → map is_some slots ≡ map is_some (players_by_seat start) → length slots ≡ 10
+ten-slots start slots there = sym (length-map slots is_some) ∙ ap length there
+
+-- What a player can still do is at most one act more on the next street.
+still-next : (player : Player) → still (fresh (at_next_street player)) ≤ still player + 1
+still-next player = by_acted player.acted
+  where
+    by_acted : (acted : Bool) → player.bettor.behind + cond player.bettor.live 1 0 + 1 ≤ player.bettor.behind + cond player.bettor.live 1 0 + cond acted 0 1 + 1
+    by_acted true = omega arith
+    by_acted false = omega arith
+
+-- What holds of a player holds of him where the next street begins.
+each-next : (start : HandStart) (streets : Streets) (acts seat : ℕ) (now : Player) → IsSound start streets acts → 1 ≤ seat
+    → player_at (street_now (with_next_street start streets)).players seat ≡ Some now
+    → IsPlayerSound start (street_now (with_next_street start streets)) (put_by_seat seat (with_next_street start streets)) seat now
+each-next start streets acts seat now sound low there =
+    let street = street_now streets in
+    let next = later_street start streets in
+    let after = with_next_street start streets in
+    let slots : player_at (street_now after).players seat ≡ option_map fresh (option_map at_next_street (player_at street.players seat)) =
+        ap (λ (s : Street). player_at s.players seat) (street_start_is next) ∙ map_at fresh (seat - 1) (next_bettors street)
+        ∙ ap (option_map fresh) (map_at at_next_street (seat - 1) street.players) in
+    let one = made-from fresh (option_map at_next_street (player_at street.players seat)) now (sym slots ∙ there) in
+    let two = made-from at_next_street (player_at street.players seat) one.0 one.1.0 in
+    let was = two.0 in
+    let his = sound.each seat was low two.1.0 in
+    let is : now ≡ fresh (at_next_street was) = one.1.1 ∙ ap fresh two.1.1 in
+    let put = ap (λ (p : Player). p.bettor.put) is in
+    let mine = put_from-there after.last seat now low there in
+    let before = sum_by-cons (put_from seat) streets.last streets.before in
+    let same : put_by_seat seat after ≡ put_by_seat seat streets = omega arith in
+    let sound_so : IsPlayerSound start (street_now after) (put_by_seat seat after) seat (fresh (at_next_street was)) = record {
+      met = omega arith;
+      more = his.more;
+      put = zero-mod start.unit;
+      behind = his.behind;
+      stack = λ player found. let all = his.stack player found in omega arith;
+    } in
+    subst (λ (p : Player). IsPlayerSound start (street_now after) (put_by_seat seat after) seat p) (sym is) sound_so
+
+-- What holds of the streets where the next one begins.
+sound-next : (start : HandStart) (streets : Streets) (acts : ℕ) → IsLawfulStart start → IsSound start streets acts → 1 ≤ streets.left
+    → IsSound start (with_next_street start streets) acts
+sound-next start streets acts lawful sound some =
+    let street = street_now streets in
+    let next = later_street start streets in
+    let began = street_start_is next in
+    let right : IsStreetStart next = right-next start (standing_on streets) next.counted lawful sound.ready (omega arith) in
+    let all = sum_by-cons put_on streets.last streets.before in
+    let blinds = blinds-lawful start lawful in
+    let big = blinds.some in
+    let none : greatest 0 (λ (bettor : Bettor). bettor.put) (next_bettors street) ≡ 0 =
+        greatest-no_more 0 (λ (bettor : Bettor). bettor.put) at_next_street street.players (λ player. omega arith) in
+    let level : (street_after next []).level ≡ 0 = ap (λ (s : Street). s.level) began ∙ none in
+    let players = ap (λ (s : Street). s.players) began in
+    let still_now : sum_over still (street_after next []).players ≡ sum_over (λ (player : Player). still (fresh (at_next_street player))) street.players =
+        ap (sum_over still) players ∙ sum_map still fresh (next_bettors street)
+        ∙ sum_map (λ (bettor : Bettor). still (fresh bettor)) at_next_street street.players in
+    let more = sum-no_more (λ (player : Player). still (fresh (at_next_street player))) still 1 street.players still-next in
+    let ten = ten-slots start street.players sound.there in
+    let count : length street.players * 1 ≡ 10 = omega arith in
+    let short = sound.short in
+    record {
+      right = right;
+      ready = ready-start next (standing_on (with_next_street start streets)) right refl (omega arith);
+      unit = ap (λ (s : Street). s.unit) began;
+      there = somes-street next [] ∙ somes-made at_next_street street.players ∙ sound.there;
+      earlier = (sound.there, sound.earlier);
+      level = ap (λ (n : ℕ). n % start.unit) level ∙ zero-mod start.unit;
+      full = subst (λ (s : Street). 0 < s.full) (sym began) big;
+      each = λ seat now low there. each-next start streets acts seat now sound low there;
+      short = omega arith;
+    }
+
+-- What holds of the streets once every street has begun that may.
+sound-dealt : (start : HandStart) (left : ℕ) (streets : Streets) (acts : ℕ) → IsLawfulStart start → IsSound start streets acts → left ≤ streets.left
+    → IsSound start (dealt_on start left streets) acts
+sound-dealt start zero streets acts lawful sound within = sound
+sound-dealt start (suc left) streets acts lawful sound within =
+    elim (cases_Bool (has_ended (street_now streets))) [
+      | inl ended ↦ rw ended (sound-dealt start left (with_next_street start streets) acts lawful (sound-next start streets acts lawful sound (omega arith)) (omega arith))
+      | inr open_ ↦ rw open_ sound
+    ]
+
+-- A player posts at most the big blind.
+posted-most : (start : HandStart) (player : StartSeat) → start.small ≤ start.big → posted start player ≤ start.big
+posted-most start player small =
+    elim (cases_Bool (player.seat == start.marks.big)) [
+      | inl is ↦ rw is (omega arith)
+      | inr other ↦
+          elim (cases_Bool (player.seat == start.marks.small)) [
+            | inl is ↦ rw (other, is) (omega arith)
+            | inr none ↦ rw (other, none) (omega arith)
+          ]
+    ]
+
+-- What holds of a player of a start when he begins the hand.
+each-first : (start : HandStart) (seat : ℕ) (now : Player) → IsLawfulStart start → 1 ≤ seat
+    → player_at (street_now (first_streets start)).players seat ≡ Some now
+    → IsPlayerSound start (street_now (first_streets start)) (put_by_seat seat (first_streets start)) seat now
+each-first start seat now lawful low there =
+    let first = first_street start in
+    let began = street_start_is first in
+    let slots : player_at (street_after first []).players seat ≡ option_map fresh (option_map (seated start) (slice_index_or (players_by_seat start) (seat - 1) None)) =
+        ap (λ (s : Street). player_at s.players seat) began ∙ map_at fresh (seat - 1) first.bettors
+        ∙ ap (option_map fresh) (map_at (seated start) (seat - 1) (players_by_seat start)) in
+    let one = made-from fresh (option_map (seated start) (slice_index_or (players_by_seat start) (seat - 1) None)) now (sym slots ∙ there) in
+    let two = made-from (seated start) (slice_index_or (players_by_seat start) (seat - 1) None) one.0 one.1.0 in
+    let player = two.0 in
+    let is : now ≡ fresh (seated start player) = one.1.1 ∙ ap fresh two.1.1 in
+    let found = listed-at start seat player low two.1.0 in
+    let blinds = blinds-lawful start lawful in
+    let stack = found-playable start seat player lawful found in
+    let posted_so = posted-whole start player blinds stack.1 in
+    let small = lawful-small start lawful in
+    let big = posted-most start player small in
+    let least = greatest-least start.big (λ (bettor : Bettor). bettor.put) first.bettors in
+    let level = ap (λ (s : Street). s.level) began in
+    let held : posted start player ≤ player.stack = omega arith in
+    let put = ap (λ (p : Player). p.bettor.put) is in
+    let mine = put_from-there (first_streets start).last seat now low there in
+    let sound_so : IsPlayerSound start (street_after first []) (put_by_seat seat (first_streets start)) seat (fresh (seated start player)) = record {
+      met = omega arith;
+      more = refl;
+      put = posted_so;
+      behind = multiple-sub start.unit player.stack (posted start player) held stack.1 posted_so;
+      stack = λ other same.
+          let him : player ≡ other = (let both : Some player ≡ Some other = sym found ∙ same in cc) in
+          let his = ap (λ (p : StartSeat). p.stack) him in
+          omega arith;
+    } in
+    subst (λ (p : Player). IsPlayerSound start (street_after first []) (put_by_seat seat (first_streets start)) seat p) (sym is) sound_so
+  where
+    listed-at : (start : HandStart) (seat : ℕ) (player : StartSeat) → 1 ≤ seat → slice_index_or (players_by_seat start) (seat - 1) None ≡ Some player
+        → player_of start seat ≡ Some player
+    listed-at start seat player low listed =
+        elim (cases_lt (seat - 1) 10) [
+          | inl within ↦
+              let back : 0 + (seat - 1) + 1 ≡ seat = omega arith in
+              ap (player_of start) (sym back) ∙ sym (along-at (player_of start) 10 0 (seat - 1) within) ∙ listed
+          | inr past ↦ let none = along-past (player_of start) 10 0 (seat - 1) past in let never : None ≡ Some player = sym none ∙ listed in absurd cc
+        ]
+
+-- What holds of the streets before any act, where the first alone has begun.
+sound-first : (start : HandStart) → IsLawfulStart start → IsSound start (first_streets start) 0
+sound-first start lawful =
+    let first = first_street start in
+    let began = street_start_is first in
+    let right = right-first start lawful in
+    let blinds = blinds-lawful start lawful in
+    let some = blinds.some in
+    let small = lawful-small start lawful in
+    let level : (street_after first []).level ≡ start.big =
+        ap (λ (s : Street). s.level) began
+        ∙ greatest-no_more start.big (λ (bettor : Bettor). bettor.put) (seated start) (players_by_seat start) (λ player. posted-most start player small) in
+    let still_now : sum_over still (street_after first []).players ≡ sum_over (λ player. still (fresh (seated start player))) (players_by_seat start) =
+        ap (λ (s : Street). sum_over still s.players) began ∙ sum_map still fresh first.bettors
+        ∙ sum_map (λ (bettor : Bettor). still (fresh bettor)) (seated start) (players_by_seat start) in
+    let more = sum-no_more (λ player. still (fresh (seated start player))) (λ (player : StartSeat). player.stack) 2 (players_by_seat start) (λ player. omega arith) in
+    let chips = sum-of_start start (λ (player : StartSeat). player.stack) lawful in
+    let ten : length (players_by_seat start) * 2 ≡ 20 = refl in
+    record {
+      right = right;
+      ready = ready-start first (standing_on (first_streets start)) right refl (omega arith);
+      unit = ap (λ (s : Street). s.unit) began;
+      there = somes-street first [] ∙ somes-made (seated start) (players_by_seat start);
+      earlier = tt;
+      level = ap (λ (n : ℕ). n % start.unit) level ∙ blinds.big;
+      full = subst (λ (s : Street). 0 < s.full) (sym began) some;
+      each = λ seat now low there. each-first start seat now lawful low there;
+      short = omega arith;
+    }
+
+-- What holds of the streets of a lawful play, after more acts that are lawful.
+sound-along : (start : HandStart) (before acts : List ActOf) → IsLawfulStart start
+    → IsSound start (streets_of (record { start = start; acts = before })) (length before) → are_lawful_after start before acts ≡ true
+    → IsSound start (streets_of (record { start = start; acts = before ++ acts })) (length (before ++ acts))
+sound-along start before [] lawful sound play = rw append-nil sound
+sound-along start before (act ∷ acts) lawful sound play =
+    let hand : HandTerms = record { start = start; acts = before } in
+    let parts = and_parts (is_none (refusal_of_act hand act.name act.act)) (are_lawful_after start (before ++ act ∷ []) acts) play in
+    let free = nothing (refusal_of_act hand act.name act.act) parts.0 in
+    let joined : (before ++ act ∷ []) ++ acts ≡ before ++ act ∷ acts = append_assoc before (act ∷ []) acts in
+    let one_more : IsSound start (streets_of (record { start = start; acts = before ++ act ∷ [] })) (length (before ++ act ∷ [])) =
+        sound-one_more start before act lawful sound free in
+    rw joined at (sound-along start (before ++ act ∷ []) acts lawful one_more parts.1)
+  where
+    by_seat : (start : HandStart) (before : List ActOf) (act : ActOf) (slot : Option ℕ) → IsLawfulStart start
+        → IsSound start (streets_of (record { start = start; acts = before })) (length before)
+        → refusal_of_act (record { start = start; acts = before }) act.name act.act ≡ None → seat_of_name start act.name ≡ slot
+        → IsSound start (streets_of (record { start = start; acts = before ++ act ∷ [] })) (length (before ++ act ∷ []))
+    by_seat start before act None lawful sound free found =
+        let refused = refused-without_seat (record { start = start; acts = before }) act.name act.act found in
+        let never : None ≡ Some NotDealt = sym free ∙ refused in absurd cc
+    by_seat start before act (Some seat) lawful sound free found =
+        let hand : HandTerms = record { start = start; acts = before } in
+        let accepted : refusal_in_seat hand act.act seat ≡ None = sym (refused-in_seat hand act.name act.act seat found) ∙ free in
+        let entry : SeatAct = record { seat = seat; act = act.act } in
+        let acted = sound-act start (streets_of hand) (length before) seat act.act sound accepted in
+        let dealt = sound-dealt start (with_act (streets_of hand) entry).left (with_act (streets_of hand) entry) (length before + 1) lawful acted (omega arith) in
+        let count : length (before ++ act ∷ []) ≡ length before + 1 = length-append before (act ∷ []) in
+        rw (streets-more start before act seat found, count) dealt
+
+    sound-one_more : (start : HandStart) (before : List ActOf) (act : ActOf) → IsLawfulStart start
+        → IsSound start (streets_of (record { start = start; acts = before })) (length before)
+        → refusal_of_act (record { start = start; acts = before }) act.name act.act ≡ None
+        → IsSound start (streets_of (record { start = start; acts = before ++ act ∷ [] })) (length (before ++ act ∷ []))
+    sound-one_more start before act lawful sound free = by_seat start before act (seat_of_name start act.name) lawful sound free refl
+
+-- What holds of the streets of every lawful play of a lawful start.
+pub sound-play : (hand : HandTerms) → IsLawfulStart hand.start → IsLawfulPlay hand → IsSound hand.start (streets_of hand) (length hand.acts)
+sound-play hand lawful play =
+    let none = sound-dealt hand.start 3 (first_streets hand.start) 0 lawful (sound-first hand.start lawful) (omega arith) in
+    sound-along hand.start [] hand.acts lawful (rw (streets-none hand.start) none) play.acts
