@@ -1,4 +1,5 @@
 pub mod BySeat
+pub mod Chips
 pub mod DueNames
 pub mod Plays
 pub mod Refusals

@@ -1,0 +1,238 @@
+-- The chips of a hand are kept.
+use Rattle.std.proofs.Common.{◌≡◌, ◌∙◌, ℕ, ◌+◌, ◌-◌, ◌*◌, ◌≤◌, ◌<◌, List, [], ◌∷◌, map, Bool, true, false, cond, sum, Some, None, refl, ap, sym, arith}
+use Rattle.std.specs.Prelude.{Option, ◌==◌, find, length, nat_le, sum_by, count_by}
+use Rattle.std.specs.List.{list_all}
+use Rattle.std.specs.Option.{is_some, option_map_or}
+use Rattle.std.proofs.lemmas.Bool.{and_from, and_parts, eqb-true, le-leb}
+use Rattle.std.proofs.lemmas.List.Sums.{sum-map, sum_by-cons}
+use Rattle.betting_round.specs.declared.bettor.Player.{Player}
+use Rattle.betting_round.specs.StreetActs.{put_by_all, street_after, sum_over}
+use Rattle.betting_round.specs.WhoIsDue.{is_live, is_there, player_at, player_in}
+use Rattle.table_engine.specs.declared.start.HandStart.{HandStart}
+use Rattle.table_engine.specs.declared.start.StartSeat.{StartSeat}
+use Rattle.table_engine.specs.Starts.{IsLawfulStart, chips_of}
+use Rattle.table_engine.specs.Hands.{HandTerms, StreetPlayed, Streets, behind, is_live as is_live_in, player_of, players_by_seat, put_from, put_in_hand, put_on, put_so_far, street_of, streets_of}
+use Rattle.table_engine.specs.declared.standing.Standing.{Standing}
+use Rattle.table_engine.specs.Standings.{IsAt}
+use Rattle.table_engine.specs.Plays.{IsLawfulPlay}
+use Rattle.table_engine.specs.Results.{pot, award, is_won_by_folds, stack_after, stack_after_hand, stacks_after_hand, with_stack, players_after, starting_stacks}
+use Rattle.table_engine.proofs.BySeat.{AreFound, found-all, found-within, number_of, player_in-there, sum-of_street, there-at}
+use Rattle.table_engine.proofs.Sound.{AreThere, IsSound, sound-play}
+
+-- A sum over a list that is made of another.
+sum_by-map : {X Y : Type 0} (f : Y → ℕ) (g : X → Y) (xs : List X) → sum_by f (map g xs) ≡ sum_by (λ x. f (g x)) xs
+sum_by-map f g [] = refl
+sum_by-map f g (x ∷ xs) = rw (sum_by-cons f (g x) (map g xs), sum_by-cons (λ y. f (g y)) x xs, sum_by-map f g xs)
+
+-- The sum of sums.
+sum_by-plus : {X : Type 0} (f g h : X → ℕ) (xs : List X) → ((x : X) → f x + g x ≡ h x) → sum_by f xs + sum_by g xs ≡ sum_by h xs
+sum_by-plus f g h [] each = refl
+sum_by-plus f g h (x ∷ xs) each =
+    omega (arith, sum_by-cons f x xs, sum_by-cons g x xs, sum_by-cons h x xs, each x, sum_by-plus f g h xs each)
+
+-- A player of a hand as he stands: he is on its street, and has the stack with which he began in two parts.
+pub record Stands (hand : HandTerms) (player : StartSeat) (now : Player) : Type 0 where
+  pub there : player_in (street_of hand).players player.seat ≡ Some now
+  pub behind : behind hand player ≡ now.bettor.behind
+  pub stack : now.bettor.behind + put_in_hand hand player ≡ player.stack
+
+-- Who is found at his seat stands in the hand.
+pub stands : (hand : HandTerms) (player : StartSeat) → IsLawfulStart hand.start → IsSound hand.start (streets_of hand) (length hand.acts)
+    → player_of hand.start player.seat ≡ Some player → (now : Player) × Stands hand player now
+stands hand player lawful sound found =
+    let within = found-within hand.start player.seat player lawful found in
+    let low = within.1 in
+    let at = there-at hand.start (street_of hand).players player.seat player lawful sound.there found in
+    let now = at.0 in
+    let his = sound.each player.seat now low at.1 in
+    let stack = his.stack player found in
+    (now, record {
+      there = player_in-there (street_of hand).players player.seat low ∙ at.1;
+      behind = omega arith;
+      stack = stack;
+    })
+
+-- Of players who are found at their seats: two numbers of each that sum to a third sum so together.
+sum_by-found : (all : List StartSeat) (f g h : StartSeat → ℕ) (players : List StartSeat) → AreFound all players
+    → ((player : StartSeat) → find (λ (other : StartSeat). other.seat == player.seat) all ≡ Some player → f player + g player ≡ h player)
+    → sum_by f players + sum_by g players ≡ sum_by h players
+sum_by-found all f g h [] found each = refl
+sum_by-found all f g h (player ∷ players) found each =
+    let later = sum_by-found all f g h players found.1 each in
+    let here = each player found.0 in
+    omega (arith, sum_by-cons f player players, sum_by-cons g player players, sum_by-cons h player players)
+
+-- Of players who are found at their seats: what is made of each in one way is made of each in another.
+pub map-found : {X : Type 0} (all : List StartSeat) (f g : StartSeat → X) (players : List StartSeat) → AreFound all players
+    → ((player : StartSeat) → find (λ (other : StartSeat). other.seat == player.seat) all ≡ Some player → f player ≡ g player)
+    → map f players ≡ map g players
+map-found all f g [] found each = refl
+map-found all f g (player ∷ players) found each =
+    let later = map-found all f g players found.1 each in
+    let here = each player found.0 in
+    cc
+
+-- Of players who are found at their seats and pass a test: each passes another.
+pub all-found : (all : List StartSeat) (one other : StartSeat → Bool) (players : List StartSeat) → AreFound all players
+    → ((player : StartSeat) → find (λ (other : StartSeat). other.seat == player.seat) all ≡ Some player → one player ≡ true → other player ≡ true)
+    → list_all one players ≡ true → list_all other players ≡ true
+all-found all one other [] found each passes = refl
+all-found all one other (player ∷ players) found each passes =
+    let parts = and_parts (one player) (list_all one players) passes in
+    and_from _ _ (each player found.0 parts.0) (all-found all one other players found.1 each parts.1)
+
+-- At each moment all that the players have behind and all that they have put in sum to their starting stacks.
+pub chips-by : (hand : HandTerms) → IsLawfulStart hand.start → IsLawfulPlay hand
+    → sum_by (behind hand) hand.start.seats + sum_by (put_in_hand hand) hand.start.seats ≡ chips_of hand.start.seats
+chips-by hand lawful play =
+    let sound = sound-play hand lawful play in
+    sum_by-found hand.start.seats (behind hand) (put_in_hand hand) (λ player. player.stack) hand.start.seats (found-all hand.start lawful)
+    (λ player found.
+    let his = stands hand player lawful sound found in
+    let behind_so = his.1.behind in
+    let stack = his.1.stack in
+    omega arith)
+
+pub chips-in_play : (hand : HandTerms) → IsLawfulStart hand.start → IsLawfulPlay hand
+    → sum_by (behind hand) hand.start.seats + sum_by (put_in_hand hand) hand.start.seats ≡ sum (starting_stacks hand)
+chips-in_play hand lawful play = chips-by hand lawful play ∙ sym (sum-map (λ (player : StartSeat). player.stack) hand.start.seats)
+
+-- Nobody puts in more than his stack.
+pub chips-within : (hand : HandTerms) → IsLawfulStart hand.start → IsLawfulPlay hand
+    → list_all (λ player. nat_le (put_in_hand hand player) player.stack) hand.start.seats ≡ true
+chips-within hand lawful play =
+    let sound = sound-play hand lawful play in
+    all-found hand.start.seats (λ player. true) (λ player. nat_le (put_in_hand hand player) player.stack) hand.start.seats (found-all hand.start lawful)
+    (λ player found passes.
+    let his = stands hand player lawful sound found in
+    let stack = his.1.stack in
+    le-leb (put_in_hand hand player) player.stack (omega arith))
+    (everybody hand.start.seats)
+  where
+    everybody : (players : List StartSeat) → list_all (λ (player : StartSeat). true) players ≡ true
+    everybody [] = refl
+    everybody (player ∷ players) = everybody players
+
+-- What was put in on a street, by the players of the start.
+put-on_street : (start : HandStart) (played : StreetPlayed) → IsLawfulStart start
+    → map is_some (street_after played.start played.acts).players ≡ map is_some (players_by_seat start)
+    → sum_by (λ (player : StartSeat). put_from player.seat played) start.seats ≡ put_on played
+put-on_street start played lawful there =
+    sum-of_street start (λ (player : Player). player.bettor.put) (street_after played.start played.acts).players lawful there
+
+-- What was put in on several streets, by the players of the start.
+put-on_streets : (start : HandStart) (streets : List StreetPlayed) → IsLawfulStart start → AreThere start streets
+    → sum_by (λ (player : StartSeat). sum_by (put_from player.seat) streets) start.seats ≡ sum_by put_on streets
+put-on_streets start [] lawful there = nothing-put start.seats
+  where
+    nothing-put : (players : List StartSeat) → sum_by (λ (player : StartSeat). 0) players ≡ 0
+    nothing-put [] = refl
+    nothing-put (player ∷ players) = let all = sum_by-cons (λ (p : StartSeat). 0) player players in let later = nothing-put players in omega arith
+put-on_streets start (played ∷ streets) lawful there =
+    let here = put-on_street start played lawful there.0 in
+    let later = put-on_streets start streets lawful there.1 in
+    let both = sum_by-plus (λ (player : StartSeat). put_from player.seat played) (λ (player : StartSeat). sum_by (put_from player.seat) streets)
+        (λ (player : StartSeat). sum_by (put_from player.seat) (played ∷ streets)) start.seats
+        (λ player. sym (sum_by-cons (put_from player.seat) played streets)) in
+    let all = sum_by-cons put_on played streets in
+    omega arith
+
+-- The pot is what was put in on all streets.
+pub pot-is : (hand : HandTerms) → IsLawfulStart hand.start → IsLawfulPlay hand → pot hand ≡ put_so_far (streets_of hand)
+pot-is hand lawful play =
+    let sound = sound-play hand lawful play in
+    let streets = streets_of hand in
+    let last = put-on_street hand.start streets.last lawful sound.there in
+    let before = put-on_streets hand.start streets.before lawful sound.earlier in
+    let both = sum_by-plus (λ (player : StartSeat). put_from player.seat streets.last) (λ (player : StartSeat). sum_by (put_from player.seat) streets.before)
+        (put_in_hand hand) hand.start.seats (λ player. refl) in
+    omega arith
+
+-- One more that passes, or one that does not.
+counted_again : (n count : ℕ) (passes : Bool) → cond passes n 0 + count * n ≡ (cond passes 1 0 + count) * n
+counted_again n count true = grind arith
+counted_again n count false = grind arith
+
+-- The same for each live player of a street, and nothing for the others.
+sum-live : (n : ℕ) (slots : List (Option Player)) → sum_over (λ (player : Player). cond player.bettor.live n 0) slots ≡ count_by (is_there is_live) slots * n
+sum-live n [] = grind arith
+sum-live n (None ∷ slots) =
+    let count = sum_by-cons (λ (slot : Option Player). cond (is_there is_live slot) 1 0) None slots in
+    let less : 0 + count_by (is_there is_live) slots ≡ count_by (is_there is_live) slots = omega arith in
+    rw (count, less) (sum-live n slots)
+sum-live n (Some player ∷ slots) =
+    let count = sum_by-cons (λ (slot : Option Player). cond (is_there is_live slot) 1 0) (Some player) slots in
+    rw (count, sum-live n slots) (counted_again n (count_by (is_there is_live) slots) player.bettor.live)
+
+-- Where one player alone is live, one player gets the pot.
+one-gets : (hand : HandTerms) → IsLawfulStart hand.start → IsLawfulPlay hand → is_won_by_folds hand ≡ true
+    → sum_by (award hand) hand.start.seats ≡ pot hand
+one-gets hand lawful play won =
+    let sound = sound-play hand lawful play in
+    let slots = (street_of hand).players in
+    let one : count_by (is_there is_live) slots ≡ 1 = eqb-true _ 1 won in
+    let by_slots = sum-of_street hand.start (λ (player : Player). cond player.bettor.live (pot hand) 0) slots lawful sound.there in
+    let awards = sum_by-alike (award hand) (number_of (λ (player : Player). cond player.bettor.live (pot hand) 0) slots) hand.start.seats
+        (λ player. award-slot (player_in slots player.seat) (pot hand)) in
+    let once : 1 * pot hand ≡ pot hand = omega arith in
+    awards ∙ by_slots ∙ sum-live (pot hand) slots ∙ ap (λ (n : ℕ). n * pot hand) one ∙ once
+  where
+    award-slot : (slot : Option Player) (n : ℕ)
+        → cond (option_map_or (λ (player : Player). player.bettor.live) slot false) n 0 ≡ option_map_or (λ (player : Player). cond player.bettor.live n 0) slot 0
+    award-slot None n = refl
+    award-slot (Some player) n = refl
+
+    sum_by-alike : (f g : StartSeat → ℕ) (players : List StartSeat) → ((player : StartSeat) → f player ≡ g player) → sum_by f players ≡ sum_by g players
+    sum_by-alike f g [] each = refl
+    sum_by-alike f g (player ∷ players) each =
+        let here = each player in
+        let later = sum_by-alike f g players each in
+        omega (arith, sum_by-cons f player players, sum_by-cons g player players)
+
+-- After a hand that is won without a showdown the stacks sum to the starting stacks.
+pub chips-after : (hand : HandTerms) → IsLawfulStart hand.start → IsLawfulPlay hand → is_won_by_folds hand ≡ true
+    → sum (stacks_after_hand hand) ≡ sum (starting_stacks hand)
+chips-after hand lawful play won =
+    let stacks = sum-map (stack_after_hand hand) hand.start.seats in
+    let parts = sum_by-plus (behind hand) (award hand) (stack_after_hand hand) hand.start.seats (λ player. refl) in
+    let all = chips-in_play hand lawful play in
+    let gets = one-gets hand lawful play won in
+    omega arith
+
+-- After such a hand its players have the chips with which they began.
+pub chips-players : (hand : HandTerms) → IsLawfulStart hand.start → IsLawfulPlay hand → is_won_by_folds hand ≡ true
+    → chips_of (players_after hand) ≡ chips_of hand.start.seats
+chips-players hand lawful play won =
+    let after = sum_by-map (λ (player : StartSeat). player.stack) (λ (player : StartSeat). with_stack player (stack_after_hand hand player)) hand.start.seats in
+    let stacks = sum-map (stack_after_hand hand) hand.start.seats in
+    let start = sum-map (λ (player : StartSeat). player.stack) hand.start.seats in
+    after ∙ sym stacks ∙ chips-after hand lawful play won ∙ start
+
+-- What the players of the street have after the hand are its stacks.
+pub street-stacks : (hand : HandTerms) → IsLawfulStart hand.start → IsLawfulPlay hand
+    → map (λ player. stack_after (put_so_far (streets_of hand)) (player_in (street_of hand).players player.seat)) hand.start.seats ≡ stacks_after_hand hand
+street-stacks hand lawful play =
+    let sound = sound-play hand lawful play in
+    let all = pot-is hand lawful play in
+    map-found hand.start.seats (λ player. stack_after (put_so_far (streets_of hand)) (player_in (street_of hand).players player.seat)) (stack_after_hand hand)
+    hand.start.seats (found-all hand.start lawful)
+    (λ player found.
+    let his = stands hand player lawful sound found in
+    let now = his.0 in
+    let so_far = put_so_far (streets_of hand) in
+    let live : is_live_in hand player ≡ now.bettor.live =
+        ap (λ (slot : Option Player). option_map_or (λ (other : Player). other.bettor.live) slot false) his.1.there in
+    ap (stack_after so_far) his.1.there
+    ∙ ap (λ (n : ℕ). n + cond now.bettor.live so_far 0) (sym his.1.behind)
+    ∙ ap (λ (is : Bool). behind hand player + cond is so_far 0) (sym live)
+    ∙ ap (λ (n : ℕ). behind hand player + cond (is_live_in hand player) n 0) (sym all))
+
+-- The same by what a hand keeps: its street, and what was put in before.
+pub standing-stacks : (hand : HandTerms) (standing : Standing) → IsLawfulStart hand.start → IsLawfulPlay hand → IsAt (streets_of hand) standing
+    → map (λ player. stack_after (standing.before + put_by_all standing.round) (player_in standing.round.players player.seat)) hand.start.seats
+    ≡ stacks_after_hand hand
+standing-stacks hand standing lawful play at =
+    let put = ap put_by_all at.round in
+    let before = at.before in
+    let pot : standing.before + put_by_all standing.round ≡ put_so_far (streets_of hand) = omega arith in
+    rw (pot, at.round) (street-stacks hand lawful play)
