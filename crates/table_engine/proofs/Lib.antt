@@ -6,7 +6,9 @@ pub mod Refusals
 pub mod Slots
 pub mod Sound
 pub mod Stacks
+pub mod StacksAfter
 pub mod Standings
 pub mod Starts
+pub mod TurnLaws
 pub mod Units
 pub mod WholeUnits
