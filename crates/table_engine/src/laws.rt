@@ -1,13 +1,74 @@
 //! Laws of a hand: over every lawful start and every lawful play of it.
 
-ghost use Rattle.std.specs.Prelude.{◌≡◌, List, ◌∷◌, ◌++◌, None};
+ghost use Rattle.std.specs.Prelude.{◌≡◌, ◌+◌, ◌<◌, ◌≤◌, ℕ, List, [], ◌∷◌, ◌++◌, Some, None, IsSome, false, true, map, nat_le, length, sum, sum_by};
+ghost use Rattle.std.specs.List.{list_all};
+ghost use Rattle.betting_round.specs.declared.act.Act.TheVariants as acts;
 ghost use Rattle.table_engine.specs.declared.record.ActOf.{ActOf};
-ghost use Rattle.table_engine.specs.Hands.{HandTerms};
+ghost use Rattle.table_engine.specs.declared.start.StartSeat.{StartSeat};
+ghost use Rattle.table_engine.specs.Starts.{IsLawfulStart, chips_of, have_playable_stacks};
+ghost use Rattle.table_engine.specs.Hands.{HandTerms, behind, due_in_hand, due_name, is_over, player_of, put_in_hand, street_of, streets_of};
 ghost use Rattle.table_engine.specs.Acts.{refusal_of_act};
+ghost use Rattle.table_engine.specs.Results.{is_won_by_folds, players_after, stacks_after_hand, starting_stacks};
 ghost use Rattle.table_engine.specs.Plays.{IsLawfulPlay};
+
+/// The chips of a hand are kept. At each moment, all that the players have behind and all that they have put in
+/// sum to their starting stacks, and nobody has put in more than his stack. The stacks after a hand that is won
+/// without a showdown sum to the starting stacks.
+pub fn chips_of_a_hand()
+    ensures in_play { (hand : HandTerms) → IsLawfulStart hand.start → IsLawfulPlay hand
+        → sum_by (behind hand) hand.start.seats + sum_by (put_in_hand hand) hand.start.seats
+        ≡ sum (starting_stacks hand) }
+    ensures within { (hand : HandTerms) → IsLawfulStart hand.start → IsLawfulPlay hand
+        → list_all (λ player. nat_le (put_in_hand hand player) player.stack) hand.start.seats ≡ true }
+    ensures after { (hand : HandTerms) → IsLawfulStart hand.start → IsLawfulPlay hand → is_won_by_folds hand ≡ true
+        → sum (stacks_after_hand hand) ≡ sum (starting_stacks hand) }
+    ensures players { (hand : HandTerms) → IsLawfulStart hand.start → IsLawfulPlay hand → is_won_by_folds hand ≡ true
+        → chips_of (players_after hand) ≡ chips_of hand.start.seats }
+{}
 
 /// Each act of a lawful play is refused by no check on the acts before it.
 pub fn acts_of_a_hand()
     ensures { (hand : HandTerms) (front : List ActOf) (act : ActOf) (back : List ActOf) → IsLawfulPlay hand
         → hand.acts ≡ front ++ act ∷ back → refusal_of_act (record hand { acts = front }) act.name act.act ≡ None }
+{}
+
+/// As long as a hand is not over somebody is due. He has chips behind, and he may fold, so there is always an act of
+/// his that is not refused.
+pub fn turns_of_a_hand()
+    ensures somebody { (hand : HandTerms) → IsLawfulStart hand.start → IsLawfulPlay hand → is_over hand ≡ false
+        → IsSome (due_name hand) }
+    ensures behind { (hand : HandTerms) (seat : ℕ) (player : StartSeat) → IsLawfulStart hand.start → IsLawfulPlay hand
+        → due_in_hand hand ≡ Some seat → player_of hand.start seat ≡ Some player → 0 < behind hand player }
+    ensures free { (hand : HandTerms) (name : List ℕ) → IsLawfulStart hand.start → due_name hand ≡ Some name
+        → refusal_of_act hand name acts.Fold ≡ None }
+{}
+
+/// The bet level of a street never falls: where an act that is not refused leaves the hand on the same street, with as
+/// many streets to come, the level is no lower after it.
+pub fn levels_of_a_hand()
+    ensures { (hand : HandTerms) (act : ActOf) → refusal_of_act hand act.name act.act ≡ None
+        → (streets_of (record hand { acts = hand.acts ++ act ∷ [] })).left ≡ (streets_of hand).left
+        → (street_of hand).level ≤ (street_of (record hand { acts = hand.acts ++ act ∷ [] })).level }
+{}
+
+/// A hand cannot go on for ever: it has at most as many acts as its players have chips, and fifty more. Each act puts a
+/// chip in, or is one of at most ten folds, or one of at most ten checks on each of four streets.
+pub fn length_of_a_hand()
+    ensures { (hand : HandTerms) → IsLawfulStart hand.start → IsLawfulPlay hand
+        → length hand.acts ≤ chips_of hand.start.seats + 50 }
+{}
+
+/// The players after a hand are those who were dealt in: they have their numbers, names and seats. After a hand that
+/// is won by folds each of them has a stack above 0 that is a multiple of the unit, as he had before it: a player
+/// who folds was due, so he has chips behind.
+pub fn players_of_a_hand()
+    ensures numbers { (hand : HandTerms)
+        → map (λ player. player.player) (players_after hand) ≡ map (λ player. player.player) hand.start.seats }
+    ensures names { (hand : HandTerms)
+        → map (λ player. player.name) (players_after hand) ≡ map (λ player. player.name) hand.start.seats }
+    ensures seats { (hand : HandTerms)
+        → map (λ player. player.seat) (players_after hand) ≡ map (λ player. player.seat) hand.start.seats }
+    ensures stacks { (hand : HandTerms) → map (λ player. player.stack) (players_after hand) ≡ stacks_after_hand hand }
+    ensures playable { (hand : HandTerms) → IsLawfulStart hand.start → IsLawfulPlay hand → is_won_by_folds hand ≡ true
+        → have_playable_stacks hand.start.unit (players_after hand) ≡ true }
 {}

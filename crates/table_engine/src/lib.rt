@@ -1,8 +1,12 @@
 //! One hand: its start and its acts, and what they come to.
 //!
-//! It stands on floor_text, card_set, rulebook, button_blinds and betting_round. A `Hand` is made of a `HandStart`,
-//! takes acts from the players who are due, and ends by `finish`, with the stacks after it, or by `void`, which gives
-//! its start back. `chips_of_a_hand` is a law of every hand at each moment.
+//! It stands on floor_text, card_set, rulebook, level_plan, button_blinds and betting_round. A `Hand` is made of a
+//! `HandStart` that is lawful, takes acts from the players who are due and called times on all streets (`act` answers
+//! just by `refusal_of_act`, `time` by `refusal_of_time`), and ends by `finish`, whose record is a complete play of its
+//! start, or by `void`, which gives its start back. So far a hand is finished where it is won by folds.
+//!
+//! Laws of every lawful play: `chips_of_a_hand` at each moment, `acts_of_a_hand`, `turns_of_a_hand`, `levels_of_a_hand`,
+//! `length_of_a_hand`, and `players_of_a_hand` of the players and their stacks after it.
 #![tactic(auto)]
 
 mod hand;
@@ -13,7 +17,10 @@ mod standing;
 mod start;
 
 pub use hand::Hand;
-pub use laws::acts_of_a_hand;
+pub use laws::{
+    acts_of_a_hand, chips_of_a_hand, length_of_a_hand, levels_of_a_hand, players_of_a_hand,
+    turns_of_a_hand,
+};
 pub use record::{ActFault, ActOf, HandRecord};
 pub use start::{HandStart, StartSeat};
 
