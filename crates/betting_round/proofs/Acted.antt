@@ -57,16 +57,18 @@ who-acts limits street seat act accepted =
     let none = (none_holds-both (turn_checks street seat) (act_checks limits street.unit (facing_in street seat) act) accepted).1 in
     let slot : player_in street.players seat ≡ Some now = player_in-at street.players seat low ∙ there.1 in
     let covered = accepted-covered limits street seat act accepted in
-    let more : 0 < now.bettor.behind = grind (arith, nat_tests) in
-    (now, record {
-      low = low;
-      sits = there.1;
-      live = can.0;
-      more = more;
-      turn = parts.1;
-      checked = rw slot at none;
-      covered = rw there.1 at covered;
-    })
+    let more : 0 < now.bettor.behind = grind (arith, nat_tests) in (
+      now,
+      record {
+        low = low;
+        sits = there.1;
+        live = can.0;
+        more = more;
+        turn = parts.1;
+        checked = rw slot at none;
+        covered = rw there.1 at covered;
+      },
+    )
 
 -- What a player can still do on a street and later ones, in chips and acts: put in what he has behind, fold, and check.
 abbrev pub still : Player → ℕ
@@ -108,7 +110,7 @@ bet-above : (limits : Limits) (unit : ℕ) (facing : Facing) (n : ℕ)
 bet-above limits unit facing n none least full more =
     let all = none_holds (act_checks limits unit facing (Bet n)) none in
     let large : not (nat_lt n (limits.least facing) && not (n == facing.behind)) ≡ true =
-        (and_parts _ _ (and_parts _ _ all).1).0 in
+    (and_parts _ _ (and_parts _ _ all).1).0 in
     elim (cases_Bool (n == facing.behind)) [
       | inl is ↦ let same = eqb-true n facing.behind is in omega arith
       | inr other ↦ let above = not-small n (limits.least facing) (n == facing.behind) large other in omega arith
@@ -121,7 +123,7 @@ raise-above : (limits : Limits) (unit : ℕ) (facing : Facing) (n : ℕ)
 raise-above limits unit facing n none least full =
     let all = none_holds (act_checks limits unit facing (Raise n)) none in
     let large : not (nat_lt n (limits.least facing) && not (n == facing.put + facing.behind && nat_lt facing.level n)) ≡ true =
-        (and_parts _ _ (and_parts _ _ all).1).0 in
+    (and_parts _ _ (and_parts _ _ all).1).0 in
     elim (cases_Bool (n == facing.put + facing.behind && nat_lt facing.level n)) [
       | inl is ↦ let above = (and_parts (n == facing.put + facing.behind) (nat_lt facing.level n) is).1 in grind (arith, nat_tests)
       | inr other ↦

@@ -44,8 +44,8 @@ put_by_acts start [] bettor = 0
 put_by_acts start (entry ∷ acts) bettor =
     if entry.seat == bettor.seat
     then put_by_acts start acts bettor
-        + amount (greatest start.opening (λ other. other.put + put_by_acts start acts other) start.bettors)
-        (bettor.put + put_by_acts start acts bettor) (bettor.behind - put_by_acts start acts bettor) entry.act
+    + amount (greatest start.opening (λ other. other.put + put_by_acts start acts other) start.bettors)
+    (bettor.put + put_by_acts start acts bettor) (bettor.behind - put_by_acts start acts bettor) entry.act
     else put_by_acts start acts bettor
 
 -- What a player has put in on the street: what he posted, and what his acts put in.

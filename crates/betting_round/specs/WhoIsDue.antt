@@ -39,7 +39,7 @@ has_put_most players put =
 abbrev pub is_only_one_to_act : List (Option Player) → Bool
 is_only_one_to_act players =
     count_by (is_there can_act) players == 1
-        && list_any (is_there (λ player. can_act player && has_put_most players player.bettor.put)) players
+    && list_any (is_there (λ player. can_act player && has_put_most players player.bettor.put)) players
 
 -- Nobody is due where one player alone is live, or where only one could act and has nothing to answer.
 abbrev pub is_closed : List (Option Player) → Bool
