@@ -171,7 +171,7 @@ there-at start slots seat player lawful there found =
     let back : 0 + (seat - 1) + 1 ≡ seat = omega arith in
     let his : slice_index_or (players_by_seat start) (seat - 1) None ≡ Some player = listed ∙ ap (player_of start) back ∙ found in
     let some : is_some (player_at slots seat) ≡ true =
-        sym (some-at slots (seat - 1)) ∙ ap (λ tests. slice_index_or tests (seat - 1) false) there ∙ some-at (players_by_seat start) (seat - 1) ∙ ap is_some his in
+    sym (some-at slots (seat - 1)) ∙ ap (λ tests. slice_index_or tests (seat - 1) false) there ∙ some-at (players_by_seat start) (seat - 1) ∙ ap is_some his in
     by_slot (player_at slots seat) refl some
   where
     by_slot : (slot : Option Player) → player_at slots seat ≡ slot → is_some (player_at slots seat) ≡ true
@@ -200,7 +200,7 @@ sum-step number slots from (Some now) (Some his) players rest seat at there late
     let sits = seat his refl in
     let index : his.seat - 1 ≡ from = omega arith in
     let same : player_in slots his.seat ≡ Some now =
-        player_in-there slots his.seat (omega arith) ∙ ap (λ (n : ℕ). slice_index_or slots n None) index ∙ at in
+    player_in-there slots his.seat (omega arith) ∙ ap (λ (n : ℕ). slice_index_or slots n None) index ∙ at in
     rw same (ap (λ (n : ℕ). number now + n) later)
 
 -- The numbers of the players of a street, by the players of the start and by slots.

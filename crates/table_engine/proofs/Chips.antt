@@ -45,12 +45,14 @@ stands hand player lawful sound found =
     let at = there-at hand.start (street_of hand).players player.seat player lawful sound.there found in
     let now = at.0 in
     let his = sound.each player.seat now low at.1 in
-    let stack = his.stack player found in
-    (now, record {
-      there = player_in-there (street_of hand).players player.seat low ∙ at.1;
-      behind = omega arith;
-      stack = stack;
-    })
+    let stack = his.stack player found in (
+      now,
+      record {
+        there = player_in-there (street_of hand).players player.seat low ∙ at.1;
+        behind = omega arith;
+        stack = stack;
+      },
+    )
 
 -- Of players who are found at their seats: two numbers of each that sum to a third sum so together.
 sum_by-found : (all : List StartSeat) (f g h : StartSeat → ℕ) (players : List StartSeat) → AreFound all players
@@ -132,8 +134,8 @@ put-on_streets start (played ∷ streets) lawful there =
     let here = put-on_street start played lawful there.0 in
     let later = put-on_streets start streets lawful there.1 in
     let both = sum_by-plus (λ (player : StartSeat). put_from player.seat played) (λ (player : StartSeat). sum_by (put_from player.seat) streets)
-        (λ (player : StartSeat). sum_by (put_from player.seat) (played ∷ streets)) start.seats
-        (λ player. sym (sum_by-cons (put_from player.seat) played streets)) in
+    (λ (player : StartSeat). sum_by (put_from player.seat) (played ∷ streets)) start.seats
+    (λ player. sym (sum_by-cons (put_from player.seat) played streets)) in
     let all = sum_by-cons put_on played streets in
     omega arith
 
@@ -145,7 +147,7 @@ pot-is hand lawful play =
     let last = put-on_street hand.start streets.last lawful sound.there in
     let before = put-on_streets hand.start streets.before lawful sound.earlier in
     let both = sum_by-plus (λ (player : StartSeat). put_from player.seat streets.last) (λ (player : StartSeat). sum_by (put_from player.seat) streets.before)
-        (put_in_hand hand) hand.start.seats (λ player. refl) in
+    (put_in_hand hand) hand.start.seats (λ player. refl) in
     omega arith
 
 -- One more that passes, or one that does not.
@@ -173,7 +175,7 @@ one-gets hand lawful play won =
     let one : count_by (is_there is_live) slots ≡ 1 = eqb-true _ 1 won in
     let by_slots = sum-of_street hand.start (λ (player : Player). cond player.bettor.live (pot hand) 0) slots lawful sound.there in
     let awards = sum_by-alike (award hand) (number_of (λ (player : Player). cond player.bettor.live (pot hand) 0) slots) hand.start.seats
-        (λ player. award-slot (player_in slots player.seat) (pot hand)) in
+    (λ player. award-slot (player_in slots player.seat) (pot hand)) in
     let once : 1 * pot hand ≡ pot hand = omega arith in
     awards ∙ by_slots ∙ sum-live (pot hand) slots ∙ ap (λ (n : ℕ). n * pot hand) one ∙ once
   where
@@ -221,7 +223,7 @@ street-stacks hand lawful play =
     let now = his.0 in
     let so_far = put_so_far (streets_of hand) in
     let live : is_live_in hand player ≡ now.bettor.live =
-        ap (λ (slot : Option Player). option_map_or (λ (other : Player). other.bettor.live) slot false) his.1.there in
+    ap (λ (slot : Option Player). option_map_or (λ (other : Player). other.bettor.live) slot false) his.1.there in
     ap (stack_after so_far) his.1.there
     ∙ ap (λ (n : ℕ). n + cond now.bettor.live so_far 0) (sym his.1.behind)
     ∙ ap (λ (is : Bool). behind hand player + cond is so_far 0) (sym live)

@@ -27,7 +27,7 @@ due-dealt start street seat same due =
     let slot = slot-there can_act (player_at street.players seat) (due-can_act street seat due) in
     let there : is_some (player_at street.players seat) ≡ true = ap is_some slot.1 in
     let listed : is_some (slice_index_or (players_by_seat start) (seat - 1) None) ≡ true =
-        sym (some-at (players_by_seat start) (seat - 1)) ∙ ap (λ tests. slice_index_or tests (seat - 1) false) (sym same) ∙ some-at street.players (seat - 1) ∙ there in
+    sym (some-at (players_by_seat start) (seat - 1)) ∙ ap (λ tests. slice_index_or tests (seat - 1) false) (sym same) ∙ some-at street.players (seat - 1) ∙ there in
     let back : 0 + (seat - 1) + 1 ≡ seat = omega arith in
     ap (λ (n : ℕ). is_some (player_of start n)) (sym back) ∙ along-there (player_of start) 10 0 (seat - 1) listed
 

@@ -124,7 +124,7 @@ player-moved start limits street seat act now before after acts unit level sound
     let put_in = amount_of street.level now act in
     let held : put_in ≤ now.bettor.behind = acts.covered in
     let whole : put_in % start.unit ≡ 0 =
-        rw unit at (amount-whole limits street seat act now acts (rw unit level) (rw unit sound.put) (rw unit sound.behind) sound.met) in
+    rw unit at (amount-whole limits street seat act now acts (rw unit level) (rw unit sound.put) (rw unit sound.behind) sound.met) in
     record {
       met = omega arith;
       more = more-moved now.bettor.live (is_fold act) now.bettor.behind put_in acts.live acts.more (fold-none street.level now.bettor.put now.bettor.behind act);
@@ -181,8 +181,8 @@ sound-act start streets acts seat act sound free =
     let same = ap (λ (s : Street). sum_over still s.players) is in
     let at : IsAt streets (standing_on streets) = record { round = refl; before = refl; left = refl; right = sound.right } in
     let level : (placed street seat now act put_in).level % start.unit ≡ 0 =
-        (let whole = player-moved start limits street seat act now (put_by_seat seat streets) (put_by_seat seat streets + put_in) acted sound.unit sound.level his refl in
-        multiple-max start.unit street.level (now.bettor.put + put_in) sound.level whole.put) in
+    (let whole = player-moved start limits street seat act now (put_by_seat seat streets) (put_by_seat seat streets + put_in) acted sound.unit sound.level his refl in
+    multiple-max start.unit street.level (now.bettor.put + put_in) sound.level whole.put) in
     let full = sound.full in
     let short = sound.short in
     record {
@@ -208,7 +208,7 @@ sound-act start streets acts seat act sound free =
         let after = with_act streets (record { seat = seat; act = act }) in
         let mine = put_from-there after.last other found low there in
         let set : slice_index_or (slice_set street.players (seat - 1) (Some (moved put_in now act))) (other - 1) None ≡ Some found =
-            ap (λ (s : Street). player_at s.players other) (sym is) ∙ there in
+        ap (λ (s : Street). player_at s.players other) (sym is) ∙ there in
         let first = acted.low in
         elim (set-at street.players (seat - 1) (other - 1) now (moved put_in now act) found acted.sits set) [
           | inl here ↦
@@ -284,8 +284,8 @@ each-next start streets acts seat now sound low there =
     let next = later_street start streets in
     let after = with_next_street start streets in
     let slots : player_at (street_now after).players seat ≡ option_map fresh (option_map at_next_street (player_at street.players seat)) =
-        ap (λ (s : Street). player_at s.players seat) (street_start_is next) ∙ map_at fresh (seat - 1) (next_bettors street)
-        ∙ ap (option_map fresh) (map_at at_next_street (seat - 1) street.players) in
+    ap (λ (s : Street). player_at s.players seat) (street_start_is next) ∙ map_at fresh (seat - 1) (next_bettors street)
+    ∙ ap (option_map fresh) (map_at at_next_street (seat - 1) street.players) in
     let one = made-from fresh (option_map at_next_street (player_at street.players seat)) now (sym slots ∙ there) in
     let two = made-from at_next_street (player_at street.players seat) one.0 one.1.0 in
     let was = two.0 in
@@ -316,12 +316,12 @@ sound-next start streets acts lawful sound some =
     let blinds = blinds-lawful start lawful in
     let big = blinds.some in
     let none : greatest 0 (λ (bettor : Bettor). bettor.put) (next_bettors street) ≡ 0 =
-        greatest-no_more 0 (λ (bettor : Bettor). bettor.put) at_next_street street.players (λ player. omega arith) in
+    greatest-no_more 0 (λ (bettor : Bettor). bettor.put) at_next_street street.players (λ player. omega arith) in
     let level : (street_after next []).level ≡ 0 = ap (λ (s : Street). s.level) began ∙ none in
     let players = ap (λ (s : Street). s.players) began in
     let still_now : sum_over still (street_after next []).players ≡ sum_over (λ (player : Player). still (fresh (at_next_street player))) street.players =
-        ap (sum_over still) players ∙ sum_map still fresh (next_bettors street)
-        ∙ sum_map (λ (bettor : Bettor). still (fresh bettor)) at_next_street street.players in
+    ap (sum_over still) players ∙ sum_map still fresh (next_bettors street)
+    ∙ sum_map (λ (bettor : Bettor). still (fresh bettor)) at_next_street street.players in
     let more = sum-no_more (λ (player : Player). still (fresh (at_next_street player))) still 1 street.players still-next in
     let ten = ten-slots start street.players sound.there in
     let count : length street.players * 1 ≡ 10 = omega arith in
@@ -368,8 +368,8 @@ each-first start seat now lawful low there =
     let first = first_street start in
     let began = street_start_is first in
     let slots : player_at (street_after first []).players seat ≡ option_map fresh (option_map (seated start) (slice_index_or (players_by_seat start) (seat - 1) None)) =
-        ap (λ (s : Street). player_at s.players seat) began ∙ map_at fresh (seat - 1) first.bettors
-        ∙ ap (option_map fresh) (map_at (seated start) (seat - 1) (players_by_seat start)) in
+    ap (λ (s : Street). player_at s.players seat) began ∙ map_at fresh (seat - 1) first.bettors
+    ∙ ap (option_map fresh) (map_at (seated start) (seat - 1) (players_by_seat start)) in
     let one = made-from fresh (option_map (seated start) (slice_index_or (players_by_seat start) (seat - 1) None)) now (sym slots ∙ there) in
     let two = made-from (seated start) (slice_index_or (players_by_seat start) (seat - 1) None) one.0 one.1.0 in
     let player = two.0 in
@@ -417,11 +417,11 @@ sound-first start lawful =
     let some = blinds.some in
     let small = lawful-small start lawful in
     let level : (street_after first []).level ≡ start.big =
-        ap (λ (s : Street). s.level) began
-        ∙ greatest-no_more start.big (λ (bettor : Bettor). bettor.put) (seated start) (players_by_seat start) (λ player. posted-most start player small) in
+    ap (λ (s : Street). s.level) began
+    ∙ greatest-no_more start.big (λ (bettor : Bettor). bettor.put) (seated start) (players_by_seat start) (λ player. posted-most start player small) in
     let still_now : sum_over still (street_after first []).players ≡ sum_over (λ player. still (fresh (seated start player))) (players_by_seat start) =
-        ap (λ (s : Street). sum_over still s.players) began ∙ sum_map still fresh first.bettors
-        ∙ sum_map (λ (bettor : Bettor). still (fresh bettor)) (seated start) (players_by_seat start) in
+    ap (λ (s : Street). sum_over still s.players) began ∙ sum_map still fresh first.bettors
+    ∙ sum_map (λ (bettor : Bettor). still (fresh bettor)) (seated start) (players_by_seat start) in
     let more = sum-no_more (λ player. still (fresh (seated start player))) (λ (player : StartSeat). player.stack) 2 (players_by_seat start) (λ player. omega arith) in
     let chips = sum-of_start start (λ (player : StartSeat). player.stack) lawful in
     let ten : length (players_by_seat start) * 2 ≡ 20 = refl in
@@ -448,7 +448,7 @@ sound-along start before (act ∷ acts) lawful sound play =
     let free = nothing (refusal_of_act hand act.name act.act) parts.0 in
     let joined : (before ++ act ∷ []) ++ acts ≡ before ++ act ∷ acts = append_assoc before (act ∷ []) acts in
     let one_more : IsSound start (streets_of (record { start = start; acts = before ++ act ∷ [] })) (length (before ++ act ∷ [])) =
-        sound-one_more start before act lawful sound free in
+    sound-one_more start before act lawful sound free in
     rw joined at (sound-along start (before ++ act ∷ []) acts lawful one_more parts.1)
   where
     by_seat : (start : HandStart) (before : List ActOf) (act : ActOf) (slot : Option ℕ) → IsLawfulStart start

@@ -33,7 +33,7 @@ each-in_sum number (player ∷ players) =
     let all = sum_by-cons number player players in
     let here : nat_le (number player) (sum_by number (player ∷ players)) ≡ true = le-leb (number player) _ (omega arith) in
     let later = list_all-follows (λ (other : StartSeat). nat_le (number other) (sum_by number players)) (λ (other : StartSeat). nat_le (number other) (sum_by number (player ∷ players))) players
-        (λ other within. let less = leb-true (number other) (sum_by number players) within in le-leb (number other) _ (omega arith)) (each-in_sum number players) in
+    (λ other within. let less = leb-true (number other) (sum_by number players) within in le-leb (number other) _ (omega arith)) (each-in_sum number players) in
     and_from _ _ here later
 
 -- What a player who is found at his seat put in is a multiple of the unit.
@@ -84,12 +84,12 @@ playable-after hand player lawful play found playable within =
     let sound_now = sound.each player.seat now low at in
     let some = (playable-parts hand.start.unit player.stack playable).0 in
     let live : is_live hand player ≡ now.bettor.live =
-        ap (λ (slot : Option Player). option_map_or (λ (other : Player). other.bettor.live) slot false) his.1.there in
+    ap (λ (slot : Option Player). option_map_or (λ (other : Player). other.bettor.live) slot false) his.1.there in
     let above = above-after now.bettor.behind (put_in_hand hand player) (pot hand) player.stack now.bettor.live sound_now.more his.1.stack some within in
     let whole = whole-after hand.start.unit now.bettor.behind (pot hand) now.bettor.live sound_now.behind (pot-whole hand lawful play) in
     let is : stack_after_hand hand player ≡ now.bettor.behind + cond now.bettor.live (pot hand) 0 =
-        ap (λ (n : ℕ). n + cond (is_live hand player) (pot hand) 0) his.1.behind
-        ∙ ap (λ (b : Bool). now.bettor.behind + cond b (pot hand) 0) live in
+    ap (λ (n : ℕ). n + cond (is_live hand player) (pot hand) 0) his.1.behind
+    ∙ ap (λ (b : Bool). now.bettor.behind + cond b (pot hand) 0) live in
     ap (is_playable_stack hand.start.unit) is ∙ playable-from hand.start.unit (now.bettor.behind + cond now.bettor.live (pot hand) 0) above whole
 
 -- After a lawful play of a lawful start that is won by folds each player has a stack above 0 that is a multiple of the unit.
@@ -100,8 +100,8 @@ stacks-playable hand lawful play won =
     let within : StartSeat → Bool = λ player. nat_le (put_in_hand hand player) (pot hand) in
     let can_play : StartSeat → Bool = λ player. is_playable_stack hand.start.unit player.stack in
     let both = list_all-both within can_play (λ player. within player && can_play player) hand.start.seats
-        (λ player first second. and_from (within player) (can_play player) first second)
-        (each-in_sum (put_in_hand hand) hand.start.seats) lawful.stacks in
+    (λ player first second. and_from (within player) (can_play player) first second)
+    (each-in_sum (put_in_hand hand) hand.start.seats) lawful.stacks in
     made
     ∙ all-found hand.start.seats (λ player. within player && can_play player) (λ player. is_playable_stack hand.start.unit (stack_after_hand hand player))
     hand.start.seats (found-all hand.start lawful)

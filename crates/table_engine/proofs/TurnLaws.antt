@@ -58,7 +58,7 @@ due-behind hand seat player lawful play due found =
     let again : player_of hand.start player.seat ≡ Some player = ap (player_of hand.start) within.0 ∙ found in
     let his = stands hand player lawful sound again in
     let at : player_at (street_of hand).players seat ≡ Some his.0 =
-        sym (player_in-there (street_of hand).players seat within.1) ∙ ap (λ (n : ℕ). player_in (street_of hand).players n) (sym within.0) ∙ his.1.there in
+    sym (player_in-there (street_of hand).players seat within.1) ∙ ap (λ (n : ℕ). player_in (street_of hand).players n) (sym within.0) ∙ his.1.there in
     let can : can_act his.0 ≡ true = rw at at (due-can_act (street_of hand) seat due) in
     let more = (and_parts his.0.bettor.live (nat_lt 0 his.0.bettor.behind) can).1 in
     let some : 0 < his.0.bettor.behind = grind (arith, nat_tests) in

@@ -57,10 +57,10 @@ amount-whole limits street seat (Raise n) now acts level put behind met =
     let stack = now.bettor.put + now.bettor.behind in
     let later = and_parts (not (street.level == 0)) _ all in
     let whole : not (not (n % street.unit == 0)) ≡ true =
-        fifth-holds (not (nat_lt n (limits.least (facing_of street now)) && not (n == stack && nat_lt street.level n)))
-        (not (nat_lt stack n)) (not (nat_lt (limits.most (facing_of street now)) n))
-        (not (not (limits.reopened (facing_of street now))))
-        (not (not (n % street.unit == 0))) true later.1 in
+    fifth-holds (not (nat_lt n (limits.least (facing_of street now)) && not (n == stack && nat_lt street.level n)))
+    (not (nat_lt stack n)) (not (nat_lt (limits.most (facing_of street now)) n))
+    (not (not (limits.reopened (facing_of street now))))
+    (not (not (n % street.unit == 0))) true later.1 in
     elim (cases_lt n now.bettor.put) [
       | inl less ↦ let none : n - now.bettor.put ≡ 0 = omega arith in rw none (zero-mod street.unit)
       | inr more ↦ multiple-sub street.unit n now.bettor.put more (is-whole n street.unit whole) put

@@ -12,7 +12,7 @@ abbrev pub are_lawful_after : HandStart → List ActOf → List ActOf → Bool
 are_lawful_after start before [] = true
 are_lawful_after start before (act ∷ acts) =
     is_none (refusal_of_act (record { start = start; acts = before }) act.name act.act)
-        && are_lawful_after start (before ++ act ∷ []) acts
+    && are_lawful_after start (before ++ act ∷ []) acts
 
 -- A hand is a lawful play of its start where each act is refused by no check on those before it.
 pub record IsLawfulPlay (hand : HandTerms) : Type 0 where

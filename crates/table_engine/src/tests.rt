@@ -1,4 +1,4 @@
-ghost use Rattle.std.specs.Prelude.{◌≡◌, ◌+◌, ◌<◌, ◌^◌, true, [], ◌∷◌, map, codes, IfOk};
+ghost use Rattle.std.specs.Prelude.{◌≡◌, ◌+◌, ◌<◌, ◌^◌, true, [], ◌∷◌, IfOk};
 ghost use Rattle.table_engine.specs.Starts.{is_playable_stack};
 
 use super::*;
@@ -7,31 +7,14 @@ use button_blinds::Marks;
 use card_set::{Deck, Game};
 use floor_text::{List, Name, Refusal};
 use std::alloc::Global;
+use std::process::Abort;
 use std::test::Fail;
 
-/// A name.
-fn name(bytes: &[u8]) -> Result<Name, Fail>
-    ensures { IfOk result (λ name. name ≡ bytes.now) }
+/// A name of one letter.
+fn name(letter: u8) -> Result<Name, Fail>
+    ensures { IfOk result (λ name. name ≡ letter ∷ []) }
 {
-    Ok(Name::read(bytes).ok_or("a name")?)
-}
-
-/// The names a to j.
-fn names() -> Result<[Name; 10], Fail>
-    ensures { IfOk result (λ names. names ≡ map (λ letter. letter ∷ []) (codes "abcdefghij")) }
-{
-    Ok([
-        name(b"a")?,
-        name(b"b")?,
-        name(b"c")?,
-        name(b"d")?,
-        name(b"e")?,
-        name(b"f")?,
-        name(b"g")?,
-        name(b"h")?,
-        name(b"i")?,
-        name(b"j")?,
-    ])
+    Ok(Name::read(&[letter]).ok_or("a name")?)
 }
 
 /// A player who is dealt in.
@@ -46,14 +29,14 @@ fn player(number: u32, name: Name, seat: u8, stack: u64) -> StartSeat
     }
 }
 
-/// A hand of these players at blinds of 100 and 200 with a unit of 25.
-fn start_of(seats: Vec<StartSeat>, seat_count: u8, marks: Marks) -> HandStart
+/// A hand of these players at blinds of 100 and 200 with a unit of 50.
+fn start_of(seats: Vec<StartSeat>, seat_count: u8, marks: Marks, game: Game) -> HandStart
     ensures seats { result.seats ≡ seats.items }
     ensures table { result.seat_count ≡ seat_count }
     ensures marks { result.marks ≡ marks }
     ensures small { result.small ≡ 100 }
     ensures big { result.big ≡ 200 }
-    ensures unit { result.unit ≡ 25 }
+    ensures unit { result.unit ≡ 50 }
 {
     HandStart {
         table: 1,
@@ -63,189 +46,349 @@ fn start_of(seats: Vec<StartSeat>, seat_count: u8, marks: Marks) -> HandStart
         marks,
         small: 100,
         big: 200,
-        unit: 25,
-        game: Game::Holdem,
+        unit: 50,
+        game,
         deck: Deck::sorted(),
     }
 }
 
-/// A hand of a, b and c with these stacks: the button, the small and the big blind.
-fn three(alloc: Global, first: u64, second: u64, third: u64) -> Result<Hand, Fail>
-    requires first { is_playable_stack 25 first ≡ true }
-    requires second { is_playable_stack 25 second ≡ true }
-    requires third { is_playable_stack 25 third ≡ true }
-    requires small { first + second + third < 2 ^ 53 }
+/// A hand of a, who has the button and the small blind, and of b, who has the big blind.
+fn two(alloc: Global, first: u64, second: u64) -> Result<Hand, Fail>
+    requires first { is_playable_stack 50 first ≡ true }
+    requires second { is_playable_stack 50 second ≡ true }
+    requires small { first + second < 2 ^ 53 }
 {
-    let [ann, bob, cat, ..] = names()?;
     let seats = [
-        player(0, ann, 1, first),
-        player(1, bob, 4, second),
-        player(2, cat, 6, third),
+        player(0, name(b'a')?, 1, first),
+        player(1, name(b'b')?, 4, second),
     ];
-    let marks = Marks {
-        button: 1,
-        small: 4,
-        big: 6,
-    };
-    let start = start_of(Vec::from_array(alloc, seats)?, 6, marks);
-    Ok(Hand::new(alloc, start).map_err(|_| "memory")?)
-}
-
-/// A hand of a and b, who have half a big blind each: the button, who is the small blind, and the big blind.
-fn two_all_in(alloc: Global) -> Result<Hand, Fail> {
-    let [ann, bob, ..] = names()?;
-    let seats = [player(0, ann, 1, 100), player(1, bob, 4, 100)];
     let marks = Marks {
         button: 1,
         small: 1,
         big: 4,
     };
-    let start = start_of(Vec::from_array(alloc, seats)?, 6, marks);
+    let start = start_of(Vec::from_array(alloc, seats)?, 6, marks, Game::Holdem);
     Ok(Hand::new(alloc, start).map_err(|_| "memory")?)
 }
 
-/// A hand of a, b and c in the seats 1, 5 and 6, with the button at the empty seat 3. Who sits in seat 4 waits.
-fn dead_button(alloc: Global) -> Result<Hand, Fail> {
-    let [ann, bob, cat, ..] = names()?;
+/// A hand of a, b and c with these stacks: the button, the small and the big blind.
+fn three(alloc: Global, game: Game, first: u64, second: u64, third: u64) -> Result<Hand, Fail>
+    requires first { is_playable_stack 50 first ≡ true }
+    requires second { is_playable_stack 50 second ≡ true }
+    requires third { is_playable_stack 50 third ≡ true }
+    requires small { first + second + third < 2 ^ 53 }
+{
     let seats = [
-        player(0, ann, 1, 1000),
-        player(1, bob, 5, 1000),
-        player(2, cat, 6, 1000),
+        player(0, name(b'a')?, 1, first),
+        player(1, name(b'b')?, 2, second),
+        player(2, name(b'c')?, 3, third),
     ];
     let marks = Marks {
-        button: 3,
-        small: 5,
-        big: 6,
+        button: 1,
+        small: 2,
+        big: 3,
     };
-    let start = start_of(Vec::from_array(alloc, seats)?, 6, marks);
+    let start = start_of(Vec::from_array(alloc, seats)?, 6, marks, game);
     Ok(Hand::new(alloc, start).map_err(|_| "memory")?)
 }
 
-/// A hand of ten players, a to j, in the seats 1 to 10, with the button at seat 8.
-fn ten(alloc: Global) -> Result<Hand, Fail> {
-    let [a, b, c, d, e, f, g, h, i, j] = names()?;
+/// A hand of ten players, a to j, in the seats 1 to 10, who have these stacks by turns, with the button at seat 8.
+fn ten(alloc: Global, first: u64, second: u64) -> Result<Hand, Fail>
+    requires first { is_playable_stack 50 first ≡ true }
+    requires second { is_playable_stack 50 second ≡ true }
+    requires small { first < 2 ^ 48 }
+    requires small_too { second < 2 ^ 48 }
+{
     let seats = [
-        player(0, a, 1, 1000),
-        player(1, b, 2, 1000),
-        player(2, c, 3, 1000),
-        player(3, d, 4, 1000),
-        player(4, e, 5, 1000),
-        player(5, f, 6, 1000),
-        player(6, g, 7, 1000),
-        player(7, h, 8, 1000),
-        player(8, i, 9, 1000),
-        player(9, j, 10, 1000),
+        player(0, name(b'a')?, 1, first),
+        player(1, name(b'b')?, 2, second),
+        player(2, name(b'c')?, 3, first),
+        player(3, name(b'd')?, 4, second),
+        player(4, name(b'e')?, 5, first),
+        player(5, name(b'f')?, 6, second),
+        player(6, name(b'g')?, 7, first),
+        player(7, name(b'h')?, 8, second),
+        player(8, name(b'i')?, 9, first),
+        player(9, name(b'j')?, 10, second),
     ];
     let marks = Marks {
         button: 8,
         small: 9,
         big: 10,
     };
-    let start = start_of(Vec::from_array(alloc, seats)?, 10, marks);
+    let start = start_of(Vec::from_array(alloc, seats)?, 10, marks, Game::Holdem);
     Ok(Hand::new(alloc, start).map_err(|_| "memory")?)
 }
 
-#[test]
-fn a_hand_is_won_by_folds(rt: HostRuntime) -> Result<(), Fail> {
-    let [ann, bob, cat, dan, ..] = names()?;
-    let mut hand = three(rt.alloc(), 1000, 1000, 1000)?;
-    assert_eq!(rt; hand.due(), Some(ann));
-    assert_eq!(rt;
-        hand.act(dan, Act::Fold),
-        Err(ActFault::No(Refusal::NotDealt))
-    );
-    assert_eq!(rt;
-        hand.act(bob, Act::Fold),
-        Err(ActFault::No(Refusal::NotTurn))
-    );
-    assert_eq!(rt; hand.act(ann, Act::Fold), Ok(Done::Folded));
-    assert_eq!(rt; hand.due(), Some(bob));
-    assert!(rt; !hand.is_over());
-    assert_eq!(rt; hand.act(bob, Act::Fold), Ok(Done::Folded));
-    assert_eq!(rt;
-        hand.act(cat, Act::Fold),
-        Err(ActFault::No(Refusal::HandOver))
-    );
-    assert!(rt; hand.is_over());
-    assert!(rt; hand.is_won_by_folds());
-    let record = hand.finish();
-    assert_eq!(rt; record.stacks.items(), [1000, 900, 1100].as_slice());
-    assert_eq!(rt; record.acts.items().len(), 2);
-    let players = record.into_players();
-    for player in players.items() {
-        let wanted = match player.player {
-            0 => 1000,
-            1 => 900,
-            _ => 1100,
+/// Takes acts one after another, or calls time where there is none, and sees that each is answered as is wanted and
+/// that what is refused changes nothing of who is due.
+fn play(
+    rt: &impl Abort,
+    label: &str,
+    hand: &mut Hand,
+    rows: &[(u8, Option<Act>, Result<Done, Refusal>)],
+) -> Result<(), Fail> {
+    for (letter, act, wanted) in rows {
+        let due = hand.due();
+        let answer = match act {
+            Some(act) => hand.act(name(*letter)?, *act),
+            None => hand.time(),
         };
-        assert_eq!(rt; player.stack, wanted);
+        assert_eq!(rt;
+            answer,
+            wanted.map_err(ActFault::No),
+            "{label}: {act:?} of {letter}"
+        );
+        if wanted.is_err() {
+            assert_eq!(rt; hand.due(), due, "{label}: {act:?} of {letter}");
+        }
     }
     Ok(())
 }
 
-#[test]
-fn nobody_is_due_where_both_are_all_in(rt: HostRuntime) -> Result<(), Fail> {
-    let [ann, ..] = names()?;
-    let mut hand = two_all_in(rt.alloc())?;
-    assert_eq!(rt; hand.due(), None);
+/// Sees that the hand is won by folds, and what its stacks are.
+fn sees_stacks(rt: &impl Abort, hand: Hand, stacks: &[u64]) {
     assert!(rt; hand.is_over());
+    assert!(rt; hand.is_won_by_folds());
+    let record = hand.finish();
+    assert_eq!(rt; record.stacks.items(), stacks);
+    assert_eq!(rt; record.into_players().items().len(), stacks.len());
+}
+
+/// Sees whether the hand is over, where it is not won by folds.
+fn sees_showdown(rt: &impl Abort, hand: &Hand, over: bool) {
+    assert_eq!(rt; hand.is_over(), over);
     assert!(rt; !hand.is_won_by_folds());
-    assert_eq!(rt;
-        hand.act(ann, Act::Fold),
-        Err(ActFault::No(Refusal::HandOver))
-    );
-    let start = hand.void();
-    for player in start.seats.items() {
-        assert_eq!(rt; player.stack, 100);
-    }
+}
+
+#[test]
+fn bets_and_refusals_between_two(rt: HostRuntime) -> Result<(), Fail> {
+    let mut hand = two(rt.alloc(), 1000, 1000)?;
+    play(
+        &rt,
+        "two players",
+        &mut hand,
+        &[
+            (b'b', Some(Act::Check), Err(Refusal::NotTurn)),
+            (b'c', Some(Act::Fold), Err(Refusal::NotDealt)),
+            (b'a', Some(Act::Check), Err(Refusal::CheckFacing)),
+            (b'a', Some(Act::Bet(400)), Err(Refusal::BetFacing)),
+            (b'a', Some(Act::Raise(300)), Err(Refusal::TooSmall)),
+            (b'a', Some(Act::Raise(1100)), Err(Refusal::PastStack)),
+            (b'a', Some(Act::Raise(425)), Err(Refusal::NotUnit)),
+            (b'a', Some(Act::Raise(400)), Ok(Done::RaisedTo(400))),
+            (b'b', Some(Act::Raise(500)), Err(Refusal::TooSmall)),
+            (b'b', Some(Act::Raise(625)), Err(Refusal::NotUnit)),
+            (b'b', Some(Act::Raise(1050)), Err(Refusal::PastStack)),
+            (b'b', Some(Act::Call), Ok(Done::Called(200))),
+            // On the flop.
+            (b'b', Some(Act::Call), Err(Refusal::NothingToCall)),
+            (b'b', Some(Act::Raise(400)), Err(Refusal::NothingToRaise)),
+            (b'b', Some(Act::Bet(100)), Err(Refusal::TooSmall)),
+            (b'b', Some(Act::Bet(0)), Err(Refusal::TooSmall)),
+            (b'b', Some(Act::Bet(650)), Err(Refusal::PastStack)),
+            (b'b', Some(Act::Bet(225)), Err(Refusal::NotUnit)),
+            (b'a', Some(Act::Check), Err(Refusal::NotTurn)),
+            (b'b', Some(Act::Check), Ok(Done::Checked)),
+            (b'a', Some(Act::Call), Err(Refusal::NothingToCall)),
+            (b'a', Some(Act::Raise(400)), Err(Refusal::NothingToRaise)),
+            (b'a', Some(Act::Bet(200)), Ok(Done::BetTo(200))),
+            (b'b', Some(Act::Check), Err(Refusal::CheckFacing)),
+            (b'b', Some(Act::Bet(400)), Err(Refusal::BetFacing)),
+            (b'b', Some(Act::Call), Ok(Done::Called(200))),
+            // On the turn.
+            (b'b', Some(Act::Bet(300)), Ok(Done::BetTo(300))),
+            (b'a', Some(Act::Raise(600)), Err(Refusal::PastStack)),
+            (b'a', Some(Act::Fold), Ok(Done::Folded)),
+            (b'b', Some(Act::Check), Err(Refusal::HandOver)),
+            (b'a', Some(Act::Check), Err(Refusal::HandOver)),
+        ],
+    )?;
+    sees_stacks(&rt, hand, &[400, 1600]);
+    Ok(())
+}
+
+#[test]
+fn short_all_ins(rt: HostRuntime) -> Result<(), Fail> {
+    // Nine of ten are left to act; the second stacks are short.
+    let mut hand = ten(rt.alloc(), 5000, 800)?;
+    play(
+        &rt,
+        "a short all-in does not reopen",
+        &mut hand,
+        &[
+            (b'a', Some(Act::Raise(600)), Ok(Done::RaisedTo(600))),
+            (b'b', Some(Act::AllIn), Ok(Done::RaisedTo(800))),
+            (b'c', Some(Act::Call), Ok(Done::Called(800))),
+            (b'd', Some(Act::Fold), Ok(Done::Folded)),
+            (b'e', Some(Act::Fold), Ok(Done::Folded)),
+            (b'f', Some(Act::Fold), Ok(Done::Folded)),
+            (b'g', Some(Act::Fold), Ok(Done::Folded)),
+            (b'h', Some(Act::Fold), Ok(Done::Folded)),
+            (b'i', Some(Act::Fold), Ok(Done::Folded)),
+            (b'j', Some(Act::Fold), Ok(Done::Folded)),
+            (b'a', Some(Act::Raise(1200)), Err(Refusal::NotReopened)),
+            (b'a', Some(Act::AllIn), Err(Refusal::NotReopened)),
+            (b'a', Some(Act::Call), Ok(Done::Called(200))),
+            // On the flop b is all-in, and a and c play on.
+            (b'c', Some(Act::Check), Err(Refusal::NotTurn)),
+            (b'a', Some(Act::Bet(200)), Ok(Done::BetTo(200))),
+            (b'c', Some(Act::Raise(300)), Err(Refusal::TooSmall)),
+            (b'c', Some(Act::Raise(400)), Ok(Done::RaisedTo(400))),
+            (b'a', Some(Act::Fold), Ok(Done::Folded)),
+            (b'c', Some(Act::Check), Err(Refusal::HandOver)),
+        ],
+    )?;
+    sees_showdown(&rt, &hand, true);
+    Ok(())
+}
+
+#[test]
+fn a_short_all_in_on_the_flop(rt: HostRuntime) -> Result<(), Fail> {
+    let mut hand = three(rt.alloc(), Game::Holdem, 5000, 5000, 500)?;
+    play(
+        &rt,
+        "on the flop",
+        &mut hand,
+        &[
+            (b'a', Some(Act::Call), Ok(Done::Called(200))),
+            (b'b', Some(Act::Call), Ok(Done::Called(100))),
+            (b'c', Some(Act::Call), Err(Refusal::NothingToCall)),
+            (b'c', Some(Act::Check), Ok(Done::Checked)),
+            (b'b', Some(Act::Bet(200)), Ok(Done::BetTo(200))),
+            (b'c', Some(Act::AllIn), Ok(Done::RaisedTo(300))),
+            (b'a', Some(Act::Call), Ok(Done::Called(300))),
+            (b'b', Some(Act::Raise(600)), Err(Refusal::NotReopened)),
+            (b'b', Some(Act::AllIn), Err(Refusal::NotReopened)),
+            (b'b', Some(Act::Call), Ok(Done::Called(100))),
+            (b'b', Some(Act::Check), Ok(Done::Checked)),
+            (b'a', Some(Act::Check), Ok(Done::Checked)),
+            (b'b', Some(Act::AllIn), Ok(Done::BetTo(4500))),
+            (b'a', Some(Act::AllIn), Ok(Done::Called(4500))),
+            (b'a', Some(Act::Check), Err(Refusal::HandOver)),
+        ],
+    )?;
+    sees_showdown(&rt, &hand, true);
     Ok(())
 }
 
 #[test]
 fn a_short_big_blind_leaves_the_level(rt: HostRuntime) -> Result<(), Fail> {
-    let [ann, ..] = names()?;
-    let mut hand = three(rt.alloc(), 1000, 1000, 50)?;
-    assert_eq!(rt; hand.due(), Some(ann));
-    assert_eq!(rt; hand.act(ann, Act::Fold), Ok(Done::Folded));
-    assert_eq!(rt; hand.due(), None);
-    assert!(rt; hand.is_over());
-    assert!(rt; !hand.is_won_by_folds());
+    let mut hand = three(rt.alloc(), Game::Holdem, 1000, 1000, 50)?;
+    play(
+        &rt,
+        "a short big blind",
+        &mut hand,
+        &[
+            (b'a', Some(Act::Call), Ok(Done::Called(200))),
+            (b'b', Some(Act::Check), Err(Refusal::CheckFacing)),
+            (b'b', Some(Act::Call), Ok(Done::Called(100))),
+            (b'b', Some(Act::Check), Ok(Done::Checked)),
+            (b'a', Some(Act::Check), Ok(Done::Checked)),
+            (b'b', Some(Act::Fold), Ok(Done::Folded)),
+            (b'a', Some(Act::Check), Err(Refusal::HandOver)),
+        ],
+    )?;
+    sees_showdown(&rt, &hand, true);
     Ok(())
 }
 
 #[test]
-fn the_small_blind_is_due_behind_a_dead_button(rt: HostRuntime) -> Result<(), Fail> {
-    let [ann, bob, cat, waiting, ..] = names()?;
-    let mut hand = dead_button(rt.alloc())?;
-    assert_eq!(rt; hand.act(ann, Act::Fold), Ok(Done::Folded));
-    assert_eq!(rt; hand.due(), Some(bob));
-    assert_eq!(rt;
-        hand.act(waiting, Act::Fold),
-        Err(ActFault::No(Refusal::NotDealt))
-    );
-    assert_eq!(rt;
-        hand.act(cat, Act::Fold),
-        Err(ActFault::No(Refusal::NotTurn))
-    );
-    assert_eq!(rt; hand.act(bob, Act::Fold), Ok(Done::Folded));
-    assert!(rt; hand.is_won_by_folds());
+fn a_small_bet_on_the_flop(rt: HostRuntime) -> Result<(), Fail> {
+    let mut hand = three(rt.alloc(), Game::Holdem, 300, 1000, 1000)?;
+    play(
+        &rt,
+        "a bet of 100",
+        &mut hand,
+        &[
+            (b'a', Some(Act::Call), Ok(Done::Called(200))),
+            (b'b', Some(Act::Call), Ok(Done::Called(100))),
+            (b'c', Some(Act::Check), Ok(Done::Checked)),
+            (b'b', Some(Act::Check), Ok(Done::Checked)),
+            (b'c', Some(Act::Bet(100)), Err(Refusal::TooSmall)),
+            (b'c', Some(Act::Check), Ok(Done::Checked)),
+            (b'a', Some(Act::Bet(100)), Ok(Done::BetTo(100))),
+        ],
+    )?;
+    sees_showdown(&rt, &hand, false);
     Ok(())
 }
 
 #[test]
-fn ten_players_fold_to_the_big_blind(rt: HostRuntime) -> Result<(), Fail> {
-    let mut hand = ten(rt.alloc())?;
+fn the_pot_bounds_a_raise_in_omaha(rt: HostRuntime) -> Result<(), Fail> {
+    let mut hand = three(rt.alloc(), Game::Omaha, 5000, 5000, 5000)?;
+    play(
+        &rt,
+        "omaha",
+        &mut hand,
+        &[
+            (b'a', Some(Act::Raise(800)), Err(Refusal::PastPot)),
+            (b'a', Some(Act::AllIn), Err(Refusal::PastPot)),
+            (b'a', Some(Act::Raise(700)), Ok(Done::RaisedTo(700))),
+            (b'b', Some(Act::Fold), Ok(Done::Folded)),
+            (b'c', Some(Act::Call), Ok(Done::Called(500))),
+            (b'c', Some(Act::Bet(1550)), Err(Refusal::PastPot)),
+            (b'c', Some(Act::Bet(1500)), Ok(Done::BetTo(1500))),
+        ],
+    )?;
+    Ok(())
+}
+
+#[test]
+fn a_short_blind_counts_in_full(rt: HostRuntime) -> Result<(), Fail> {
+    let mut hand = three(rt.alloc(), Game::Hilo, 5000, 5000, 50)?;
+    play(
+        &rt,
+        "hi-lo",
+        &mut hand,
+        &[
+            (b'a', Some(Act::Raise(750)), Err(Refusal::PastPot)),
+            (b'a', Some(Act::Raise(700)), Ok(Done::RaisedTo(700))),
+            (b'b', Some(Act::Call), Ok(Done::Called(600))),
+            (b'b', Some(Act::Bet(1500)), Err(Refusal::PastPot)),
+            (b'b', Some(Act::Bet(1450)), Ok(Done::BetTo(1450))),
+        ],
+    )?;
+    Ok(())
+}
+
+#[test]
+fn time_is_called(rt: HostRuntime) -> Result<(), Fail> {
+    let mut hand = three(rt.alloc(), Game::Holdem, 1000, 1000, 1000)?;
+    play(
+        &rt,
+        "time",
+        &mut hand,
+        &[
+            (b'a', None, Ok(Done::Folded)),
+            (b'b', Some(Act::Call), Ok(Done::Called(100))),
+            (b'c', None, Ok(Done::Checked)),
+            (b'b', None, Ok(Done::Checked)),
+            (b'c', Some(Act::Bet(200)), Ok(Done::BetTo(200))),
+            (b'b', None, Ok(Done::Folded)),
+            (b'c', None, Err(Refusal::HandOver)),
+        ],
+    )?;
     let copy = hand.start().copy(rt.alloc())?;
-    for player in copy.seats.items() {
-        if player.seat < 10 {
-            assert_eq!(rt; hand.due(), Some(player.name));
-            assert_eq!(rt; hand.act(player.name, Act::Fold), Ok(Done::Folded));
-        }
+    assert_eq!(rt; copy.seats.items().len(), 3);
+    sees_stacks(&rt, hand, &[1000, 800, 1200]);
+    Ok(())
+}
+
+#[test]
+fn nobody_is_due_where_both_are_all_in(rt: HostRuntime) -> Result<(), Fail> {
+    let mut hand = two(rt.alloc(), 100, 100)?;
+    assert_eq!(rt; hand.due(), None);
+    play(
+        &rt,
+        "both are all-in",
+        &mut hand,
+        &[(b'a', Some(Act::Fold), Err(Refusal::HandOver))],
+    )?;
+    sees_showdown(&rt, &hand, true);
+    let start = hand.void();
+    for player in start.seats.items() {
+        assert_eq!(rt; player.stack, 100);
     }
-    assert!(rt; hand.is_over());
-    assert!(rt; hand.is_won_by_folds());
-    let record = hand.finish();
-    let stacks = [1000, 1000, 1000, 1000, 1000, 1000, 1000, 1000, 900, 1100];
-    assert_eq!(rt; record.stacks.items(), stacks.as_slice());
     Ok(())
 }

@@ -22,7 +22,7 @@ invariant_of-self-2 c =
     let more = streets-more c.self.inside.start c.self.inside.acts act c.args.seat found in
     let free : refusal_in_seat hand c.args.act c.args.seat ≡ None = rw (← at.round) c.in_ok-done.ensures.ok in
     let refused : refusal_of_act hand c.args.name c.args.act ≡ None =
-        refused-in_seat hand c.args.name c.args.act c.args.seat found ∙ free in
+    refused-in_seat hand c.args.name c.args.act c.args.seat found ∙ free in
     record {
       at = rw (c.in_ok-push.ensures.ok, more) (rw acted.left at dealt);
       ready = c.deal_on-self-inside.ensures.ready;

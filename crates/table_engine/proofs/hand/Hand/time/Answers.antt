@@ -35,6 +35,6 @@ returns-clause-done c =
     let due : due_in_hand c.args.self.now ≡ Some c.in-Some.seat = sym c.in-Some.ensures in
     let named : name_in_seat c.args.self.now.start c.in-Some.seat ≡ Some c.in-Some-name_in_seat.name = rw (← c.self.view_is) (sym c.in-Some-name_in_seat.ensures) in
     let found : seat_of_name c.args.self.now.start c.in-Some-name_in_seat.name ≡ Some c.in-Some.seat =
-        seat-of_named c.args.self.now.start c.in-Some.seat c.in-Some-name_in_seat.name
-        (rw (← c.self.view_is) c.self.invariant.lawful.names) named in
+    seat-of_named c.args.self.now.start c.in-Some.seat c.in-Some-name_in_seat.name
+    (rw (← c.self.view_is) c.self.invariant.lawful.names) named in
     rw (time_act-is c.args.self.now c.in-Some.seat c.in-Some-name_in_seat.name due named, ← c.act_in_time-act.ensures, done-in_seat c.args.self.now c.in-Some-name_in_seat.name c.act_in_time-act.result c.in-Some.seat found) c.act_in_seat.ensures.done
