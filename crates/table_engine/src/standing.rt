@@ -158,11 +158,12 @@ impl Standing {
     {
         let bettors = all_seated(start);
         let counted = all_lacking(start, &players_by_seat(start));
+        let opening = start.big;
         Standing {
             round: Round::start(
                 &bettors,
                 start.marks.big,
-                start.big,
+                opening,
                 start.big,
                 start.unit,
                 counted,
