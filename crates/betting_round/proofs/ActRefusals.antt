@@ -17,13 +17,16 @@ use Rattle.betting_round.specs.Running.{IsStreetKept, amount_of}
 use Rattle.betting_round.proofs.Steps.{sum_at}
 
 -- An act of whom it is not the turn is refused so.
-pub refused_turn : (limits : Limits) (street : Street) (seat : ℕ) (act : Act) (refusal : Refusal) → first_that_holds (turn_checks street seat) ≡ Some refusal → act_refusal limits street seat act ≡ Some refusal
+pub refused_turn : (limits : Limits) (street : Street) (seat : ℕ) (act : Act) (refusal : Refusal)
+    → first_that_holds (turn_checks street seat) ≡ Some refusal → act_refusal limits street seat act ≡ Some refusal
 unfolding act_refusal
 refused_turn limits street seat act refusal turn =
-    first_that_holds-sooner (turn_checks street seat) (act_checks limits street.unit (facing_in street seat) act) refusal turn
+    first_that_holds-sooner (turn_checks street seat)
+    (act_checks limits street.unit (facing_in street seat) act) refusal turn
 
 -- An act of whom it is the turn is answered by the checks of the act.
-pub refusal_act : (limits : Limits) (street : Street) (seat : ℕ) (act : Act) → first_that_holds (turn_checks street seat) ≡ None
+pub refusal_act : (limits : Limits) (street : Street) (seat : ℕ) (act : Act)
+    → first_that_holds (turn_checks street seat) ≡ None
     → act_refusal limits street seat act ≡ first_that_holds (act_checks limits street.unit (facing_in street seat) act)
 unfolding act_refusal
 refusal_act limits street seat act turn =
@@ -50,22 +53,29 @@ few_facing street seat low kept = by_slot (player_at street.players seat) refl
         record { level = kept.level; full = kept.full; pot = omega arith; stack = rw there (omega arith) }
 
 -- A player who has the chips for an act by what he faces has them.
-pub held_facing : (street : Street) (seat : ℕ) (act : Act) → 1 ≤ seat → amount street.level (facing_in street seat).put (facing_in street seat).behind act ≤ (facing_in street seat).behind
+pub held_facing : (street : Street) (seat : ℕ) (act : Act) → 1 ≤ seat
+    → amount street.level (facing_in street seat).put (facing_in street seat).behind act ≤
+    (facing_in street seat).behind
     → IfSome (player_at street.players seat) (λ player. amount_of street.level player act ≤ player.bettor.behind)
 held_facing street seat act low held = by_slot (player_at street.players seat) refl
   where
-    by_slot : (slot : Option Player) → player_at street.players seat ≡ slot → IfSome slot (λ player. amount_of street.level player act ≤ player.bettor.behind)
+    by_slot : (slot : Option Player) → player_at street.players seat ≡ slot
+        → IfSome slot (λ player. amount_of street.level player act ≤ player.bettor.behind)
     by_slot None none = tt
     by_slot (Some player) some =
         let there = player_in-at street.players seat low ∙ some in
         rw there at held
 
 -- An act that the checks of the act refuse is refused so, where it is this seat's turn.
-pub refused_act : (limits : Limits) (street : Street) (seat : ℕ) (act : Act) (refusal : Refusal) → first_that_holds (turn_checks street seat) ≡ None
-    → first_that_holds (act_checks limits street.unit (facing_in street seat) act) ≡ Some refusal → act_refusal limits street seat act ≡ Some refusal
+pub refused_act : (limits : Limits) (street : Street) (seat : ℕ) (act : Act) (refusal : Refusal)
+    → first_that_holds (turn_checks street seat) ≡ None
+    → first_that_holds (act_checks limits street.unit (facing_in street seat) act) ≡ Some refusal
+    → act_refusal limits street seat act ≡ Some refusal
 refused_act limits street seat act refusal turn refused = refusal_act limits street seat act turn ∙ refused
 
 -- An act that no check refuses is not refused.
-pub accepted_act : (limits : Limits) (street : Street) (seat : ℕ) (act : Act) → first_that_holds (turn_checks street seat) ≡ None
-    → first_that_holds (act_checks limits street.unit (facing_in street seat) act) ≡ None → act_refusal limits street seat act ≡ None
+pub accepted_act : (limits : Limits) (street : Street) (seat : ℕ) (act : Act)
+    → first_that_holds (turn_checks street seat) ≡ None
+    → first_that_holds (act_checks limits street.unit (facing_in street seat) act) ≡ None
+    → act_refusal limits street seat act ≡ None
 accepted_act limits street seat act turn accepted = refusal_act limits street seat act turn ∙ accepted

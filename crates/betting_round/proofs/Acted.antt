@@ -54,7 +54,8 @@ who-acts limits street seat act accepted =
     let his : may_be_due street.level now ≡ true = rw there.1 at may in
     let parts = and_parts (can_act now) (not now.acted || nat_lt now.bettor.put street.level) his in
     let can = and_parts now.bettor.live (nat_lt 0 now.bettor.behind) parts.0 in
-    let none = (none_holds-both (turn_checks street seat) (act_checks limits street.unit (facing_in street seat) act) accepted).1 in
+    let none = (none_holds-both (turn_checks street seat)
+    (act_checks limits street.unit (facing_in street seat) act) accepted).1 in
     let slot : player_in street.players seat ≡ Some now = player_in-at street.players seat low ∙ there.1 in
     let covered = accepted-covered limits street seat act accepted in
     let more : 0 < now.bettor.behind = grind (arith, nat_tests) in (
@@ -81,7 +82,8 @@ less-fold behind true true is = omega arith
 less-fold behind true false is = omega arith
 less-fold behind false acted is = absurd cc
 
-less-check : (behind put level : ℕ) (live acted : Bool) → nat_lt put level ≡ false → (not acted || nat_lt put level) ≡ true
+less-check : (behind put level : ℕ) (live acted : Bool) → nat_lt put level ≡ false
+    → (not acted || nat_lt put level) ≡ true
     → behind - 0 + cond (live && not false) 1 0 + cond true 0 1 < behind + cond live 1 0 + cond acted 0 1
 less-check behind put level live true met turn = absurd cc
 less-check behind put level true false met turn = omega arith
@@ -122,25 +124,31 @@ raise-above : (limits : Limits) (unit : ℕ) (facing : Facing) (n : ℕ)
     → limits.least facing ≡ facing.level + facing.full → 0 < facing.full → facing.level < n
 raise-above limits unit facing n none least full =
     let all = none_holds (act_checks limits unit facing (Raise n)) none in
-    let large : not (nat_lt n (limits.least facing) && not (n == facing.put + facing.behind && nat_lt facing.level n)) ≡ true =
+    let large : not (nat_lt n (limits.least facing) && not (n == facing.put + facing.behind && nat_lt facing.level n))
+    ≡ true =
     (and_parts _ _ (and_parts _ _ all).1).0 in
     elim (cases_Bool (n == facing.put + facing.behind && nat_lt facing.level n)) [
-      | inl is ↦ let above = (and_parts (n == facing.put + facing.behind) (nat_lt facing.level n) is).1 in grind (arith, nat_tests)
+      | inl is ↦ let above = (and_parts (n == facing.put + facing.behind) (nat_lt facing.level n) is).1 in
+          grind (arith, nat_tests)
       | inr other ↦
-          let above = not-small n (limits.least facing) (n == facing.put + facing.behind && nat_lt facing.level n) large other in
+          let above = not-small n (limits.least facing)
+          (n == facing.put + facing.behind && nat_lt facing.level n) large other in
           omega arith
     ]
 
 -- A call of a player who has put in less than the bet level puts something in.
-call-above : (put level behind : ℕ) → not (put == level) ≡ true → put ≤ level → 0 < behind → 0 < min behind (level - put)
+call-above : (put level behind : ℕ) → not (put == level) ≡ true → put ≤ level → 0 < behind
+    → 0 < min behind (level - put)
 call-above put level behind short met more =
     let differs = not-true (put == level) short in grind (arith, nat_tests)
 
 -- Who acts can do less afterwards.
-pub still-falls : (limits : Limits) (street : Street) (seat : ℕ) (act : Act) (now : Player) → Acts limits street seat act now
+pub still-falls : (limits : Limits) (street : Street) (seat : ℕ) (act : Act) (now : Player)
+    → Acts limits street seat act now
     → limits.least (facing_of street now) ≡ street.level + street.full → 0 < street.full → now.bettor.put ≤ street.level
     → still (moved (amount_of street.level now act) now act) < still now
-still-falls limits street seat Fold now acts least full met = less-fold now.bettor.behind now.bettor.live now.acted acts.live
+still-falls limits street seat Fold now acts least full met =
+    less-fold now.bettor.behind now.bettor.live now.acted acts.live
 still-falls limits street seat Check now acts least full met =
     let all = none_holds (act_checks limits street.unit (facing_of street now) Check) acts.checked in
     let free = not-true (nat_lt now.bettor.put street.level) (and_parts _ _ all).0 in
@@ -148,7 +156,8 @@ still-falls limits street seat Check now acts least full met =
 still-falls limits street seat Call now acts least full met =
     let all = none_holds (act_checks limits street.unit (facing_of street now) Call) acts.checked in
     let some = call-above now.bettor.put street.level now.bettor.behind (and_parts _ _ all).0 met acts.more in
-    less-chips now.bettor.behind (min now.bettor.behind (street.level - now.bettor.put)) now.bettor.live now.acted some acts.covered
+    less-chips now.bettor.behind (min now.bettor.behind
+    (street.level - now.bettor.put)) now.bettor.live now.acted some acts.covered
 still-falls limits street seat AllIn now acts least full met =
     less-chips now.bettor.behind now.bettor.behind now.bettor.live now.acted acts.more acts.covered
 still-falls limits street seat (Bet n) now acts least full met =

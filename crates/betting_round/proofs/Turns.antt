@@ -34,7 +34,8 @@ find-passes test (other ∷ seats) seat found =
     ]
 
 -- Who may be due can act.
-can_act-due : (level : ℕ) (slot : Option Player) → is_there (may_be_due level) slot ≡ true → is_there can_act slot ≡ true
+can_act-due : (level : ℕ) (slot : Option Player) → is_there (may_be_due level) slot ≡ true
+    → is_there can_act slot ≡ true
 can_act-due level None due = absurd cc
 can_act-due level (Some player) due = elim (cases_Bool (can_act player)) [ inl is ↦ is | inr cannot ↦ absurd cc ]
 
@@ -44,9 +45,13 @@ found-open true found seat due = absurd cc
 found-open false found seat due = due
 
 -- Who is due is the first that may be, clockwise.
-due-found : (street : Street) (seat : ℕ) → due_seat street ≡ Some seat → find (λ s. is_there (may_be_due street.level) (player_at street.players s)) (clockwise_after 10 street.after) ≡ Some seat
+due-found : (street : Street) (seat : ℕ) → due_seat street ≡ Some seat
+    → find (λ s. is_there (may_be_due street.level) (player_at street.players s)) (clockwise_after 10 street.after)
+    ≡ Some seat
 unfolding due_seat
-due-found street seat due = found-open (is_closed street.players) (find (λ s. is_there (may_be_due street.level) (player_at street.players s)) (clockwise_after 10 street.after)) seat due
+due-found street seat due = found-open (is_closed street.players)
+    (find (λ s. is_there (may_be_due street.level) (player_at street.players s))
+    (clockwise_after 10 street.after)) seat due
 
 -- The player who is due may be.
 pub due-may : (street : Street) (seat : ℕ) → due_seat street ≡ Some seat
@@ -56,12 +61,14 @@ due-may street seat due =
     seat (due-found street seat due)
 
 -- The player who is due can act.
-pub due-can_act : (street : Street) (seat : ℕ) → due_seat street ≡ Some seat → is_there can_act (player_at street.players seat) ≡ true
+pub due-can_act : (street : Street) (seat : ℕ) → due_seat street ≡ Some seat
+    → is_there can_act (player_at street.players seat) ≡ true
 due-can_act street seat due =
     can_act-due street.level (player_at street.players seat) (due-may street seat due)
 
 -- What is found on a walk clockwise is a seat from 1 on.
-found-low : (test : ℕ → Bool) (seats steps from seat : ℕ) → find test (walk (seat_after seats) steps from) ≡ Some seat → 1 ≤ seat
+found-low : (test : ℕ → Bool) (seats steps from seat : ℕ) → find test (walk (seat_after seats) steps from) ≡ Some seat
+    → 1 ≤ seat
 found-low test seats zero from seat found = absurd cc
 found-low test seats (suc steps) from seat found =
     elim (cases_Bool (test (seat_after seats from))) [
@@ -74,14 +81,17 @@ found-low test seats (suc steps) from seat found =
 
 -- Who is due sits in a seat from 1 on.
 pub due-low : (street : Street) (seat : ℕ) → due_seat street ≡ Some seat → 1 ≤ seat
-due-low street seat due = found-low (λ s. is_there (may_be_due street.level) (player_at street.players s)) 10 10 street.after seat (due-found street seat due)
+due-low street seat due = found-low (λ s. is_there (may_be_due street.level)
+    (player_at street.players s)) 10 10 street.after seat (due-found street seat due)
 
 -- Where it is a seat's turn no check of the turn holds.
-pub turn-none : (street : Street) (seat : ℕ) → due_seat street ≡ Some seat → first_that_holds (turn_checks street seat) ≡ None
+pub turn-none : (street : Street) (seat : ℕ) → due_seat street ≡ Some seat
+    → first_that_holds (turn_checks street seat) ≡ None
 turn-none street seat due = let same : (seat == seat) ≡ true = grind (arith, nat_tests) in rw (due, same)
 
 -- Where no check of the turn holds it is the seat's turn.
-pub turn-due : (street : Street) (seat : ℕ) → first_that_holds (turn_checks street seat) ≡ None → due_seat street ≡ Some seat
+pub turn-due : (street : Street) (seat : ℕ) → first_that_holds (turn_checks street seat) ≡ None
+    → due_seat street ≡ Some seat
 turn-due street seat none = by_due (due_seat street) refl
   where
     by_due : (due : Option ℕ) → due_seat street ≡ due → due_seat street ≡ Some seat
@@ -89,72 +99,96 @@ turn-due street seat none = by_due (due_seat street) refl
     by_due (Some due) is =
         elim (cases_eq due seat) [
           | inl same ↦ is ∙ ap (λ (s : ℕ). Some s) same
-          | inr other ↦ let differs : (due == seat) ≡ false = grind (arith, nat_tests) in let held = rw (is, differs) at none in absurd cc
+          | inr other ↦ let differs : (due == seat) ≡ false = grind (arith, nat_tests) in
+              let held = rw (is, differs) at none in absurd cc
         ]
 
 -- The player who is due may fold.
-pub due-may_fold : (limits : Limits) (street : Street) (seat : ℕ) → due_seat street ≡ Some seat → act_refusal limits street seat Fold ≡ None
+pub due-may_fold : (limits : Limits) (street : Street) (seat : ℕ) → due_seat street ≡ Some seat
+    → act_refusal limits street seat Fold ≡ None
 unfolding act_refusal
 due-may_fold limits street seat due = turn-none street seat due
 
 -- The player who is due may check where he has put in no less than the bet level.
-pub due-may_check : (limits : Limits) (street : Street) (seat : ℕ) → due_seat street ≡ Some seat → nat_lt (facing_in street seat).put (facing_in street seat).level ≡ false → act_refusal limits street seat Check ≡ None
+pub due-may_check : (limits : Limits) (street : Street) (seat : ℕ) → due_seat street ≡ Some seat
+    → nat_lt (facing_in street seat).put (facing_in street seat).level ≡ false
+    → act_refusal limits street seat Check ≡ None
 unfolding act_refusal
 due-may_check limits street seat due met =
-    first_that_holds-later (turn_checks street seat) (act_checks limits street.unit (facing_in street seat) Check) (turn-none street seat due) ∙ rw met
+    first_that_holds-later (turn_checks street seat) (act_checks limits street.unit (facing_in street seat) Check)
+    (turn-none street seat due) ∙ rw met
 
 -- An act that is not refused is of the player who is due.
-pub accepted-due : (limits : Limits) (street : Street) (seat : ℕ) (act : Act) → act_refusal limits street seat act ≡ None → due_seat street ≡ Some seat
+pub accepted-due : (limits : Limits) (street : Street) (seat : ℕ) (act : Act)
+    → act_refusal limits street seat act ≡ None → due_seat street ≡ Some seat
 unfolding act_refusal
 accepted-due limits street seat act accepted =
-    turn-due street seat (none_holds-both (turn_checks street seat) (act_checks limits street.unit (facing_in street seat) act) accepted).0
+    turn-due street seat (none_holds-both (turn_checks street seat)
+    (act_checks limits street.unit (facing_in street seat) act) accepted).0
 
 -- Where none of three checks and the rest holds, the third does not.
-third-fails : (one two three : Bool) (first second third : Refusal) (rest : Option Refusal) → cond one (Some first) (cond two (Some second) (cond three (Some third) rest)) ≡ None → three ≡ false
+third-fails : (one two three : Bool) (first second third : Refusal) (rest : Option Refusal)
+    → cond one (Some first) (cond two (Some second) (cond three (Some third) rest)) ≡ None → three ≡ false
 third-fails true two three first second third rest none = absurd cc
 third-fails false true three first second third rest none = absurd cc
 third-fails false false true first second third rest none = absurd cc
 third-fails false false false first second third rest none = refl
 
 -- A player has the chips for an act that no check of the act refuses.
-checked-covered : (limits : Limits) (unit : ℕ) (facing : Facing) (act : Act) → first_that_holds (act_checks limits unit facing act) ≡ None → amount facing.level facing.put facing.behind act ≤ facing.behind
+checked-covered : (limits : Limits) (unit : ℕ) (facing : Facing) (act : Act)
+    → first_that_holds (act_checks limits unit facing act) ≡ None
+    → amount facing.level facing.put facing.behind act ≤ facing.behind
 checked-covered limits unit facing Fold none = omega arith
 checked-covered limits unit facing Check none = omega arith
 checked-covered limits unit facing Call none = omega arith
 checked-covered limits unit facing AllIn none = omega arith
 checked-covered limits unit facing (Bet n) none =
     let within =
-    third-fails (nat_lt 0 facing.level) (nat_lt n (limits.least facing) && not (n == facing.behind)) (nat_lt facing.behind n) BetFacing TooSmall PastStack
+    third-fails (nat_lt 0 facing.level) (nat_lt n (limits.least facing) && not (n == facing.behind))
+    (nat_lt facing.behind n) BetFacing TooSmall PastStack
     (first_that_holds ((PastPot, nat_lt (limits.most facing) n) ∷ (NotUnit, not (n % unit == 0)) ∷ [])) none in
     ltb-false facing.behind n within
 checked-covered limits unit facing (Raise n) none =
     let within =
-    third-fails (facing.level == 0) (nat_lt n (limits.least facing) && not (n == facing.put + facing.behind && nat_lt facing.level n)) (nat_lt (facing.put + facing.behind) n) NothingToRaise TooSmall PastStack
-    (first_that_holds ((PastPot, nat_lt (limits.most facing) n) ∷ (NotReopened, not (limits.reopened facing)) ∷ (NotUnit, not (n % unit == 0)) ∷ [])) none in
+    third-fails (facing.level == 0) (nat_lt n (limits.least facing) && not
+    (n == facing.put + facing.behind && nat_lt facing.level n))
+    (nat_lt (facing.put + facing.behind) n) NothingToRaise TooSmall PastStack
+    (first_that_holds ((PastPot, nat_lt (limits.most facing) n) ∷ (NotReopened, not (limits.reopened facing)) ∷
+    (NotUnit, not (n % unit == 0)) ∷ [])) none in
     let most = ltb-false (facing.put + facing.behind) n within in omega arith
 
 -- A player has the chips for an act that is not refused.
-pub accepted-covered : (limits : Limits) (street : Street) (seat : ℕ) (act : Act) → act_refusal limits street seat act ≡ None
+pub accepted-covered : (limits : Limits) (street : Street) (seat : ℕ) (act : Act)
+    → act_refusal limits street seat act ≡ None
     → IfSome (player_at street.players seat) (λ player. amount_of street.level player act ≤ player.bettor.behind)
 unfolding act_refusal
 accepted-covered limits street seat act accepted =
-    let none = (none_holds-both (turn_checks street seat) (act_checks limits street.unit (facing_in street seat) act) accepted).1 in
-    held_facing street seat act (due-low street seat (accepted-due limits street seat act accepted)) (checked-covered limits street.unit (facing_in street seat) act none)
+    let none = (none_holds-both (turn_checks street seat)
+    (act_checks limits street.unit (facing_in street seat) act) accepted).1 in
+    held_facing street seat act (due-low street seat (accepted-due limits street seat act accepted))
+    (checked-covered limits street.unit (facing_in street seat) act none)
 
 -- What a player has put in only grows.
-put_by_acts-grows : (start : StreetStart) (entry : SeatAct) (acts : List SeatAct) (bettor : Bettor) → put_by_acts start acts bettor ≤ put_by_acts start (entry ∷ acts) bettor
+put_by_acts-grows : (start : StreetStart) (entry : SeatAct) (acts : List SeatAct) (bettor : Bettor)
+    → put_by_acts start acts bettor ≤ put_by_acts start (entry ∷ acts) bettor
 unfolding put_by_acts
-put_by_acts-grows start entry acts bettor = elim (cases_Bool (entry.seat == bettor.seat)) [ inl is ↦ rw is (omega arith) | inr other ↦ rw other (omega arith) ]
+put_by_acts-grows start entry acts bettor = elim (cases_Bool (entry.seat == bettor.seat)) [
+  | inl is ↦
+      rw is (omega arith)
+  | inr other ↦ rw other (omega arith)
+]
 
 -- Where each number is no less, the greatest is no less.
-greatest-grows : {A : Type 0} (least : ℕ) (one other : A → ℕ) (slots : List (Option A)) → ((item : A) → one item ≤ other item) → greatest least one slots ≤ greatest least other slots
+greatest-grows : {A : Type 0} (least : ℕ) (one other : A → ℕ) (slots : List (Option A))
+    → ((item : A) → one item ≤ other item) → greatest least one slots ≤ greatest least other slots
 greatest-grows least one other [] less = omega arith
 greatest-grows least one other (None ∷ slots) less = greatest-grows least one other slots less
 greatest-grows least one other (Some item ∷ slots) less =
     let here = less item in let later = greatest-grows least one other slots less in omega arith
 
 -- The bet level only grows.
-pub level-grows : (start : StreetStart) (entry : SeatAct) (acts : List SeatAct) → level start acts ≤ level start (entry ∷ acts)
+pub level-grows : (start : StreetStart) (entry : SeatAct) (acts : List SeatAct)
+    → level start acts ≤ level start (entry ∷ acts)
 level-grows start entry acts =
     greatest-grows start.opening (put_on_street start acts) (put_on_street start (entry ∷ acts)) start.bettors
     (λ bettor. let grows = put_by_acts-grows start entry acts bettor in omega arith)
@@ -166,13 +200,16 @@ slot-there test None passes = absurd cc
 slot-there test (Some player) passes = (player, refl)
 
 -- An act of a player who has the chips for it keeps the chips of the street.
-chips-placed : (street : Street) (seat : ℕ) (player : Player) (act : Act) (put_in : ℕ) → player_at street.players seat ≡ Some player → put_in ≤ player.bettor.behind
+chips-placed : (street : Street) (seat : ℕ) (player : Player) (act : Act) (put_in : ℕ)
+    → player_at street.players seat ≡ Some player → put_in ≤ player.bettor.behind
     → chips_on (placed street seat player act put_in) ≡ chips_on street
 chips-placed street seat player act put_in there held =
-    let set = sum_set (seat - 1) (λ (p : Player). chips_of p.bettor) player (moved put_in player act) street.players there in omega arith
+    let set = sum_set (seat - 1) (λ (p : Player). chips_of p.bettor) player
+    (moved put_in player act) street.players there in omega arith
 
 -- An act that is not refused keeps the chips of the street.
-pub chips-kept : (limits : Limits) (start : StreetStart) (acts : List SeatAct) (entry : SeatAct) → IsStreetStart start → act_refusal limits (street_after start acts) entry.seat entry.act ≡ None
+pub chips-kept : (limits : Limits) (start : StreetStart) (acts : List SeatAct) (entry : SeatAct) → IsStreetStart start
+    → act_refusal limits (street_after start acts) entry.seat entry.act ≡ None
     → chips_on (street_after start (entry ∷ acts)) ≡ chips_on (street_after start acts)
 chips-kept limits start acts entry right accepted =
     let street = street_after start acts in
@@ -181,5 +218,8 @@ chips-kept limits start acts entry right accepted =
     let there = slot-there can_act (player_at street.players entry.seat) (due-can_act street entry.seat due) in
     let covered = rw there.1 at (accepted-covered limits street entry.seat entry.act accepted) in
     let step = street_stepped start acts entry there.0 right.seated low there.1 in
-    let placed_is = ap (λ slot. chips_on (option_map_or (λ player. placed street entry.seat player entry.act (amount_of street.level player entry.act)) slot street)) there.1 in
-    ap chips_on step ∙ placed_is ∙ chips-placed street entry.seat there.0 entry.act (amount_of street.level there.0 entry.act) there.1 covered
+    let placed_is = ap (λ slot. chips_on (option_map_or
+    (λ player. placed street entry.seat player entry.act
+    (amount_of street.level player entry.act)) slot street)) there.1 in
+    ap chips_on step ∙ placed_is ∙ chips-placed street entry.seat there.0 entry.act
+    (amount_of street.level there.0 entry.act) there.1 covered

@@ -1,9 +1,9 @@
 -- The players of a start by their seats, and numbers of them in the one order and in the other.
-use Rattle.std.proofs.Common.{◌≡◌, ◌≢◌, ◌∙◌, ℕ, zero, suc, ◌+◌, ◌-◌, ◌≤◌, ◌<◌, Bool, true, false, cond, List, [], ◌∷◌, map, Some, None, refl, ap, sym, inl, inr, arith}
+use Rattle.std.proofs.Common.{◌≡◌, ◌∙◌, ℕ, zero, suc, ◌+◌, ◌-◌, ◌≤◌, ◌<◌, true, false, cond, List, [], ◌∷◌, map, Some, None, refl, ap, sym, inl, inr, arith}
 use Rattle.std.specs.Prelude.{Option, ◌==◌, ◌&&◌, find, nat_le, nat_lt, slice_index_or, sum_by}
 use Rattle.std.specs.List.{list_all}
 use Rattle.std.specs.Option.{is_some, option_map_or}
-use Rattle.std.proofs.lemmas.Bool.{and_from, and_parts, cases_Bool, cases_lt, eqb-true}
+use Rattle.std.proofs.lemmas.Bool.{and_parts, cases_Bool, cases_lt, eqb-true}
 use Rattle.std.proofs.lemmas.Bool.Decides.{nat_tests}
 use Rattle.std.proofs.lemmas.List.Sums.{sum_by-cons}
 use Rattle.level_plan.specs.Items.{is_between}
@@ -33,19 +33,23 @@ AreFound all (player ∷ players) = (at_seat all player.seat ≡ Some player) ×
 
 -- One more player in front, who sits in a lower seat, changes nothing of who is found.
 found-more : (first : StartSeat) (all rest : List StartSeat)
-    → list_all (λ seat. nat_lt first.seat seat) (map (λ (player : StartSeat). player.seat) rest) ≡ true → AreFound all rest
+    → list_all (λ seat. nat_lt first.seat seat) (map (λ (player : StartSeat). player.seat) rest) ≡ true
+    → AreFound all rest
     → AreFound (first ∷ all) rest
 found-more first all [] below found = tt
 found-more first all (player ∷ rest) below found =
-    let parts = and_parts (nat_lt first.seat player.seat) (list_all (λ seat. nat_lt first.seat seat) (map (λ (p : StartSeat). p.seat) rest)) below in
+    let parts = and_parts (nat_lt first.seat player.seat)
+    (list_all (λ seat. nat_lt first.seat seat) (map (λ (p : StartSeat). p.seat) rest)) below in
     let other : (first.seat == player.seat) ≡ false = grind (arith, nat_tests) in
     (rw other found.0, found-more first all rest parts.1 found.1)
 
 -- Players in rising seat are found at their seats.
-found-each : (players : List StartSeat) → are_rising (map (λ (player : StartSeat). player.seat) players) ≡ true → AreFound players players
+found-each : (players : List StartSeat) → are_rising (map (λ (player : StartSeat). player.seat) players) ≡ true
+    → AreFound players players
 found-each [] rising = tt
 found-each (player ∷ players) rising =
-    let parts = and_parts (list_all (λ seat. nat_lt player.seat seat) (map (λ (p : StartSeat). p.seat) players)) (are_rising (map (λ (p : StartSeat). p.seat) players)) rising in
+    let parts = and_parts (list_all (λ seat. nat_lt player.seat seat) (map (λ (p : StartSeat). p.seat) players))
+    (are_rising (map (λ (p : StartSeat). p.seat) players)) rising in
     let same : (player.seat == player.seat) ≡ true = grind (arith, nat_tests) in
     (rw same, found-more player players players parts.0 (found-each players parts.1))
 
@@ -55,58 +59,76 @@ found-all start lawful = found-each start.seats lawful.rising
 
 -- Nobody in a higher seat sits in this one.
 nobody-higher : (seat : ℕ) (players : List StartSeat)
-    → list_all (λ other. nat_lt seat other) (map (λ (player : StartSeat). player.seat) players) ≡ true → at_seat players seat ≡ None
+    → list_all (λ other. nat_lt seat other) (map (λ (player : StartSeat). player.seat) players) ≡ true
+    → at_seat players seat ≡ None
 nobody-higher seat [] higher = refl
 nobody-higher seat (player ∷ players) higher =
-    let parts = and_parts (nat_lt seat player.seat) (list_all (λ other. nat_lt seat other) (map (λ (p : StartSeat). p.seat) players)) higher in
+    let parts = and_parts (nat_lt seat player.seat)
+    (list_all (λ other. nat_lt seat other) (map (λ (p : StartSeat). p.seat) players)) higher in
     let other : (player.seat == seat) ≡ false = grind (arith, nat_tests) in
     rw other (nobody-higher seat players parts.1)
 
 -- The numbers by seats, with one player more.
-sum-one_more : (number : StartSeat → ℕ) (player : StartSeat) (players : List StartSeat) (steps from : ℕ) → at_seat players player.seat ≡ None
+sum-one_more : (number : StartSeat → ℕ) (player : StartSeat) (players : List StartSeat) (steps from : ℕ)
+    → at_seat players player.seat ≡ None
     → sum_over number (by_seats (player ∷ players) steps from)
-    ≡ cond (nat_lt from player.seat && nat_le player.seat (from + steps)) (number player) 0 + sum_over number (by_seats players steps from)
+    ≡ cond (nat_lt from player.seat && nat_le player.seat (from + steps)) (number player) 0 + sum_over number
+    (by_seats players steps from)
 sum-one_more number player players zero from nobody =
-    let outside : (nat_lt from player.seat && nat_le player.seat (from + 0)) ≡ false = grind (arith, nat_tests) in rw outside (omega arith)
+    let outside : (nat_lt from player.seat && nat_le player.seat (from + 0)) ≡ false = grind (arith, nat_tests) in
+    rw outside (omega arith)
 sum-one_more number player players (suc steps) from nobody =
     let later = sum-one_more number player players steps (from + 1) nobody in
     elim (cases_Bool (player.seat == from + 1)) [
       | inl here ↦
           let seat = eqb-true player.seat (from + 1) here in
           let empty : at_seat players (from + 1) ≡ None = ap (at_seat players) (sym seat) ∙ nobody in
-          let inside : (nat_lt from player.seat && nat_le player.seat (from + suc steps)) ≡ true = grind (arith, nat_tests) in
-          let outside : (nat_lt (from + 1) player.seat && nat_le player.seat (from + 1 + steps)) ≡ false = grind (arith, nat_tests) in
-          let rest : sum_over number (by_seats (player ∷ players) steps (from + 1)) ≡ 0 + sum_over number (by_seats players steps (from + 1)) = rw outside at later in
+          let inside : (nat_lt from player.seat && nat_le player.seat (from + suc steps)) ≡ true =
+          grind (arith, nat_tests) in
+          let outside : (nat_lt (from + 1) player.seat && nat_le player.seat (from + 1 + steps)) ≡ false =
+          grind (arith, nat_tests) in
+          let rest : sum_over number (by_seats (player ∷ players) steps (from + 1))
+          ≡ 0 + sum_over number (by_seats players steps (from + 1)) = rw outside at later in
           rw (here, inside, empty) (omega arith)
       | inr elsewhere ↦
-          let same : (nat_lt from player.seat && nat_le player.seat (from + suc steps)) ≡ (nat_lt (from + 1) player.seat && nat_le player.seat (from + 1 + steps)) = grind (arith, nat_tests) in
-          rw (elsewhere, same) (by_slot (at_seat players (from + 1)) (by_seats (player ∷ players) steps (from + 1)) (by_seats players steps (from + 1)) _ later)
+          let same : (nat_lt from player.seat && nat_le player.seat (from + suc steps))
+          ≡ (nat_lt (from + 1) player.seat && nat_le player.seat (from + 1 + steps)) = grind (arith, nat_tests) in
+          rw (elsewhere, same) (by_slot (at_seat players (from + 1)) (by_seats (player ∷ players) steps (from + 1))
+          (by_seats players steps (from + 1)) _ later)
     ]
   where
-    by_slot : (slot : Option StartSeat) (all others : List (Option StartSeat)) (one : ℕ) → sum_over number all ≡ one + sum_over number others
+    by_slot : (slot : Option StartSeat) (all others : List (Option StartSeat)) (one : ℕ)
+        → sum_over number all ≡ one + sum_over number others
         → sum_over number (slot ∷ all) ≡ one + sum_over number (slot ∷ others)
     by_slot None all others one is = is
     by_slot (Some other) all others one is = omega arith
 
 -- The numbers of players in rising seat, by seats and in turn.
-sum-by_seats : (number : StartSeat → ℕ) (players : List StartSeat) → are_rising (map (λ (player : StartSeat). player.seat) players) ≡ true
-    → list_all (λ player. is_between 1 10 player.seat) players ≡ true → sum_over number (by_seats players 10 0) ≡ sum_by number players
+sum-by_seats : (number : StartSeat → ℕ) (players : List StartSeat)
+    → are_rising (map (λ (player : StartSeat). player.seat) players) ≡ true
+    → list_all (λ player. is_between 1 10 player.seat) players ≡ true
+    → sum_over number (by_seats players 10 0) ≡ sum_by number players
 sum-by_seats number [] rising within = refl
 sum-by_seats number (player ∷ players) rising within =
-    let parts = and_parts (list_all (λ seat. nat_lt player.seat seat) (map (λ (p : StartSeat). p.seat) players)) (are_rising (map (λ (p : StartSeat). p.seat) players)) rising in
-    let seats = and_parts (is_between 1 10 player.seat) (list_all (λ (p : StartSeat). is_between 1 10 p.seat) players) within in
+    let parts = and_parts (list_all (λ seat. nat_lt player.seat seat) (map (λ (p : StartSeat). p.seat) players))
+    (are_rising (map (λ (p : StartSeat). p.seat) players)) rising in
+    let seats = and_parts (is_between 1 10 player.seat)
+    (list_all (λ (p : StartSeat). is_between 1 10 p.seat) players) within in
     let inside : (nat_lt 0 player.seat && nat_le player.seat (0 + 10)) ≡ true = grind (arith, nat_tests) in
     let one = sum-one_more number player players 10 0 (nobody-higher player.seat players parts.0) in
-    let mine : sum_over number (by_seats (player ∷ players) 10 0) ≡ number player + sum_over number (by_seats players 10 0) = rw inside at one in
+    let mine : sum_over number (by_seats (player ∷ players) 10 0)
+    ≡ number player + sum_over number (by_seats players 10 0) = rw inside at one in
     let later = sum-by_seats number players parts.1 seats.1 in
     let all = sum_by-cons number player players in
     mine ∙ ap (λ (n : ℕ). number player + n) later ∙ sym all
 
 -- A seat of a lawful start is one of ten.
-lawful-seats : (start : HandStart) → IsLawfulStart start → list_all (λ player. is_between 1 10 player.seat) start.seats ≡ true
+lawful-seats : (start : HandStart) → IsLawfulStart start
+    → list_all (λ player. is_between 1 10 player.seat) start.seats ≡ true
 lawful-seats start lawful =
     let most : start.seat_count ≤ 10 = lawful.most_seats in
-    list_all-follows (λ (player : StartSeat). is_between 1 start.seat_count player.seat) (λ player. is_between 1 10 player.seat) start.seats
+    list_all-follows (λ (player : StartSeat). is_between 1 start.seat_count player.seat)
+    (λ player. is_between 1 10 player.seat) start.seats
     (λ player within. within-ten start.seat_count player.seat most within) lawful.within
   where
     within-ten : (count seat : ℕ) → count ≤ 10 → is_between 1 count seat ≡ true → is_between 1 10 seat ≡ true
@@ -118,11 +140,14 @@ pub sum-of_start : (start : HandStart) (number : StartSeat → ℕ) → IsLawful
 sum-of_start start number lawful = sum-by_seats number start.seats lawful.rising (lawful-seats start lawful)
 
 -- Who is found at a seat sits in one of ten.
-pub found-within : (start : HandStart) (seat : ℕ) (player : StartSeat) → IsLawfulStart start → player_of start seat ≡ Some player
+pub found-within : (start : HandStart) (seat : ℕ) (player : StartSeat) → IsLawfulStart start
+    → player_of start seat ≡ Some player
     → (player.seat ≡ seat) × (1 ≤ seat) × (seat ≤ 10)
 found-within start seat player lawful found =
-    let same = eqb-true player.seat seat (find-passes (λ (other : StartSeat). other.seat == seat) start.seats player found) in
-    let within = find-all (λ (other : StartSeat). other.seat == seat) (λ (other : StartSeat). is_between 1 10 other.seat) start.seats player found (lawful-seats start lawful) in
+    let same = eqb-true player.seat seat (find-passes
+    (λ (other : StartSeat). other.seat == seat) start.seats player found) in
+    let within = find-all (λ (other : StartSeat). other.seat == seat)
+    (λ (other : StartSeat). is_between 1 10 other.seat) start.seats player found (lawful-seats start lawful) in
     let low : 1 ≤ player.seat = grind (arith, nat_tests) in
     let high : player.seat ≤ 10 = grind (arith, nat_tests) in
     (same, omega arith, omega arith)
@@ -145,11 +170,13 @@ along-past at (suc steps) from (suc index) past = along-past at steps (from + 1)
 
 -- Where somebody is at an index of such a list, somebody is at that seat.
 pub along-there : {A : Type 0} (at : ℕ → Option A) (steps from index : ℕ)
-    → is_some (slice_index_or (map at (walk (λ seat. seat + 1) steps from)) index None) ≡ true → is_some (at (from + index + 1)) ≡ true
+    → is_some (slice_index_or (map at (walk (λ seat. seat + 1) steps from)) index None) ≡ true
+    → is_some (at (from + index + 1)) ≡ true
 along-there at steps from index there =
     elim (cases_lt index steps) [
       | inl within ↦ rw (along-at at steps from index within) at there
-      | inr past ↦ let none : is_some (slice_index_or (map at (walk (λ seat. seat + 1) steps from)) index None) ≡ false = ap is_some (along-past at steps from index past) in absurd cc
+      | inr past ↦ let none : is_some (slice_index_or (map at (walk (λ seat. seat + 1) steps from)) index None)
+          ≡ false = ap is_some (along-past at steps from index past) in absurd cc
     ]
 
 -- Whether somebody is in a slot, by the list of whether somebody is in each.
@@ -169,9 +196,11 @@ there-at start slots seat player lawful there found =
     let high = within.2 in
     let listed = along-at (player_of start) 10 0 (seat - 1) (omega arith) in
     let back : 0 + (seat - 1) + 1 ≡ seat = omega arith in
-    let his : slice_index_or (players_by_seat start) (seat - 1) None ≡ Some player = listed ∙ ap (player_of start) back ∙ found in
+    let his : slice_index_or (players_by_seat start) (seat - 1) None ≡ Some player = listed ∙ ap (player_of start) back
+    ∙ found in
     let some : is_some (player_at slots seat) ≡ true =
-    sym (some-at slots (seat - 1)) ∙ ap (λ tests. slice_index_or tests (seat - 1) false) there ∙ some-at (players_by_seat start) (seat - 1) ∙ ap is_some his in
+    sym (some-at slots (seat - 1)) ∙ ap (λ tests. slice_index_or tests (seat - 1) false) there
+    ∙ some-at (players_by_seat start) (seat - 1) ∙ ap is_some his in
     by_slot (player_at slots seat) refl some
   where
     by_slot : (slot : Option Player) → player_at slots seat ≡ slot → is_some (player_at slots seat) ≡ true
@@ -188,8 +217,10 @@ abbrev pub number_of : (Player → ℕ) → List (Option Player) → StartSeat �
 number_of number slots player = option_map_or number (player_in slots player.seat) 0
 
 -- One slot more of both sums.
-sum-step : (number : Player → ℕ) (slots : List (Option Player)) (from : ℕ) (slot : Option Player) (player : Option StartSeat)
-    (players : List (Option StartSeat)) (rest : List (Option Player)) → ((his : StartSeat) → player ≡ Some his → his.seat ≡ from + 1)
+sum-step : (number : Player → ℕ) (slots : List (Option Player)) (from : ℕ) (slot : Option Player)
+    (player : Option StartSeat)
+    (players : List (Option StartSeat)) (rest : List (Option Player))
+    → ((his : StartSeat) → player ≡ Some his → his.seat ≡ from + 1)
     → slice_index_or slots from None ≡ slot → is_some slot ≡ is_some player
     → sum_over (number_of number slots) players ≡ sum_over number rest
     → sum_over (number_of number slots) (player ∷ players) ≡ sum_over number (slot ∷ rest)
@@ -204,29 +235,36 @@ sum-step number slots from (Some now) (Some his) players rest seat at there late
     rw same (ap (λ (n : ℕ). number now + n) later)
 
 -- The numbers of the players of a street, by the players of the start and by slots.
-sum-along : (start : HandStart) (number : Player → ℕ) (slots : List (Option Player)) (steps from : ℕ) (rest : List (Option Player))
+sum-along : (start : HandStart) (number : Player → ℕ) (slots : List (Option Player)) (steps from : ℕ)
+    (rest : List (Option Player))
     → ((index : ℕ) → slice_index_or slots (from + index) None ≡ slice_index_or rest index None)
     → map is_some rest ≡ map is_some (map (player_of start) (walk (λ seat. seat + 1) steps from))
-    → sum_over (number_of number slots) (map (player_of start) (walk (λ seat. seat + 1) steps from)) ≡ sum_over number rest
+    → sum_over (number_of number slots) (map (player_of start) (walk (λ seat. seat + 1) steps from))
+    ≡ sum_over number rest
 sum-along start number slots zero from [] at there = refl
 sum-along start number slots zero from (slot ∷ rest) at there = absurd cc
 sum-along start number slots (suc steps) from [] at there = absurd cc
 sum-along start number slots (suc steps) from (slot ∷ rest) at there =
     let here : is_some slot ≡ is_some (player_of start (from + 1)) = cc in
-    let later : map is_some rest ≡ map is_some (map (player_of start) (walk (λ seat. seat + 1) steps (from + 1))) = cc in
+    let later : map is_some rest ≡ map is_some (map (player_of start) (walk (λ seat. seat + 1) steps (from + 1))) =
+    cc in
     let none : from + 0 ≡ from = omega arith in
     let first : slice_index_or slots from None ≡ slot = ap (λ (n : ℕ). slice_index_or slots n None) (sym none) ∙ at 0 in
-    sum-step number slots from slot (player_of start (from + 1)) (map (player_of start) (walk (λ seat. seat + 1) steps (from + 1))) rest
-    (λ his found. eqb-true his.seat (from + 1) (find-passes (λ (other : StartSeat). other.seat == from + 1) start.seats his found))
+    sum-step number slots from slot (player_of start (from + 1))
+    (map (player_of start) (walk (λ seat. seat + 1) steps (from + 1))) rest
+    (λ his found. eqb-true his.seat (from + 1) (find-passes
+    (λ (other : StartSeat). other.seat == from + 1) start.seats his found))
     first here
-    (sum-along start number slots steps (from + 1) rest (λ index. ap (λ (n : ℕ). slice_index_or slots n None) (next index) ∙ at (suc index)) later)
+    (sum-along start number slots steps (from + 1) rest
+    (λ index. ap (λ (n : ℕ). slice_index_or slots n None) (next index) ∙ at (suc index)) later)
   where
     next : (index : ℕ) → from + 1 + index ≡ from + suc index
     next index = omega arith
 
 -- The numbers of the players of a street, by the players of the start in turn and by slots.
 pub sum-of_street : (start : HandStart) (number : Player → ℕ) (slots : List (Option Player)) → IsLawfulStart start
-    → map is_some slots ≡ map is_some (players_by_seat start) → sum_by (number_of number slots) start.seats ≡ sum_over number slots
+    → map is_some slots ≡ map is_some (players_by_seat start)
+    → sum_by (number_of number slots) start.seats ≡ sum_over number slots
 sum-of_street start number slots lawful there =
     sym (sum-of_start start (number_of number slots) lawful)
     ∙ sum-along start number slots 10 0 slots (λ index. ap (λ (n : ℕ). slice_index_or slots n None) (none index)) there

@@ -1,5 +1,5 @@
 -- The chips of a hand are kept.
-use Rattle.std.proofs.Common.{◌≡◌, ◌∙◌, ℕ, ◌+◌, ◌-◌, ◌*◌, ◌≤◌, ◌<◌, List, [], ◌∷◌, map, Bool, true, false, cond, sum, Some, None, refl, ap, sym, arith}
+use Rattle.std.proofs.Common.{◌≡◌, ◌∙◌, ℕ, ◌+◌, ◌*◌, List, [], ◌∷◌, map, Bool, true, false, cond, sum, Some, None, refl, ap, sym, arith}
 use Rattle.std.specs.Prelude.{Option, ◌==◌, find, length, nat_le, sum_by, count_by}
 use Rattle.std.specs.List.{list_all}
 use Rattle.std.specs.Option.{is_some, option_map_or}
@@ -7,11 +7,11 @@ use Rattle.std.proofs.lemmas.Bool.{and_from, and_parts, eqb-true, le-leb}
 use Rattle.std.proofs.lemmas.List.Sums.{sum-map, sum_by-cons}
 use Rattle.betting_round.specs.declared.bettor.Player.{Player}
 use Rattle.betting_round.specs.StreetActs.{put_by_all, street_after, sum_over}
-use Rattle.betting_round.specs.WhoIsDue.{is_live, is_there, player_at, player_in}
+use Rattle.betting_round.specs.WhoIsDue.{is_live, is_there, player_in}
 use Rattle.table_engine.specs.declared.start.HandStart.{HandStart}
 use Rattle.table_engine.specs.declared.start.StartSeat.{StartSeat}
 use Rattle.table_engine.specs.Starts.{IsLawfulStart, chips_of}
-use Rattle.table_engine.specs.Hands.{HandTerms, StreetPlayed, Streets, behind, is_live as is_live_in, player_of, players_by_seat, put_from, put_in_hand, put_on, put_so_far, street_of, streets_of}
+use Rattle.table_engine.specs.Hands.{HandTerms, StreetPlayed, behind, is_live as is_live_in, player_of, players_by_seat, put_from, put_in_hand, put_on, put_so_far, street_of, streets_of}
 use Rattle.table_engine.specs.declared.standing.Standing.{Standing}
 use Rattle.table_engine.specs.Standings.{IsAt}
 use Rattle.table_engine.specs.Plays.{IsLawfulPlay}
@@ -25,7 +25,8 @@ sum_by-map f g [] = refl
 sum_by-map f g (x ∷ xs) = rw (sum_by-cons f (g x) (map g xs), sum_by-cons (λ y. f (g y)) x xs, sum_by-map f g xs)
 
 -- The sum of sums.
-sum_by-plus : {X : Type 0} (f g h : X → ℕ) (xs : List X) → ((x : X) → f x + g x ≡ h x) → sum_by f xs + sum_by g xs ≡ sum_by h xs
+sum_by-plus : {X : Type 0} (f g h : X → ℕ) (xs : List X) → ((x : X) → f x + g x ≡ h x)
+    → sum_by f xs + sum_by g xs ≡ sum_by h xs
 sum_by-plus f g h [] each = refl
 sum_by-plus f g h (x ∷ xs) each =
     omega (arith, sum_by-cons f x xs, sum_by-cons g x xs, sum_by-cons h x xs, each x, sum_by-plus f g h xs each)
@@ -37,7 +38,8 @@ pub record Stands (hand : HandTerms) (player : StartSeat) (now : Player) : Type 
   pub stack : now.bettor.behind + put_in_hand hand player ≡ player.stack
 
 -- Who is found at his seat stands in the hand.
-pub stands : (hand : HandTerms) (player : StartSeat) → IsLawfulStart hand.start → IsSound hand.start (streets_of hand) (length hand.acts)
+pub stands : (hand : HandTerms) (player : StartSeat) → IsLawfulStart hand.start
+    → IsSound hand.start (streets_of hand) (length hand.acts)
     → player_of hand.start player.seat ≡ Some player → (now : Player) × Stands hand player now
 stands hand player lawful sound found =
     let within = found-within hand.start player.seat player lawful found in
@@ -56,7 +58,8 @@ stands hand player lawful sound found =
 
 -- Of players who are found at their seats: two numbers of each that sum to a third sum so together.
 sum_by-found : (all : List StartSeat) (f g h : StartSeat → ℕ) (players : List StartSeat) → AreFound all players
-    → ((player : StartSeat) → find (λ (other : StartSeat). other.seat == player.seat) all ≡ Some player → f player + g player ≡ h player)
+    → ((player : StartSeat) → find (λ (other : StartSeat). other.seat == player.seat) all ≡ Some player
+    → f player + g player ≡ h player)
     → sum_by f players + sum_by g players ≡ sum_by h players
 sum_by-found all f g h [] found each = refl
 sum_by-found all f g h (player ∷ players) found each =
@@ -65,8 +68,10 @@ sum_by-found all f g h (player ∷ players) found each =
     omega (arith, sum_by-cons f player players, sum_by-cons g player players, sum_by-cons h player players)
 
 -- Of players who are found at their seats: what is made of each in one way is made of each in another.
-pub map-found : {X : Type 0} (all : List StartSeat) (f g : StartSeat → X) (players : List StartSeat) → AreFound all players
-    → ((player : StartSeat) → find (λ (other : StartSeat). other.seat == player.seat) all ≡ Some player → f player ≡ g player)
+pub map-found : {X : Type 0} (all : List StartSeat) (f g : StartSeat → X) (players : List StartSeat)
+    → AreFound all players
+    → ((player : StartSeat) → find (λ (other : StartSeat). other.seat == player.seat) all ≡ Some player
+    → f player ≡ g player)
     → map f players ≡ map g players
 map-found all f g [] found each = refl
 map-found all f g (player ∷ players) found each =
@@ -76,7 +81,8 @@ map-found all f g (player ∷ players) found each =
 
 -- Of players who are found at their seats and pass a test: each passes another.
 pub all-found : (all : List StartSeat) (one other : StartSeat → Bool) (players : List StartSeat) → AreFound all players
-    → ((player : StartSeat) → find (λ (other : StartSeat). other.seat == player.seat) all ≡ Some player → one player ≡ true → other player ≡ true)
+    → ((player : StartSeat) → find (λ (other : StartSeat). other.seat == player.seat) all ≡ Some player
+    → one player ≡ true → other player ≡ true)
     → list_all one players ≡ true → list_all other players ≡ true
 all-found all one other [] found each passes = refl
 all-found all one other (player ∷ players) found each passes =
@@ -88,7 +94,8 @@ pub chips-by : (hand : HandTerms) → IsLawfulStart hand.start → IsLawfulPlay 
     → sum_by (behind hand) hand.start.seats + sum_by (put_in_hand hand) hand.start.seats ≡ chips_of hand.start.seats
 chips-by hand lawful play =
     let sound = sound-play hand lawful play in
-    sum_by-found hand.start.seats (behind hand) (put_in_hand hand) (λ player. player.stack) hand.start.seats (found-all hand.start lawful)
+    sum_by-found hand.start.seats (behind hand) (put_in_hand hand) (λ player. player.stack) hand.start.seats
+    (found-all hand.start lawful)
     (λ player found.
     let his = stands hand player lawful sound found in
     let behind_so = his.1.behind in
@@ -97,14 +104,16 @@ chips-by hand lawful play =
 
 pub chips-in_play : (hand : HandTerms) → IsLawfulStart hand.start → IsLawfulPlay hand
     → sum_by (behind hand) hand.start.seats + sum_by (put_in_hand hand) hand.start.seats ≡ sum (starting_stacks hand)
-chips-in_play hand lawful play = chips-by hand lawful play ∙ sym (sum-map (λ (player : StartSeat). player.stack) hand.start.seats)
+chips-in_play hand lawful play = chips-by hand lawful play
+    ∙ sym (sum-map (λ (player : StartSeat). player.stack) hand.start.seats)
 
 -- Nobody puts in more than his stack.
 pub chips-within : (hand : HandTerms) → IsLawfulStart hand.start → IsLawfulPlay hand
     → list_all (λ player. nat_le (put_in_hand hand player) player.stack) hand.start.seats ≡ true
 chips-within hand lawful play =
     let sound = sound-play hand lawful play in
-    all-found hand.start.seats (λ player. true) (λ player. nat_le (put_in_hand hand player) player.stack) hand.start.seats (found-all hand.start lawful)
+    all-found hand.start.seats (λ player. true) (λ player. nat_le
+    (put_in_hand hand player) player.stack) hand.start.seats (found-all hand.start lawful)
     (λ player found passes.
     let his = stands hand player lawful sound found in
     let stack = his.1.stack in
@@ -120,7 +129,8 @@ put-on_street : (start : HandStart) (played : StreetPlayed) → IsLawfulStart st
     → map is_some (street_after played.start played.acts).players ≡ map is_some (players_by_seat start)
     → sum_by (λ (player : StartSeat). put_from player.seat played) start.seats ≡ put_on played
 put-on_street start played lawful there =
-    sum-of_street start (λ (player : Player). player.bettor.put) (street_after played.start played.acts).players lawful there
+    sum-of_street start (λ (player : Player). player.bettor.put)
+    (street_after played.start played.acts).players lawful there
 
 -- What was put in on several streets, by the players of the start.
 put-on_streets : (start : HandStart) (streets : List StreetPlayed) → IsLawfulStart start → AreThere start streets
@@ -129,11 +139,13 @@ put-on_streets start [] lawful there = nothing-put start.seats
   where
     nothing-put : (players : List StartSeat) → sum_by (λ (player : StartSeat). 0) players ≡ 0
     nothing-put [] = refl
-    nothing-put (player ∷ players) = let all = sum_by-cons (λ (p : StartSeat). 0) player players in let later = nothing-put players in omega arith
+    nothing-put (player ∷ players) =
+        let all = sum_by-cons (λ (p : StartSeat). 0) player players in let later = nothing-put players in omega arith
 put-on_streets start (played ∷ streets) lawful there =
     let here = put-on_street start played lawful there.0 in
     let later = put-on_streets start streets lawful there.1 in
-    let both = sum_by-plus (λ (player : StartSeat). put_from player.seat played) (λ (player : StartSeat). sum_by (put_from player.seat) streets)
+    let both = sum_by-plus (λ (player : StartSeat). put_from player.seat played)
+    (λ (player : StartSeat). sum_by (put_from player.seat) streets)
     (λ (player : StartSeat). sum_by (put_from player.seat) (played ∷ streets)) start.seats
     (λ player. sym (sum_by-cons (put_from player.seat) played streets)) in
     let all = sum_by-cons put_on played streets in
@@ -146,7 +158,8 @@ pot-is hand lawful play =
     let streets = streets_of hand in
     let last = put-on_street hand.start streets.last lawful sound.there in
     let before = put-on_streets hand.start streets.before lawful sound.earlier in
-    let both = sum_by-plus (λ (player : StartSeat). put_from player.seat streets.last) (λ (player : StartSeat). sum_by (put_from player.seat) streets.before)
+    let both = sum_by-plus (λ (player : StartSeat). put_from player.seat streets.last)
+    (λ (player : StartSeat). sum_by (put_from player.seat) streets.before)
     (put_in_hand hand) hand.start.seats (λ player. refl) in
     omega arith
 
@@ -156,7 +169,8 @@ counted_again n count true = grind arith
 counted_again n count false = grind arith
 
 -- The same for each live player of a street, and nothing for the others.
-sum-live : (n : ℕ) (slots : List (Option Player)) → sum_over (λ (player : Player). cond player.bettor.live n 0) slots ≡ count_by (is_there is_live) slots * n
+sum-live : (n : ℕ) (slots : List (Option Player)) → sum_over (λ (player : Player). cond player.bettor.live n 0) slots
+    ≡ count_by (is_there is_live) slots * n
 sum-live n [] = grind arith
 sum-live n (None ∷ slots) =
     let count = sum_by-cons (λ (slot : Option Player). cond (is_there is_live slot) 1 0) None slots in
@@ -173,18 +187,22 @@ one-gets hand lawful play won =
     let sound = sound-play hand lawful play in
     let slots = (street_of hand).players in
     let one : count_by (is_there is_live) slots ≡ 1 = eqb-true _ 1 won in
-    let by_slots = sum-of_street hand.start (λ (player : Player). cond player.bettor.live (pot hand) 0) slots lawful sound.there in
-    let awards = sum_by-alike (award hand) (number_of (λ (player : Player). cond player.bettor.live (pot hand) 0) slots) hand.start.seats
+    let by_slots = sum-of_street hand.start (λ (player : Player). cond player.bettor.live
+    (pot hand) 0) slots lawful sound.there in
+    let awards = sum_by-alike (award hand) (number_of
+    (λ (player : Player). cond player.bettor.live (pot hand) 0) slots) hand.start.seats
     (λ player. award-slot (player_in slots player.seat) (pot hand)) in
     let once : 1 * pot hand ≡ pot hand = omega arith in
     awards ∙ by_slots ∙ sum-live (pot hand) slots ∙ ap (λ (n : ℕ). n * pot hand) one ∙ once
   where
     award-slot : (slot : Option Player) (n : ℕ)
-        → cond (option_map_or (λ (player : Player). player.bettor.live) slot false) n 0 ≡ option_map_or (λ (player : Player). cond player.bettor.live n 0) slot 0
+        → cond (option_map_or (λ (player : Player). player.bettor.live) slot false) n 0
+        ≡ option_map_or (λ (player : Player). cond player.bettor.live n 0) slot 0
     award-slot None n = refl
     award-slot (Some player) n = refl
 
-    sum_by-alike : (f g : StartSeat → ℕ) (players : List StartSeat) → ((player : StartSeat) → f player ≡ g player) → sum_by f players ≡ sum_by g players
+    sum_by-alike : (f g : StartSeat → ℕ) (players : List StartSeat) → ((player : StartSeat) → f player ≡ g player)
+        → sum_by f players ≡ sum_by g players
     sum_by-alike f g [] each = refl
     sum_by-alike f g (player ∷ players) each =
         let here = each player in
@@ -205,18 +223,21 @@ chips-after hand lawful play won =
 pub chips-players : (hand : HandTerms) → IsLawfulStart hand.start → IsLawfulPlay hand → is_won_by_folds hand ≡ true
     → chips_of (players_after hand) ≡ chips_of hand.start.seats
 chips-players hand lawful play won =
-    let after = sum_by-map (λ (player : StartSeat). player.stack) (λ (player : StartSeat). with_stack player (stack_after_hand hand player)) hand.start.seats in
+    let after = sum_by-map (λ (player : StartSeat). player.stack)
+    (λ (player : StartSeat). with_stack player (stack_after_hand hand player)) hand.start.seats in
     let stacks = sum-map (stack_after_hand hand) hand.start.seats in
     let start = sum-map (λ (player : StartSeat). player.stack) hand.start.seats in
     after ∙ sym stacks ∙ chips-after hand lawful play won ∙ start
 
 -- What the players of the street have after the hand are its stacks.
 pub street-stacks : (hand : HandTerms) → IsLawfulStart hand.start → IsLawfulPlay hand
-    → map (λ player. stack_after (put_so_far (streets_of hand)) (player_in (street_of hand).players player.seat)) hand.start.seats ≡ stacks_after_hand hand
+    → map (λ player. stack_after (put_so_far (streets_of hand))
+    (player_in (street_of hand).players player.seat)) hand.start.seats ≡ stacks_after_hand hand
 street-stacks hand lawful play =
     let sound = sound-play hand lawful play in
     let all = pot-is hand lawful play in
-    map-found hand.start.seats (λ player. stack_after (put_so_far (streets_of hand)) (player_in (street_of hand).players player.seat)) (stack_after_hand hand)
+    map-found hand.start.seats (λ player. stack_after (put_so_far (streets_of hand))
+    (player_in (street_of hand).players player.seat)) (stack_after_hand hand)
     hand.start.seats (found-all hand.start lawful)
     (λ player found.
     let his = stands hand player lawful sound found in
@@ -230,8 +251,10 @@ street-stacks hand lawful play =
     ∙ ap (λ (n : ℕ). behind hand player + cond (is_live_in hand player) n 0) (sym all))
 
 -- The same by what a hand keeps: its street, and what was put in before.
-pub standing-stacks : (hand : HandTerms) (standing : Standing) → IsLawfulStart hand.start → IsLawfulPlay hand → IsAt (streets_of hand) standing
-    → map (λ player. stack_after (standing.before + put_by_all standing.round) (player_in standing.round.players player.seat)) hand.start.seats
+pub standing-stacks : (hand : HandTerms) (standing : Standing) → IsLawfulStart hand.start → IsLawfulPlay hand
+    → IsAt (streets_of hand) standing
+    → map (λ player. stack_after (standing.before + put_by_all standing.round)
+    (player_in standing.round.players player.seat)) hand.start.seats
     ≡ stacks_after_hand hand
 standing-stacks hand standing lawful play at =
     let put = ap put_by_all at.round in

@@ -14,13 +14,17 @@ nothing None none = refl
 nothing (Some x) none = absurd cc
 
 -- After any acts, others are lawful with one more where they are and the one more is refused by no check.
-lawful_after-more : (start : HandStart) (before acts : List ActOf) (act : ActOf) → are_lawful_after start before acts ≡ true → refusal_of_act (record { start = start; acts = before ++ acts }) act.name act.act ≡ None
+lawful_after-more : (start : HandStart) (before acts : List ActOf) (act : ActOf)
+    → are_lawful_after start before acts ≡ true → refusal_of_act
+    (record { start = start; acts = before ++ acts }) act.name act.act ≡ None
     → are_lawful_after start before (acts ++ act ∷ []) ≡ true
 lawful_after-more start before [] act lawful free =
-    let here : refusal_of_act (record { start = start; acts = before }) act.name act.act ≡ None = rw append-nil at free in
+    let here : refusal_of_act (record { start = start; acts = before }) act.name act.act ≡ None =
+    rw append-nil at free in
     rw here
 lawful_after-more start before (first ∷ acts) act lawful free =
-    let parts = and_parts (is_none (refusal_of_act (record { start = start; acts = before }) first.name first.act)) (are_lawful_after start (before ++ first ∷ []) acts) lawful in
+    let parts = and_parts (is_none (refusal_of_act (record { start = start; acts = before }) first.name first.act))
+    (are_lawful_after start (before ++ first ∷ []) acts) lawful in
     let joined : (before ++ first ∷ []) ++ acts ≡ before ++ first ∷ acts = append_assoc before (first ∷ []) acts in
     and_from _ _ parts.0 (lawful_after-more start (before ++ first ∷ []) acts act parts.1 (rw joined free))
 
@@ -29,21 +33,27 @@ pub lawful_play-none : (start : HandStart) → IsLawfulPlay (record { start = st
 lawful_play-none start = record { acts = refl }
 
 -- A lawful play is one with one more act that is refused by no check.
-pub lawful_play-more : (hand : HandTerms) (act : ActOf) → IsLawfulPlay hand → refusal_of_act hand act.name act.act ≡ None → IsLawfulPlay (record hand { acts = hand.acts ++ act ∷ [] })
+pub lawful_play-more : (hand : HandTerms) (act : ActOf) → IsLawfulPlay hand
+    → refusal_of_act hand act.name act.act ≡ None → IsLawfulPlay (record hand { acts = hand.acts ++ act ∷ [] })
 lawful_play-more hand act play free = record { acts = lawful_after-more hand.start [] hand.acts act play.acts free }
 
 -- Of acts that are lawful after others, each is refused by no check on all before it.
-lawful_after-each : (start : HandStart) (before front : List ActOf) (act : ActOf) (back : List ActOf) → are_lawful_after start before (front ++ act ∷ back) ≡ true
+lawful_after-each : (start : HandStart) (before front : List ActOf) (act : ActOf) (back : List ActOf)
+    → are_lawful_after start before (front ++ act ∷ back) ≡ true
     → refusal_of_act (record { start = start; acts = before ++ front }) act.name act.act ≡ None
 lawful_after-each start before [] act back lawful =
-    let parts = and_parts (is_none (refusal_of_act (record { start = start; acts = before }) act.name act.act)) (are_lawful_after start (before ++ act ∷ []) back) lawful in
+    let parts = and_parts (is_none (refusal_of_act (record { start = start; acts = before }) act.name act.act))
+    (are_lawful_after start (before ++ act ∷ []) back) lawful in
     rw append-nil (nothing (refusal_of_act (record { start = start; acts = before }) act.name act.act) parts.0)
 lawful_after-each start before (first ∷ front) act back lawful =
-    let parts = and_parts (is_none (refusal_of_act (record { start = start; acts = before }) first.name first.act)) (are_lawful_after start (before ++ first ∷ []) (front ++ act ∷ back)) lawful in
+    let parts = and_parts (is_none (refusal_of_act (record { start = start; acts = before }) first.name first.act))
+    (are_lawful_after start (before ++ first ∷ []) (front ++ act ∷ back)) lawful in
     let joined : (before ++ first ∷ []) ++ front ≡ before ++ first ∷ front = append_assoc before (first ∷ []) front in
     rw joined at (lawful_after-each start (before ++ first ∷ []) front act back parts.1)
 
 -- Each act of a lawful play is refused by no check on those before it.
-pub lawful_play-each : (hand : HandTerms) (front : List ActOf) (act : ActOf) (back : List ActOf) → IsLawfulPlay hand → hand.acts ≡ front ++ act ∷ back
+pub lawful_play-each : (hand : HandTerms) (front : List ActOf) (act : ActOf) (back : List ActOf) → IsLawfulPlay hand
+    → hand.acts ≡ front ++ act ∷ back
     → refusal_of_act (record hand { acts = front }) act.name act.act ≡ None
-lawful_play-each hand front act back play is = lawful_after-each hand.start [] front act back (ap (are_lawful_after hand.start []) (sym is) ∙ play.acts)
+lawful_play-each hand front act back play is = lawful_after-each hand.start [] front act back
+    (ap (are_lawful_after hand.start []) (sym is) ∙ play.acts)

@@ -16,12 +16,14 @@ use Rattle.table_engine.specs.Hands.{HandTerms, seat_of_name, street_of}
 use Rattle.table_engine.specs.Acts.{act_checks, acting_seat, limits_of, done_in_seat, done_of_act, is_dealt, refusal_in_seat, refusal_of_act, IsAnswer}
 
 -- Somebody passes a test exactly where somebody is found by it.
-any-found_step : {X Y : Type 0} (f : X → Y) (x : X) (passes more : Bool) (left : Option X) → more ≡ is_some (option_map f left)
+any-found_step : {X Y : Type 0} (f : X → Y) (x : X) (passes more : Bool) (left : Option X)
+    → more ≡ is_some (option_map f left)
     → (passes || more) ≡ is_some (option_map f (cond passes (Some x) left))
 any-found_step f x true more left same = refl
 any-found_step f x false more left same = same
 
-pub any-found : {X Y : Type 0} (test : X → Bool) (f : X → Y) (xs : List X) → list_any test xs ≡ is_some (option_map f (find test xs))
+pub any-found : {X Y : Type 0} (test : X → Bool) (f : X → Y) (xs : List X)
+    → list_any test xs ≡ is_some (option_map f (find test xs))
 any-found test f [] = refl
 any-found test f (x ∷ xs) = any-found_step f x (test x) (list_any test xs) (find test xs) (any-found test f xs)
 
@@ -38,13 +40,15 @@ refused-without_seat hand name act none =
     rw dealt
 
 -- An act of a player who has a seat is refused only as the street refuses it of his seat.
-pub refused-in_seat : (hand : HandTerms) (name : List ℕ) (act : Act) (seat : ℕ) → seat_of_name hand.start name ≡ Some seat
+pub refused-in_seat : (hand : HandTerms) (name : List ℕ) (act : Act) (seat : ℕ)
+    → seat_of_name hand.start name ≡ Some seat
     → refusal_of_act hand name act ≡ refusal_in_seat hand act seat
 unfolding act_checks act_refusal
 refused-in_seat hand name act seat found =
     let dealt : is_dealt hand.start name ≡ true = dealt-seat hand.start name ∙ ap is_some found in
     let limits = limits_of hand.start.game in
-    ap (λ (is : Bool). first_that_holds ((NotDealt, not is) ∷ seat_checks limits (street_of hand) (acting_seat hand name) act)) dealt
+    ap (λ (is : Bool). first_that_holds ((NotDealt, not is) ∷ seat_checks limits (street_of hand)
+    (acting_seat hand name) act)) dealt
     ∙ ap (λ (slot : Option ℕ). act_refusal limits (street_of hand) (unwrap_or slot 0) act) found
 
 -- What an act of a player who has a seat comes to.
@@ -54,13 +58,17 @@ unfolding done_of_act
 done-in_seat hand name act seat found = rw found
 
 -- A fault that tells the refusal that there is answers an act.
-pub answer-refused : {T : Type 0} (result : Result T ActFault) (refusal : Option Refusal) (reason : Refusal) → refusal ≡ Some reason → IsErr result × IsErrAnd result (λ fault. fault ≡ No reason)
+pub answer-refused : {T : Type 0} (result : Result T ActFault) (refusal : Option Refusal) (reason : Refusal)
+    → refusal ≡ Some reason → IsErr result × IsErrAnd result (λ fault. fault ≡ No reason)
     → IsAnswer refusal result
 answer-refused (Ok done) refusal reason is failed = let never : false ≡ true = failed.0 in cc
-answer-refused {T = T} (Err fault) refusal reason is failed = subst (λ (f : ActFault). IsAnswer {T = T} refusal (Err f)) (sym failed.1) is
+answer-refused {T = T} (Err fault) refusal reason is failed =
+    subst (λ (f : ActFault). IsAnswer {T = T} refusal (Err f)) (sym failed.1) is
 
 -- Want of memory answers an act that nothing refuses.
-pub answer-memory : {T : Type 0} (result : Result T ActFault) (refusal : Option Refusal) → refusal ≡ None → IsErr result × IsErrAnd result (λ fault. fault ≡ NoMemory)
+pub answer-memory : {T : Type 0} (result : Result T ActFault) (refusal : Option Refusal) → refusal ≡ None
+    → IsErr result × IsErrAnd result (λ fault. fault ≡ NoMemory)
     → IsAnswer refusal result
 answer-memory (Ok done) refusal none failed = none
-answer-memory {T = T} (Err fault) refusal none failed = subst (λ (f : ActFault). IsAnswer {T = T} refusal (Err f)) (sym failed.1) none
+answer-memory {T = T} (Err fault) refusal none failed =
+    subst (λ (f : ActFault). IsAnswer {T = T} refusal (Err f)) (sym failed.1) none

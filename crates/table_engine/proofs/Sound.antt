@@ -1,6 +1,6 @@
 -- What holds of the streets of every lawful play of a lawful start.
 use Rattle.std.proofs.Common.{◌≡◌, ◌≢◌, ◌∙◌, ℕ, zero, suc, ◌+◌, ◌-◌, ◌*◌, ◌%◌, ◌≤◌, ◌<◌, Bool, true, false, cond, List, [], ◌∷◌, ◌++◌, length, map, Some, None, refl, ap, sym, subst, inl, inr, append_assoc, append-nil, length-append, arith}
-use Rattle.std.specs.Prelude.{Option, ◌==◌, ◌&&◌, ◌||◌, ◌⊎◌, is_none, max, nat_lt, not, option_map, slice_index_or, slice_set, sum_by}
+use Rattle.std.specs.Prelude.{Option, ◌==◌, ◌&&◌, ◌||◌, ◌⊎◌, is_none, nat_lt, not, option_map, slice_index_or, slice_set, sum_by}
 use Rattle.std.specs.Option.{is_some, option_map_or}
 use Rattle.std.proofs.Math.Nat.{zero-mod}
 use Rattle.std.proofs.lemmas.Bool.{and_parts, cases_Bool, cases_lt}
@@ -21,7 +21,7 @@ use Rattle.betting_round.specs.ActChecks.{act_refusal}
 use Rattle.betting_round.specs.Limits.{Limits}
 use Rattle.betting_round.specs.Running.{amount_of, moved, placed}
 use Rattle.betting_round.specs.StreetActs.{IsStreetStart, SeatAct, StreetStart, at_next_street, fresh, greatest, next_bettors, street_after, sum_over}
-use Rattle.betting_round.specs.WhoIsDue.{player_at, player_in}
+use Rattle.betting_round.specs.WhoIsDue.{player_at}
 use Rattle.betting_round.proofs.Acted.{Acts, still, still-falls, who-acts}
 use Rattle.betting_round.proofs.Steps.{map_at, street_start_is, street_stepped, sum_map, sum_set}
 use Rattle.table_engine.specs.declared.record.ActOf.{ActOf}
@@ -36,10 +36,10 @@ use Rattle.table_engine.specs.Starts.{IsLawfulStart, chips_of}
 use Rattle.table_engine.proofs.BySeat.{along-at, along-past, player_in-there, sum-of_start}
 use Rattle.table_engine.proofs.Plays.{nothing}
 use Rattle.table_engine.proofs.Refusals.{refused-in_seat, refused-without_seat}
-use Rattle.table_engine.proofs.Standings.{lawful-big, lawful-small, ready-act, ready-start, right-next, somes-made, somes-street, streets-more, streets-none}
+use Rattle.table_engine.proofs.Standings.{lawful-small, ready-act, ready-start, right-next, somes-made, somes-street, streets-more, streets-none}
 use Rattle.table_engine.proofs.Starts.{right-first}
 use Rattle.table_engine.proofs.Units.{multiple-add, multiple-max, multiple-sub}
-use Rattle.table_engine.proofs.WholeUnits.{AreBlinds, amount-whole, blinds-lawful, found-playable, posted-whole}
+use Rattle.table_engine.proofs.WholeUnits.{amount-whole, blinds-lawful, found-playable, posted-whole}
 
 -- What the player in a seat has put in on all streets so far.
 abbrev pub put_by_seat : ℕ → Streets → ℕ
@@ -58,7 +58,8 @@ pub record IsPlayerSound (start : HandStart) (street : Street) (put_in seat : �
 abbrev pub AreThere : HandStart → List StreetPlayed → Type 0
 AreThere start [] = Unit {0}
 AreThere start (played ∷ streets) =
-    (map is_some (street_after played.start played.acts).players ≡ map is_some (players_by_seat start)) × AreThere start streets
+    (map is_some (street_after played.start played.acts).players
+    ≡ map is_some (players_by_seat start)) × AreThere start streets
 
 -- A hand that stands on these streets.
 abbrev pub standing_on : Streets → Standing
@@ -86,17 +87,21 @@ put_from-there played seat now low there =
     (player_in-there (street_after played.start played.acts).players seat low ∙ there)
 
 -- Who is in a slot of a table in which one was put into a slot.
-set-at : (slots : List (Option Player)) (index other : ℕ) (was item found : Player) → slice_index_or slots index None ≡ Some was
+set-at : (slots : List (Option Player)) (index other : ℕ) (was item found : Player)
+    → slice_index_or slots index None ≡ Some was
     → slice_index_or (slice_set slots index (Some item)) other None ≡ Some found
     → ((other ≡ index) × (found ≡ item)) ⊎ ((other ≢ index) × (slice_index_or slots other None ≡ Some found))
 set-at [] index other was item found there is = absurd cc
 set-at (slot ∷ slots) zero zero was item found there is = let same : found ≡ item = cc in inl (refl, same)
-set-at (slot ∷ slots) zero (suc other) was item found there is = let apart : suc other ≢ 0 = λ same. omega arith in inr (apart, is)
-set-at (slot ∷ slots) (suc index) zero was item found there is = let apart : 0 ≢ suc index = λ same. omega arith in inr (apart, is)
+set-at (slot ∷ slots) zero (suc other) was item found there is =
+    let apart : suc other ≢ 0 = λ same. omega arith in inr (apart, is)
+set-at (slot ∷ slots) (suc index) zero was item found there is =
+    let apart : 0 ≢ suc index = λ same. omega arith in inr (apart, is)
 set-at (slot ∷ slots) (suc index) (suc other) was item found there is =
     elim (set-at slots index other was item found there is) [
       | inl here ↦ inl (ap (λ (n : ℕ). suc n) here.0, here.1)
-      | inr elsewhere ↦ let apart : suc other ≢ suc index = λ same. elsewhere.0 (omega arith) in inr (apart, elsewhere.1)
+      | inr elsewhere ↦ let apart : suc other ≢ suc index = λ same. elsewhere.0 (omega arith) in
+          inr (apart, elsewhere.1)
     ]
 
 -- A fold puts nothing in.
@@ -112,29 +117,35 @@ fold-none level put behind (Raise n) fold = absurd cc
 more-moved : (live fold : Bool) (behind put_in : ℕ) → live ≡ true → 0 < behind → (fold ≡ true → put_in ≡ 0)
     → ((live && not fold) || nat_lt 0 (behind - put_in)) ≡ true
 more-moved true false behind put_in is some none = refl
-more-moved true true behind put_in is some none = let nothing_in = none refl in let left : 0 < behind - put_in = omega arith in grind (arith, nat_tests)
+more-moved true true behind put_in is some none =
+    let nothing_in = none refl in let left : 0 < behind - put_in = omega arith in grind (arith, nat_tests)
 more-moved false fold behind put_in is some none = absurd cc
 
 -- What holds of a player holds of him after his act.
-player-moved : (start : HandStart) (limits : Limits) (street : Street) (seat : ℕ) (act : Act) (now : Player) (before after : ℕ)
+player-moved : (start : HandStart) (limits : Limits) (street : Street) (seat : ℕ) (act : Act) (now : Player)
+    (before after : ℕ)
     → Acts limits street seat act now → street.unit ≡ start.unit → street.level % start.unit ≡ 0
     → IsPlayerSound start street before seat now → after ≡ before + amount_of street.level now act
-    → IsPlayerSound start (placed street seat now act (amount_of street.level now act)) after seat (moved (amount_of street.level now act) now act)
+    → IsPlayerSound start (placed street seat now act (amount_of street.level now act)) after seat
+    (moved (amount_of street.level now act) now act)
 player-moved start limits street seat act now before after acts unit level sound is =
     let put_in = amount_of street.level now act in
     let held : put_in ≤ now.bettor.behind = acts.covered in
     let whole : put_in % start.unit ≡ 0 =
-    rw unit at (amount-whole limits street seat act now acts (rw unit level) (rw unit sound.put) (rw unit sound.behind) sound.met) in
+    rw unit at (amount-whole limits street seat act now acts (rw unit level) (rw unit sound.put)
+    (rw unit sound.behind) sound.met) in
     record {
       met = omega arith;
-      more = more-moved now.bettor.live (is_fold act) now.bettor.behind put_in acts.live acts.more (fold-none street.level now.bettor.put now.bettor.behind act);
+      more = more-moved now.bettor.live (is_fold act) now.bettor.behind put_in acts.live acts.more
+          (fold-none street.level now.bettor.put now.bettor.behind act);
       put = multiple-add start.unit now.bettor.put put_in sound.put whole;
       behind = multiple-sub start.unit now.bettor.behind put_in held sound.behind whole;
       stack = λ player found. let was = sound.stack player found in omega arith;
     }
 
 -- What holds of a player holds of him after an act of another.
-player-kept : (start : HandStart) (street later : Street) (before after seat : ℕ) (now : Player) → street.level ≤ later.level → after ≡ before
+player-kept : (start : HandStart) (street later : Street) (before after seat : ℕ) (now : Player)
+    → street.level ≤ later.level → after ≡ before
     → IsPlayerSound start street before seat now → IsPlayerSound start later after seat now
 player-kept start street later before after seat now grows is sound =
     let met = sound.met in
@@ -147,13 +158,16 @@ player-kept start street later before after seat now grows is sound =
     }
 
 -- The street after an act that is not refused.
-placed-is : (limits : Limits) (start : StreetStart) (acts : List SeatAct) (entry : SeatAct) (now : Player) → IsStreetStart start
+placed-is : (limits : Limits) (start : StreetStart) (acts : List SeatAct) (entry : SeatAct) (now : Player)
+    → IsStreetStart start
     → Acts limits (street_after start acts) entry.seat entry.act now
-    → street_after start (entry ∷ acts) ≡ placed (street_after start acts) entry.seat now entry.act (amount_of (street_after start acts).level now entry.act)
+    → street_after start (entry ∷ acts) ≡ placed (street_after start acts) entry.seat now entry.act
+    (amount_of (street_after start acts).level now entry.act)
 placed-is limits start acts entry now right acted =
     let street = street_after start acts in
     street_stepped start acts entry now right.seated acted.low acted.sits
-    ∙ ap (λ (slot : Option Player). option_map_or (λ player. placed street entry.seat player entry.act (amount_of street.level player entry.act)) slot street) acted.sits
+    ∙ ap (λ (slot : Option Player). option_map_or (λ player. placed street entry.seat player entry.act
+    (amount_of street.level player entry.act)) slot street) acted.sits
 
 -- The least bet or raise of each game is a full raise above the bet level.
 least-of_game : (game : Game) (facing : Facing) → (limits_of game).least facing ≡ facing.level + facing.full
@@ -174,14 +188,22 @@ sound-act start streets acts seat act sound free =
     let acted = acting.1 in
     let put_in = amount_of street.level now act in
     let after = with_act streets entry in
-    let is : street_now after ≡ placed street seat now act put_in = placed-is limits streets.last.start streets.last.acts entry now sound.right acted in
+    let is : street_now after ≡ placed street seat now act put_in =
+    placed-is limits streets.last.start streets.last.acts entry now sound.right acted in
     let his = sound.each seat now acted.low acted.sits in
     let falls = still-falls limits street seat act now acted (least-of_game start.game _) sound.full his.met in
     let sums = sum_set (seat - 1) still now (moved put_in now act) street.players acted.sits in
     let same = ap (λ (s : Street). sum_over still s.players) is in
-    let at : IsAt streets (standing_on streets) = record { round = refl; before = refl; left = refl; right = sound.right } in
+    let at : IsAt streets (standing_on streets) = record {
+      round = refl;
+      before = refl;
+      left = refl;
+      right =
+          sound.right;
+    } in
     let level : (placed street seat now act put_in).level % start.unit ≡ 0 =
-    (let whole = player-moved start limits street seat act now (put_by_seat seat streets) (put_by_seat seat streets + put_in) acted sound.unit sound.level his refl in
+    (let whole = player-moved start limits street seat act now (put_by_seat seat streets)
+    (put_by_seat seat streets + put_in) acted sound.unit sound.level his refl in
     multiple-max start.unit street.level (now.bettor.put + put_in) sound.level whole.put) in
     let full = sound.full in
     let short = sound.short in
@@ -189,25 +211,32 @@ sound-act start streets acts seat act sound free =
       right = sound.right;
       ready = ready-act limits streets (standing_on streets) (standing_on after) seat act at sound.ready free refl refl;
       unit = ap (λ (s : Street). s.unit) is ∙ sound.unit;
-      there = somes-street streets.last.start (entry ∷ streets.last.acts) ∙ sym (somes-street streets.last.start streets.last.acts) ∙ sound.there;
+      there = somes-street streets.last.start (entry ∷ streets.last.acts)
+          ∙ sym (somes-street streets.last.start streets.last.acts) ∙ sound.there;
       earlier = sound.earlier;
       level = ap (λ (s : Street). s.level % start.unit) is ∙ level;
       full = subst (λ (s : Street). 0 < s.full) (sym is) (omega arith);
-      each = λ other found low there. each-after start limits streets acts seat act now sound acted is other found low there;
+      each = λ other found low there. each-after start limits streets acts seat act now sound acted is other found low
+          there;
       short = omega arith;
     }
   where
-    each-after : (start : HandStart) (limits : Limits) (streets : Streets) (acts seat : ℕ) (act : Act) (now : Player) → IsSound start streets acts
+    each-after : (start : HandStart) (limits : Limits) (streets : Streets) (acts seat : ℕ) (act : Act) (now : Player)
+        → IsSound start streets acts
         → Acts limits (street_now streets) seat act now
-        → street_now (with_act streets (record { seat = seat; act = act })) ≡ placed (street_now streets) seat now act (amount_of (street_now streets).level now act)
-        → (other : ℕ) (found : Player) → 1 ≤ other → player_at (street_now (with_act streets (record { seat = seat; act = act }))).players other ≡ Some found
-        → IsPlayerSound start (street_now (with_act streets (record { seat = seat; act = act }))) (put_by_seat other (with_act streets (record { seat = seat; act = act }))) other found
+        → street_now (with_act streets (record { seat = seat; act = act }))
+        ≡ placed (street_now streets) seat now act (amount_of (street_now streets).level now act)
+        → (other : ℕ) (found : Player) → 1 ≤ other → player_at
+        (street_now (with_act streets (record { seat = seat; act = act }))).players other ≡ Some found
+        → IsPlayerSound start (street_now (with_act streets (record { seat = seat; act = act })))
+        (put_by_seat other (with_act streets (record { seat = seat; act = act }))) other found
     each-after start limits streets acts seat act now sound acted is other found low there =
         let street = street_now streets in
         let put_in = amount_of street.level now act in
         let after = with_act streets (record { seat = seat; act = act }) in
         let mine = put_from-there after.last other found low there in
-        let set : slice_index_or (slice_set street.players (seat - 1) (Some (moved put_in now act))) (other - 1) None ≡ Some found =
+        let set : slice_index_or (slice_set street.players (seat - 1) (Some (moved put_in now act))) (other - 1) None
+        ≡ Some found =
         ap (λ (s : Street). player_at s.players other) (sym is) ∙ there in
         let first = acted.low in
         elim (set-at street.players (seat - 1) (other - 1) now (moved put_in now act) found acted.sits set) [
@@ -215,17 +244,23 @@ sound-act start streets acts seat act sound free =
               let same : other ≡ seat = (let index = here.0 in omega arith) in
               let before = put_from-there streets.last seat now acted.low acted.sits in
               let put : found.bettor.put ≡ now.bettor.put + put_in = ap (λ (p : Player). p.bettor.put) here.1 in
-              let earlier : sum_by (put_from other) streets.before ≡ sum_by (put_from seat) streets.before = ap (λ (n : ℕ). sum_by (put_from n) streets.before) same in
+              let earlier : sum_by (put_from other) streets.before ≡ sum_by (put_from seat) streets.before =
+              ap (λ (n : ℕ). sum_by (put_from n) streets.before) same in
               let all : put_by_seat other after ≡ put_by_seat seat streets + put_in = omega arith in
-              let moved_so = player-moved start limits street seat act now (put_by_seat seat streets) (put_by_seat other after) acted sound.unit sound.level (sound.each seat now acted.low acted.sits) all in
+              let moved_so = player-moved start limits street seat act now (put_by_seat seat streets)
+              (put_by_seat other after) acted sound.unit sound.level
+              (sound.each seat now acted.low acted.sits) all in
               subst (λ (s : Street). IsPlayerSound start s (put_by_seat other after) other found) (sym is)
-              (subst (λ (n : ℕ). IsPlayerSound start (placed street seat now act put_in) (put_by_seat other after) n found) (sym same)
-              (subst (λ (p : Player). IsPlayerSound start (placed street seat now act put_in) (put_by_seat other after) seat p) (sym here.1) moved_so))
+              (subst (λ (n : ℕ). IsPlayerSound start (placed street seat now act put_in)
+              (put_by_seat other after) n found) (sym same)
+              (subst (λ (p : Player). IsPlayerSound start (placed street seat now act put_in)
+              (put_by_seat other after) seat p) (sym here.1) moved_so))
           | inr elsewhere ↦
               let before = put_from-there streets.last other found low elsewhere.1 in
               let grows : street.level ≤ (placed street seat now act put_in).level = omega arith in
               subst (λ (s : Street). IsPlayerSound start s (put_by_seat other after) other found) (sym is)
-              (player-kept start street (placed street seat now act put_in) (put_by_seat other streets) (put_by_seat other after) other found grows (omega arith) (sound.each other found low elsewhere.1))
+              (player-kept start street (placed street seat now act put_in) (put_by_seat other streets)
+              (put_by_seat other after) other found grows (omega arith) (sound.each other found low elsewhere.1))
         ]
 
 -- Who is at an index of a table that is made of another is made of who is there.
@@ -235,12 +270,14 @@ made-from f None found is = absurd cc
 made-from f (Some was) found is = let same : found ≡ f was = cc in (was, (refl, same))
 
 -- The greatest number is at least the least, and the least where no number is greater.
-greatest-least : {A : Type 0} (least : ℕ) (number : A → ℕ) (slots : List (Option A)) → least ≤ greatest least number slots
+greatest-least : {A : Type 0} (least : ℕ) (number : A → ℕ) (slots : List (Option A))
+    → least ≤ greatest least number slots
 greatest-least least number [] = omega arith
 greatest-least least number (None ∷ slots) = greatest-least least number slots
 greatest-least least number (Some item ∷ slots) = let later = greatest-least least number slots in omega arith
 
-greatest-no_more : {A B : Type 0} (least : ℕ) (number : B → ℕ) (f : A → B) (slots : List (Option A)) → ((item : A) → number (f item) ≤ least)
+greatest-no_more : {A B : Type 0} (least : ℕ) (number : B → ℕ) (f : A → B) (slots : List (Option A))
+    → ((item : A) → number (f item) ≤ least)
     → greatest least number (map (option_map f) slots) ≡ least
 greatest-no_more least number f [] less = refl
 greatest-no_more least number f (None ∷ slots) less = greatest-no_more least number f slots less
@@ -248,7 +285,8 @@ greatest-no_more least number f (Some item ∷ slots) less =
     let here = less item in let later = greatest-no_more least number f slots less in omega arith
 
 -- Where each number is at most another and so much more, so is the sum, for each slot.
-sum-no_more : {A : Type 0} (one other : A → ℕ) (more : ℕ) (slots : List (Option A)) → ((item : A) → one item ≤ other item + more)
+sum-no_more : {A : Type 0} (one other : A → ℕ) (more : ℕ) (slots : List (Option A))
+    → ((item : A) → one item ≤ other item + more)
     → sum_over one slots ≤ sum_over other slots + length slots * more
 sum-no_more one other more [] less = omega arith
 sum-no_more one other more (None ∷ slots) less =
@@ -264,26 +302,31 @@ sum-no_more one other more (Some item ∷ slots) less =
     one-more_times count more = grind arith
 
 -- As many slots as there are seats.
-ten-slots : (start : HandStart) (slots : List (Option Player)) → map is_some slots ≡ map is_some (players_by_seat start) → length slots ≡ 10
+ten-slots : (start : HandStart) (slots : List (Option Player)) → map is_some slots ≡ map is_some (players_by_seat start)
+    → length slots ≡ 10
 ten-slots start slots there = sym (length-map slots is_some) ∙ ap length there
 
 -- What a player can still do is at most one act more on the next street.
 still-next : (player : Player) → still (fresh (at_next_street player)) ≤ still player + 1
 still-next player = by_acted player.acted
   where
-    by_acted : (acted : Bool) → player.bettor.behind + cond player.bettor.live 1 0 + 1 ≤ player.bettor.behind + cond player.bettor.live 1 0 + cond acted 0 1 + 1
+    by_acted : (acted : Bool) → player.bettor.behind + cond player.bettor.live 1 0 + 1 ≤ player.bettor.behind + cond
+        player.bettor.live 1 0 + cond acted 0 1 + 1
     by_acted true = omega arith
     by_acted false = omega arith
 
 -- What holds of a player holds of him where the next street begins.
-each-next : (start : HandStart) (streets : Streets) (acts seat : ℕ) (now : Player) → IsSound start streets acts → 1 ≤ seat
+each-next : (start : HandStart) (streets : Streets) (acts seat : ℕ) (now : Player) → IsSound start streets acts
+    → 1 ≤ seat
     → player_at (street_now (with_next_street start streets)).players seat ≡ Some now
-    → IsPlayerSound start (street_now (with_next_street start streets)) (put_by_seat seat (with_next_street start streets)) seat now
+    → IsPlayerSound start (street_now (with_next_street start streets))
+    (put_by_seat seat (with_next_street start streets)) seat now
 each-next start streets acts seat now sound low there =
     let street = street_now streets in
     let next = later_street start streets in
     let after = with_next_street start streets in
-    let slots : player_at (street_now after).players seat ≡ option_map fresh (option_map at_next_street (player_at street.players seat)) =
+    let slots : player_at (street_now after).players seat
+    ≡ option_map fresh (option_map at_next_street (player_at street.players seat)) =
     ap (λ (s : Street). player_at s.players seat) (street_start_is next) ∙ map_at fresh (seat - 1) (next_bettors street)
     ∙ ap (option_map fresh) (map_at at_next_street (seat - 1) street.players) in
     let one = made-from fresh (option_map at_next_street (player_at street.players seat)) now (sym slots ∙ there) in
@@ -295,7 +338,8 @@ each-next start streets acts seat now sound low there =
     let mine = put_from-there after.last seat now low there in
     let before = sum_by-cons (put_from seat) streets.last streets.before in
     let same : put_by_seat seat after ≡ put_by_seat seat streets = omega arith in
-    let sound_so : IsPlayerSound start (street_now after) (put_by_seat seat after) seat (fresh (at_next_street was)) = record {
+    let sound_so : IsPlayerSound start (street_now after) (put_by_seat seat after) seat (fresh (at_next_street was)) =
+    record {
       met = omega arith;
       more = his.more;
       put = zero-mod start.unit;
@@ -305,13 +349,15 @@ each-next start streets acts seat now sound low there =
     subst (λ (p : Player). IsPlayerSound start (street_now after) (put_by_seat seat after) seat p) (sym is) sound_so
 
 -- What holds of the streets where the next one begins.
-sound-next : (start : HandStart) (streets : Streets) (acts : ℕ) → IsLawfulStart start → IsSound start streets acts → 1 ≤ streets.left
+sound-next : (start : HandStart) (streets : Streets) (acts : ℕ) → IsLawfulStart start → IsSound start streets acts
+    → 1 ≤ streets.left
     → IsSound start (with_next_street start streets) acts
 sound-next start streets acts lawful sound some =
     let street = street_now streets in
     let next = later_street start streets in
     let began = street_start_is next in
-    let right : IsStreetStart next = right-next start (standing_on streets) next.counted lawful sound.ready (omega arith) in
+    let right : IsStreetStart next = right-next start (standing_on streets) next.counted lawful sound.ready
+    (omega arith) in
     let all = sum_by-cons put_on streets.last streets.before in
     let blinds = blinds-lawful start lawful in
     let big = blinds.some in
@@ -319,10 +365,12 @@ sound-next start streets acts lawful sound some =
     greatest-no_more 0 (λ (bettor : Bettor). bettor.put) at_next_street street.players (λ player. omega arith) in
     let level : (street_after next []).level ≡ 0 = ap (λ (s : Street). s.level) began ∙ none in
     let players = ap (λ (s : Street). s.players) began in
-    let still_now : sum_over still (street_after next []).players ≡ sum_over (λ (player : Player). still (fresh (at_next_street player))) street.players =
+    let still_now : sum_over still (street_after next []).players
+    ≡ sum_over (λ (player : Player). still (fresh (at_next_street player))) street.players =
     ap (sum_over still) players ∙ sum_map still fresh (next_bettors street)
     ∙ sum_map (λ (bettor : Bettor). still (fresh bettor)) at_next_street street.players in
-    let more = sum-no_more (λ (player : Player). still (fresh (at_next_street player))) still 1 street.players still-next in
+    let more = sum-no_more (λ (player : Player). still
+    (fresh (at_next_street player))) still 1 street.players still-next in
     let ten = ten-slots start street.players sound.there in
     let count : length street.players * 1 ≡ 10 = omega arith in
     let short = sound.short in
@@ -339,12 +387,14 @@ sound-next start streets acts lawful sound some =
     }
 
 -- What holds of the streets once every street has begun that may.
-sound-dealt : (start : HandStart) (left : ℕ) (streets : Streets) (acts : ℕ) → IsLawfulStart start → IsSound start streets acts → left ≤ streets.left
+sound-dealt : (start : HandStart) (left : ℕ) (streets : Streets) (acts : ℕ) → IsLawfulStart start
+    → IsSound start streets acts → left ≤ streets.left
     → IsSound start (dealt_on start left streets) acts
 sound-dealt start zero streets acts lawful sound within = sound
 sound-dealt start (suc left) streets acts lawful sound within =
     elim (cases_Bool (has_ended (street_now streets))) [
-      | inl ended ↦ rw ended (sound-dealt start left (with_next_street start streets) acts lawful (sound-next start streets acts lawful sound (omega arith)) (omega arith))
+      | inl ended ↦ rw ended (sound-dealt start left (with_next_street start streets) acts lawful
+          (sound-next start streets acts lawful sound (omega arith)) (omega arith))
       | inr open_ ↦ rw open_ sound
     ]
 
@@ -367,10 +417,12 @@ each-first : (start : HandStart) (seat : ℕ) (now : Player) → IsLawfulStart s
 each-first start seat now lawful low there =
     let first = first_street start in
     let began = street_start_is first in
-    let slots : player_at (street_after first []).players seat ≡ option_map fresh (option_map (seated start) (slice_index_or (players_by_seat start) (seat - 1) None)) =
+    let slots : player_at (street_after first []).players seat
+    ≡ option_map fresh (option_map (seated start) (slice_index_or (players_by_seat start) (seat - 1) None)) =
     ap (λ (s : Street). player_at s.players seat) began ∙ map_at fresh (seat - 1) first.bettors
     ∙ ap (option_map fresh) (map_at (seated start) (seat - 1) (players_by_seat start)) in
-    let one = made-from fresh (option_map (seated start) (slice_index_or (players_by_seat start) (seat - 1) None)) now (sym slots ∙ there) in
+    let one = made-from fresh (option_map (seated start) (slice_index_or (players_by_seat start) (seat - 1) None)) now
+    (sym slots ∙ there) in
     let two = made-from (seated start) (slice_index_or (players_by_seat start) (seat - 1) None) one.0 one.1.0 in
     let player = two.0 in
     let is : now ≡ fresh (seated start player) = one.1.1 ∙ ap fresh two.1.1 in
@@ -385,7 +437,8 @@ each-first start seat now lawful low there =
     let held : posted start player ≤ player.stack = omega arith in
     let put = ap (λ (p : Player). p.bettor.put) is in
     let mine = put_from-there (first_streets start).last seat now low there in
-    let sound_so : IsPlayerSound start (street_after first []) (put_by_seat seat (first_streets start)) seat (fresh (seated start player)) = record {
+    let sound_so : IsPlayerSound start (street_after first []) (put_by_seat seat (first_streets start)) seat
+    (fresh (seated start player)) = record {
       met = omega arith;
       more = refl;
       put = posted_so;
@@ -395,16 +448,19 @@ each-first start seat now lawful low there =
           let his = ap (λ (p : StartSeat). p.stack) him in
           omega arith;
     } in
-    subst (λ (p : Player). IsPlayerSound start (street_after first []) (put_by_seat seat (first_streets start)) seat p) (sym is) sound_so
+    subst (λ (p : Player). IsPlayerSound start (street_after first []) (put_by_seat seat (first_streets start)) seat p)
+    (sym is) sound_so
   where
-    listed-at : (start : HandStart) (seat : ℕ) (player : StartSeat) → 1 ≤ seat → slice_index_or (players_by_seat start) (seat - 1) None ≡ Some player
+    listed-at : (start : HandStart) (seat : ℕ) (player : StartSeat) → 1 ≤ seat
+        → slice_index_or (players_by_seat start) (seat - 1) None ≡ Some player
         → player_of start seat ≡ Some player
     listed-at start seat player low listed =
         elim (cases_lt (seat - 1) 10) [
           | inl within ↦
               let back : 0 + (seat - 1) + 1 ≡ seat = omega arith in
               ap (player_of start) (sym back) ∙ sym (along-at (player_of start) 10 0 (seat - 1) within) ∙ listed
-          | inr past ↦ let none = along-past (player_of start) 10 0 (seat - 1) past in let never : None ≡ Some player = sym none ∙ listed in absurd cc
+          | inr past ↦ let none = along-past (player_of start) 10 0 (seat - 1) past in
+              let never : None ≡ Some player = sym none ∙ listed in absurd cc
         ]
 
 -- What holds of the streets before any act, where the first alone has begun.
@@ -418,11 +474,14 @@ sound-first start lawful =
     let small = lawful-small start lawful in
     let level : (street_after first []).level ≡ start.big =
     ap (λ (s : Street). s.level) began
-    ∙ greatest-no_more start.big (λ (bettor : Bettor). bettor.put) (seated start) (players_by_seat start) (λ player. posted-most start player small) in
-    let still_now : sum_over still (street_after first []).players ≡ sum_over (λ player. still (fresh (seated start player))) (players_by_seat start) =
+    ∙ greatest-no_more start.big (λ (bettor : Bettor). bettor.put) (seated start) (players_by_seat start)
+    (λ player. posted-most start player small) in
+    let still_now : sum_over still (street_after first []).players
+    ≡ sum_over (λ player. still (fresh (seated start player))) (players_by_seat start) =
     ap (λ (s : Street). sum_over still s.players) began ∙ sum_map still fresh first.bettors
     ∙ sum_map (λ (bettor : Bettor). still (fresh bettor)) (seated start) (players_by_seat start) in
-    let more = sum-no_more (λ player. still (fresh (seated start player))) (λ (player : StartSeat). player.stack) 2 (players_by_seat start) (λ player. omega arith) in
+    let more = sum-no_more (λ player. still (fresh (seated start player))) (λ (player : StartSeat). player.stack) 2
+    (players_by_seat start) (λ player. omega arith) in
     let chips = sum-of_start start (λ (player : StartSeat). player.stack) lawful in
     let ten : length (players_by_seat start) * 2 ≡ 20 = refl in
     record {
@@ -439,31 +498,37 @@ sound-first start lawful =
 
 -- What holds of the streets of a lawful play, after more acts that are lawful.
 sound-along : (start : HandStart) (before acts : List ActOf) → IsLawfulStart start
-    → IsSound start (streets_of (record { start = start; acts = before })) (length before) → are_lawful_after start before acts ≡ true
+    → IsSound start (streets_of (record { start = start; acts = before })) (length before)
+    → are_lawful_after start before acts ≡ true
     → IsSound start (streets_of (record { start = start; acts = before ++ acts })) (length (before ++ acts))
 sound-along start before [] lawful sound play = rw append-nil sound
 sound-along start before (act ∷ acts) lawful sound play =
     let hand : HandTerms = record { start = start; acts = before } in
-    let parts = and_parts (is_none (refusal_of_act hand act.name act.act)) (are_lawful_after start (before ++ act ∷ []) acts) play in
+    let parts = and_parts (is_none (refusal_of_act hand act.name act.act))
+    (are_lawful_after start (before ++ act ∷ []) acts) play in
     let free = nothing (refusal_of_act hand act.name act.act) parts.0 in
     let joined : (before ++ act ∷ []) ++ acts ≡ before ++ act ∷ acts = append_assoc before (act ∷ []) acts in
-    let one_more : IsSound start (streets_of (record { start = start; acts = before ++ act ∷ [] })) (length (before ++ act ∷ [])) =
+    let one_more : IsSound start (streets_of (record { start = start; acts = before ++ act ∷ [] }))
+    (length (before ++ act ∷ [])) =
     sound-one_more start before act lawful sound free in
     rw joined at (sound-along start (before ++ act ∷ []) acts lawful one_more parts.1)
   where
     by_seat : (start : HandStart) (before : List ActOf) (act : ActOf) (slot : Option ℕ) → IsLawfulStart start
         → IsSound start (streets_of (record { start = start; acts = before })) (length before)
-        → refusal_of_act (record { start = start; acts = before }) act.name act.act ≡ None → seat_of_name start act.name ≡ slot
+        → refusal_of_act (record { start = start; acts = before }) act.name act.act ≡ None
+        → seat_of_name start act.name ≡ slot
         → IsSound start (streets_of (record { start = start; acts = before ++ act ∷ [] })) (length (before ++ act ∷ []))
     by_seat start before act None lawful sound free found =
         let refused = refused-without_seat (record { start = start; acts = before }) act.name act.act found in
         let never : None ≡ Some NotDealt = sym free ∙ refused in absurd cc
     by_seat start before act (Some seat) lawful sound free found =
         let hand : HandTerms = record { start = start; acts = before } in
-        let accepted : refusal_in_seat hand act.act seat ≡ None = sym (refused-in_seat hand act.name act.act seat found) ∙ free in
+        let accepted : refusal_in_seat hand act.act seat ≡ None = sym (refused-in_seat hand act.name act.act seat found)
+        ∙ free in
         let entry : SeatAct = record { seat = seat; act = act.act } in
         let acted = sound-act start (streets_of hand) (length before) seat act.act sound accepted in
-        let dealt = sound-dealt start (with_act (streets_of hand) entry).left (with_act (streets_of hand) entry) (length before + 1) lawful acted (omega arith) in
+        let dealt = sound-dealt start (with_act (streets_of hand) entry).left (with_act (streets_of hand) entry)
+        (length before + 1) lawful acted (omega arith) in
         let count : length (before ++ act ∷ []) ≡ length before + 1 = length-append before (act ∷ []) in
         rw (streets-more start before act seat found, count) dealt
 
@@ -471,10 +536,13 @@ sound-along start before (act ∷ acts) lawful sound play =
         → IsSound start (streets_of (record { start = start; acts = before })) (length before)
         → refusal_of_act (record { start = start; acts = before }) act.name act.act ≡ None
         → IsSound start (streets_of (record { start = start; acts = before ++ act ∷ [] })) (length (before ++ act ∷ []))
-    sound-one_more start before act lawful sound free = by_seat start before act (seat_of_name start act.name) lawful sound free refl
+    sound-one_more start before act lawful sound free =
+        by_seat start before act (seat_of_name start act.name) lawful sound free refl
 
 -- What holds of the streets of every lawful play of a lawful start.
-pub sound-play : (hand : HandTerms) → IsLawfulStart hand.start → IsLawfulPlay hand → IsSound hand.start (streets_of hand) (length hand.acts)
+pub sound-play : (hand : HandTerms) → IsLawfulStart hand.start → IsLawfulPlay hand
+    → IsSound hand.start (streets_of hand) (length hand.acts)
 sound-play hand lawful play =
-    let none = sound-dealt hand.start 3 (first_streets hand.start) 0 lawful (sound-first hand.start lawful) (omega arith) in
+    let none = sound-dealt hand.start 3 (first_streets hand.start) 0 lawful (sound-first hand.start lawful)
+    (omega arith) in
     sound-along hand.start [] hand.acts lawful (rw (streets-none hand.start) none) play.acts

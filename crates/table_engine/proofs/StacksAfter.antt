@@ -1,5 +1,5 @@
 -- After a hand that is won by folds each player has a stack above 0 that is a multiple of the unit.
-use Rattle.std.proofs.Common.{◌≡◌, ◌∙◌, refl, ap, sym, ℕ, ◌+◌, ◌-◌, ◌%◌, ◌≤◌, ◌<◌, Bool, true, false, cond, List, [], ◌∷◌, map, Some, None, arith}
+use Rattle.std.proofs.Common.{◌≡◌, ◌∙◌, refl, ap, sym, ℕ, ◌+◌, ◌-◌, ◌%◌, ◌≤◌, ◌<◌, Bool, true, false, cond, List, [], ◌∷◌, Some, arith}
 use Rattle.std.specs.Prelude.{Option, ◌==◌, ◌&&◌, ◌||◌, nat_le, nat_lt, sum_by}
 use Rattle.std.specs.List.{list_all}
 use Rattle.std.specs.Option.{option_map_or}
@@ -10,15 +10,14 @@ use Rattle.std.proofs.lemmas.List.Folds.{list_all-map}
 use Rattle.std.proofs.lemmas.List.Sums.{sum_by-cons}
 use Rattle.rulebook.proofs.Tests.{list_all-both, list_all-follows}
 use Rattle.betting_round.specs.declared.bettor.Player.{Player}
-use Rattle.betting_round.specs.WhoIsDue.{player_at, player_in}
 use Rattle.table_engine.specs.declared.start.StartSeat.{StartSeat}
 use Rattle.table_engine.specs.Starts.{IsLawfulStart, have_playable_stacks, is_playable_stack}
-use Rattle.table_engine.specs.Hands.{HandTerms, behind, is_live, player_of, put_in_hand, street_of, streets_of}
+use Rattle.table_engine.specs.Hands.{HandTerms, behind, is_live, player_of, put_in_hand, street_of}
 use Rattle.table_engine.specs.Plays.{IsLawfulPlay}
 use Rattle.table_engine.specs.Results.{is_won_by_folds, players_after, pot, stack_after_hand, with_stack}
 use Rattle.table_engine.proofs.BySeat.{found-all, found-within, player_in-there}
 use Rattle.table_engine.proofs.Chips.{all-found, stands}
-use Rattle.table_engine.proofs.Sound.{IsPlayerSound, IsSound, sound-play}
+use Rattle.table_engine.proofs.Sound.{sound-play}
 use Rattle.table_engine.proofs.Units.{multiple-add, multiple-sub, multiple-sum}
 use Rattle.table_engine.proofs.WholeUnits.{playable-parts}
 
@@ -27,17 +26,22 @@ playable-from : (unit stack : ℕ) → 0 < stack → stack % unit ≡ 0 → is_p
 playable-from unit stack above whole = grind (arith, nat_tests)
 
 -- Each number is at most the sum.
-each-in_sum : (number : StartSeat → ℕ) (players : List StartSeat) → list_all (λ player. nat_le (number player) (sum_by number players)) players ≡ true
+each-in_sum : (number : StartSeat → ℕ) (players : List StartSeat)
+    → list_all (λ player. nat_le (number player) (sum_by number players)) players ≡ true
 each-in_sum number [] = refl
 each-in_sum number (player ∷ players) =
     let all = sum_by-cons number player players in
-    let here : nat_le (number player) (sum_by number (player ∷ players)) ≡ true = le-leb (number player) _ (omega arith) in
-    let later = list_all-follows (λ (other : StartSeat). nat_le (number other) (sum_by number players)) (λ (other : StartSeat). nat_le (number other) (sum_by number (player ∷ players))) players
-    (λ other within. let less = leb-true (number other) (sum_by number players) within in le-leb (number other) _ (omega arith)) (each-in_sum number players) in
+    let here : nat_le (number player) (sum_by number (player ∷ players)) ≡ true =
+    le-leb (number player) _ (omega arith) in
+    let later = list_all-follows (λ (other : StartSeat). nat_le (number other) (sum_by number players))
+    (λ (other : StartSeat). nat_le (number other) (sum_by number (player ∷ players))) players
+    (λ other within. let less = leb-true (number other) (sum_by number players) within in
+    le-leb (number other) _ (omega arith)) (each-in_sum number players) in
     and_from _ _ here later
 
 -- What a player who is found at his seat put in is a multiple of the unit.
-put-whole : (hand : HandTerms) (player : StartSeat) → IsLawfulStart hand.start → IsLawfulPlay hand → player_of hand.start player.seat ≡ Some player
+put-whole : (hand : HandTerms) (player : StartSeat) → IsLawfulStart hand.start → IsLawfulPlay hand
+    → player_of hand.start player.seat ≡ Some player
     → player.stack % hand.start.unit ≡ 0 → put_in_hand hand player % hand.start.unit ≡ 0
 put-whole hand player lawful play found whole =
     let sound = sound-play hand lawful play in
@@ -53,26 +57,32 @@ put-whole hand player lawful play found whole =
 pot-whole : (hand : HandTerms) → IsLawfulStart hand.start → IsLawfulPlay hand → pot hand % hand.start.unit ≡ 0
 pot-whole hand lawful play =
     multiple-sum hand.start.unit (put_in_hand hand) hand.start.seats
-    (all-found hand.start.seats (λ (player : StartSeat). is_playable_stack hand.start.unit player.stack) (λ player. put_in_hand hand player % hand.start.unit == 0) hand.start.seats
+    (all-found hand.start.seats (λ (player : StartSeat). is_playable_stack hand.start.unit player.stack)
+    (λ player. put_in_hand hand player % hand.start.unit == 0) hand.start.seats
     (found-all hand.start lawful)
-    (λ player found playable. tested (put_in_hand hand player % hand.start.unit) (put-whole hand player lawful play found (playable-parts hand.start.unit player.stack playable).1))
+    (λ player found playable. tested (put_in_hand hand player % hand.start.unit)
+    (put-whole hand player lawful play found (playable-parts hand.start.unit player.stack playable).1))
     lawful.stacks)
   where
     tested : (n : ℕ) → n ≡ 0 → (n == 0) ≡ true
     tested n none = grind (arith, nat_tests)
 
 -- A player who is live or has chips behind has chips after the hand: all that he put in is in the pot.
-above-after : (behind put pot stack : ℕ) (live : Bool) → (live || nat_lt 0 behind) ≡ true → behind + put ≡ stack → 0 < stack → put ≤ pot
+above-after : (behind put pot stack : ℕ) (live : Bool) → (live || nat_lt 0 behind) ≡ true → behind + put ≡ stack
+    → 0 < stack → put ≤ pot
     → 0 < behind + cond live pot 0
 above-after behind put pot stack true more all some within = omega arith
-above-after behind put pot stack false more all some within = let left : 0 < behind = grind (arith, nat_tests) in omega arith
+above-after behind put pot stack false more all some within =
+    let left : 0 < behind = grind (arith, nat_tests) in omega arith
 
-whole-after : (unit behind pot : ℕ) (live : Bool) → behind % unit ≡ 0 → pot % unit ≡ 0 → (behind + cond live pot 0) % unit ≡ 0
+whole-after : (unit behind pot : ℕ) (live : Bool) → behind % unit ≡ 0 → pot % unit ≡ 0
+    → (behind + cond live pot 0) % unit ≡ 0
 whole-after unit behind pot true first second = multiple-add unit behind pot first second
 whole-after unit behind pot false first second = multiple-add unit behind 0 first (zero-mod unit)
 
 -- After the hand a player who is found at his seat has a stack that can be played with.
-playable-after : (hand : HandTerms) (player : StartSeat) → IsLawfulStart hand.start → IsLawfulPlay hand → player_of hand.start player.seat ≡ Some player
+playable-after : (hand : HandTerms) (player : StartSeat) → IsLawfulStart hand.start → IsLawfulPlay hand
+    → player_of hand.start player.seat ≡ Some player
     → is_playable_stack hand.start.unit player.stack ≡ true → put_in_hand hand player ≤ pot hand
     → is_playable_stack hand.start.unit (stack_after_hand hand player) ≡ true
 playable-after hand player lawful play found playable within =
@@ -85,25 +95,31 @@ playable-after hand player lawful play found playable within =
     let some = (playable-parts hand.start.unit player.stack playable).0 in
     let live : is_live hand player ≡ now.bettor.live =
     ap (λ (slot : Option Player). option_map_or (λ (other : Player). other.bettor.live) slot false) his.1.there in
-    let above = above-after now.bettor.behind (put_in_hand hand player) (pot hand) player.stack now.bettor.live sound_now.more his.1.stack some within in
-    let whole = whole-after hand.start.unit now.bettor.behind (pot hand) now.bettor.live sound_now.behind (pot-whole hand lawful play) in
+    let above = above-after now.bettor.behind (put_in_hand hand player)
+    (pot hand) player.stack now.bettor.live sound_now.more his.1.stack some within in
+    let whole = whole-after hand.start.unit now.bettor.behind (pot hand) now.bettor.live sound_now.behind
+    (pot-whole hand lawful play) in
     let is : stack_after_hand hand player ≡ now.bettor.behind + cond now.bettor.live (pot hand) 0 =
     ap (λ (n : ℕ). n + cond (is_live hand player) (pot hand) 0) his.1.behind
     ∙ ap (λ (b : Bool). now.bettor.behind + cond b (pot hand) 0) live in
-    ap (is_playable_stack hand.start.unit) is ∙ playable-from hand.start.unit (now.bettor.behind + cond now.bettor.live (pot hand) 0) above whole
+    ap (is_playable_stack hand.start.unit) is ∙ playable-from hand.start.unit
+    (now.bettor.behind + cond now.bettor.live (pot hand) 0) above whole
 
--- After a lawful play of a lawful start that is won by folds each player has a stack above 0 that is a multiple of the unit.
+-- After a lawful play of a lawful start that is won by folds each player has a stack above 0 that is a multiple of the
+-- unit.
 pub stacks-playable : (hand : HandTerms) → IsLawfulStart hand.start → IsLawfulPlay hand → is_won_by_folds hand ≡ true
     → have_playable_stacks hand.start.unit (players_after hand) ≡ true
 stacks-playable hand lawful play won =
-    let made = list_all-map (λ (player : StartSeat). is_playable_stack hand.start.unit player.stack) (λ (player : StartSeat). with_stack player (stack_after_hand hand player)) hand.start.seats in
+    let made = list_all-map (λ (player : StartSeat). is_playable_stack hand.start.unit player.stack)
+    (λ (player : StartSeat). with_stack player (stack_after_hand hand player)) hand.start.seats in
     let within : StartSeat → Bool = λ player. nat_le (put_in_hand hand player) (pot hand) in
     let can_play : StartSeat → Bool = λ player. is_playable_stack hand.start.unit player.stack in
     let both = list_all-both within can_play (λ player. within player && can_play player) hand.start.seats
     (λ player first second. and_from (within player) (can_play player) first second)
     (each-in_sum (put_in_hand hand) hand.start.seats) lawful.stacks in
     made
-    ∙ all-found hand.start.seats (λ player. within player && can_play player) (λ player. is_playable_stack hand.start.unit (stack_after_hand hand player))
+    ∙ all-found hand.start.seats (λ player. within player && can_play player)
+    (λ player. is_playable_stack hand.start.unit (stack_after_hand hand player))
     hand.start.seats (found-all hand.start lawful)
     (λ player found passes.
     let parts = and_parts (within player) (can_play player) passes in

@@ -1,13 +1,9 @@
 -- How a hand stands after each step: where the next street begins, and after an act.
-use Rattle.std.proofs.Common.{◌≡◌, ◌≢◌, ◌∙◌, ℕ, zero, suc, ◌+◌, ◌-◌, ◌*◌, ◌%◌, ◌≤◌, ◌<◌, ◌^◌, Bool, true, false, cond, List, [], ◌∷◌, ◌++◌, map, Some, None, refl, ap, sym, inl, inr, arith}
-use Rattle.std.specs.Prelude.{Option, ◌==◌, ◌&&◌, nat_le, nat_lt, find, min, option_map, sum_by, reverse}
-use Rattle.std.specs.List.{list_all}
+use Rattle.std.proofs.Common.{◌≡◌, ◌≢◌, ◌∙◌, ℕ, zero, suc, ◌+◌, ◌-◌, ◌%◌, ◌≤◌, Bool, true, false, List, [], ◌∷◌, ◌++◌, map, Some, None, refl, ap, sym, arith}
+use Rattle.std.specs.Prelude.{Option, ◌==◌, ◌&&◌, nat_le, option_map, reverse}
 use Rattle.std.specs.Option.{is_some}
-use Rattle.std.proofs.lemmas.Bool.{and_parts, cases_Bool, cases_eq, leb-true}
-use Rattle.std.proofs.lemmas.Bool.Decides.{nat_tests}
+use Rattle.std.proofs.lemmas.Bool.{leb-true}
 use Rattle.std.proofs.lemmas.List.Sums.{sum_by-cons}
-use Rattle.rulebook.specs.Seats.{walk}
-use Rattle.rulebook.proofs.Tests.{find-passes}
 use Rattle.betting_round.specs.declared.bettor.Bettor.{Bettor}
 use Rattle.betting_round.specs.declared.bettor.Player.{Player}
 use Rattle.betting_round.specs.declared.street.Street.{Street}
@@ -20,42 +16,49 @@ use Rattle.betting_round.proofs.Turns.{chips-kept}
 use Rattle.std.proofs.lemmas.List.{map-append, reverse-append}
 use Rattle.table_engine.specs.declared.record.ActOf.{ActOf}
 use Rattle.table_engine.specs.declared.start.HandStart.{HandStart}
-use Rattle.table_engine.specs.declared.start.StartSeat.{StartSeat}
 use Rattle.table_engine.specs.declared.standing.Standing.{Standing}
 use Rattle.table_engine.specs.Starts.{IsLawfulStart}
-use Rattle.table_engine.specs.Hands.{HandTerms, Streets, all_dealt_on, blind_of, by_seat, dealt_on, first_streets, has_ended, lacking, later_street, player_of, players_by_seat, posted, put_on, put_so_far, seat_of_name, seated, street_now, streets_after, streets_of, with_act, with_next_street}
+use Rattle.table_engine.specs.Hands.{Streets, all_dealt_on, by_seat, dealt_on, first_streets, has_ended, later_street, put_on, put_so_far, seat_of_name, street_now, streets_after, streets_of, with_act, with_next_street}
 use Rattle.table_engine.specs.Standings.{IsAt, IsReady}
 
 -- Where a street has not ended no other begins.
-pub dealt_on-open : (start : HandStart) (left : ℕ) (streets : Streets) → has_ended (street_now streets) ≡ false → dealt_on start left streets ≡ streets
+pub dealt_on-open : (start : HandStart) (left : ℕ) (streets : Streets) → has_ended (street_now streets) ≡ false
+    → dealt_on start left streets ≡ streets
 dealt_on-open start zero streets open_ = refl
 dealt_on-open start (suc left) streets open_ = rw open_
 
 -- Where a street has ended and others may begin, the next one begins.
-pub dealt_on-ended : (start : HandStart) (left : ℕ) (streets : Streets) → 1 ≤ left → has_ended (street_now streets) ≡ true → dealt_on start left streets ≡ dealt_on start (left - 1) (with_next_street start streets)
+pub dealt_on-ended : (start : HandStart) (left : ℕ) (streets : Streets) → 1 ≤ left
+    → has_ended (street_now streets) ≡ true → dealt_on start left streets
+    ≡ dealt_on start (left - 1) (with_next_street start streets)
 dealt_on-ended start zero streets some ended = absurd (omega arith)
 dealt_on-ended start (suc left) streets some ended = let one : suc left - 1 ≡ left = omega arith in rw (ended, one)
 
 -- Somebody is in each slot of a table that is made of another where somebody is in that.
-pub somes-made : {A B : Type 0} (f : A → B) (slots : List (Option A)) → map is_some (map (option_map f) slots) ≡ map is_some slots
+pub somes-made : {A B : Type 0} (f : A → B) (slots : List (Option A))
+    → map is_some (map (option_map f) slots) ≡ map is_some slots
 somes-made f [] = refl
 somes-made f (None ∷ slots) = ap (λ rest. false ∷ rest) (somes-made f slots)
 somes-made f (Some item ∷ slots) = ap (λ rest. true ∷ rest) (somes-made f slots)
 
 -- Somebody is in each slot of a street where one began it.
-pub somes-street : (start : StreetStart) (acts : List SeatAct) → map is_some (street_after start acts).players ≡ map is_some start.bettors
+pub somes-street : (start : StreetStart) (acts : List SeatAct)
+    → map is_some (street_after start acts).players ≡ map is_some start.bettors
 unfolding street_after
 somes-street start acts = somes-made (player_after start acts) start.bettors
 
 -- Players keep their seats in a table that is made of one that is made of theirs.
-seated-made : (f : Bettor → Player) (from : ℕ) (bettors : List (Option Bettor)) → ((bettor : Bettor) → (f bettor).bettor.seat ≡ bettor.seat) → AreSeated from bettors
+seated-made : (f : Bettor → Player) (from : ℕ) (bettors : List (Option Bettor))
+    → ((bettor : Bettor) → (f bettor).bettor.seat ≡ bettor.seat) → AreSeated from bettors
     → AreSeated from (map (option_map at_next_street) (map (option_map f) bettors))
 seated-made f from [] keeps seats = tt
 seated-made f from (None ∷ bettors) keeps seats = seated-made f (from + 1) bettors keeps seats
-seated-made f from (Some bettor ∷ bettors) keeps seats = (keeps bettor ∙ seats.0, seated-made f (from + 1) bettors keeps seats.1)
+seated-made f from (Some bettor ∷ bettors) keeps seats =
+    (keeps bettor ∙ seats.0, seated-made f (from + 1) bettors keeps seats.1)
 
 -- The players of a street sit in their seats when the next one begins.
-pub seated-next : (start : StreetStart) (acts : List SeatAct) → AreSeated 1 start.bettors → AreSeated 1 (next_bettors (street_after start acts))
+pub seated-next : (start : StreetStart) (acts : List SeatAct) → AreSeated 1 start.bettors
+    → AreSeated 1 (next_bettors (street_after start acts))
 unfolding street_after
 seated-next start acts seats = seated-made (player_after start acts) 1 start.bettors (λ bettor. refl) seats
 
@@ -67,18 +70,22 @@ chips-start start =
 -- The chips of a street are what was put in and what is behind.
 chips-parts : (street : Street) → chips_on street ≡ put_by_all street + sum_over chips_of (next_bettors street)
 chips-parts street =
-    let both = sum_both (λ (player : Player). player.bettor.put) (λ (player : Player). player.bettor.behind) street.players in
+    let both = sum_both (λ (player : Player). player.bettor.put)
+    (λ (player : Player). player.bettor.behind) street.players in
     let next = sum_map chips_of at_next_street street.players in
     let none = behind-only street.players in
     both ∙ omega arith
   where
-    behind-only : (players : List (Option Player)) → sum_over (λ (player : Player). chips_of (at_next_street player)) players ≡ sum_over (λ (player : Player). player.bettor.behind) players
+    behind-only : (players : List (Option Player)) → sum_over
+        (λ (player : Player). chips_of (at_next_street player)) players
+        ≡ sum_over (λ (player : Player). player.bettor.behind) players
     behind-only [] = refl
     behind-only (None ∷ players) = behind-only players
     behind-only (Some player ∷ players) = let later = behind-only players in omega arith
 
 -- Four tests that hold together with a fifth hold.
-four-hold : (one two three four five : Bool) → (one && (two && (three && (four && five)))) ≡ true → (one ≡ true) × (two ≡ true) × (three ≡ true) × (four ≡ true)
+four-hold : (one two three four five : Bool) → (one && (two && (three && (four && five)))) ≡ true
+    → (one ≡ true) × (two ≡ true) × (three ≡ true) × (four ≡ true)
 four-hold false two three four five all = absurd cc
 four-hold true false three four five all = absurd cc
 four-hold true true false four five all = absurd cc
@@ -86,9 +93,12 @@ four-hold true true true false five all = absurd cc
 four-hold true true true true five all = (refl, refl, refl, refl)
 
 -- The blinds and the unit of a lawful start.
-lawful-tests : (start : HandStart) → IsLawfulStart start → (nat_le 1 start.unit ≡ true) × (nat_le 1 start.small ≡ true) × (nat_le start.small start.big ≡ true) × (nat_le start.big 1000000000 ≡ true)
+lawful-tests : (start : HandStart) → IsLawfulStart start
+    → (nat_le 1 start.unit ≡ true) × (nat_le 1 start.small ≡ true) × (nat_le start.small start.big ≡ true) ×
+    (nat_le start.big 1000000000 ≡ true)
 lawful-tests start lawful =
-    four-hold (nat_le 1 start.unit) (nat_le 1 start.small) (nat_le start.small start.big) (nat_le start.big 1000000000) (start.small % start.unit == 0 && start.big % start.unit == 0) lawful.blinds
+    four-hold (nat_le 1 start.unit) (nat_le 1 start.small) (nat_le start.small start.big) (nat_le start.big 1000000000)
+    (start.small % start.unit == 0 && start.big % start.unit == 0) lawful.blinds
 
 pub lawful-big : (start : HandStart) → IsLawfulStart start → start.big ≤ 1000000000
 lawful-big start lawful = leb-true start.big 1000000000 (lawful-tests start lawful).3
@@ -100,7 +110,8 @@ pub lawful-unit : (start : HandStart) → IsLawfulStart start → 1 ≤ start.un
 lawful-unit start lawful = leb-true 1 start.unit (lawful-tests start lawful).0
 
 -- The next street may begin where the hand is ready for it.
-pub right-next : (start : HandStart) (standing : Standing) (counted : ℕ) → IsLawfulStart start → IsReady standing → counted ≡ standing.before + put_by_all standing.round
+pub right-next : (start : HandStart) (standing : Standing) (counted : ℕ) → IsLawfulStart start → IsReady standing
+    → counted ≡ standing.before + put_by_all standing.round
     → IsStreetStart (street_start (next_bettors standing.round) start.marks.button 0 start.big start.unit counted)
 right-next start standing counted lawful ready is =
     let parts = chips-parts standing.round in
@@ -110,22 +121,28 @@ right-next start standing counted lawful ready is =
     record { seated = ready.seated; chips = omega arith; opening = omega arith; big = omega arith; unit = omega arith }
 
 -- A hand on a street that has just begun is ready for the next.
-pub ready-start : (start : StreetStart) (standing : Standing) → IsStreetStart start → standing.round ≡ street_after start [] → standing.before ≤ start.counted → IsReady standing
+pub ready-start : (start : StreetStart) (standing : Standing) → IsStreetStart start
+    → standing.round ≡ street_after start [] → standing.before ≤ start.counted → IsReady standing
 ready-start start standing right is before =
     let chips = ap chips_on is ∙ chips-start start in
     let few = right.chips in
     record { seated = rw is (seated-next start [] right.seated); chips = omega arith }
 
 -- The hand stands on its streets and the next.
-pub at-next : (start : HandStart) (streets : Streets) (standing after : Standing) → IsLawfulStart start → IsReady standing → 1 ≤ standing.left → IsAt streets standing
-    → after.round ≡ street_after (street_start (next_bettors standing.round) start.marks.button 0 start.big start.unit (standing.before + put_by_all standing.round)) []
-    → after.before ≡ standing.before + put_by_all standing.round → after.left ≡ standing.left - 1 → IsAt (with_next_street start streets) after
+pub at-next : (start : HandStart) (streets : Streets) (standing after : Standing) → IsLawfulStart start
+    → IsReady standing → 1 ≤ standing.left → IsAt streets standing
+    → after.round ≡ street_after (street_start (next_bettors standing.round) start.marks.button 0 start.big start.unit
+    (standing.before + put_by_all standing.round)) []
+    → after.before ≡ standing.before + put_by_all standing.round → after.left ≡ standing.left - 1
+    → IsAt (with_next_street start streets) after
 at-next start streets standing after lawful ready some at round before left =
     let put : put_by_all standing.round ≡ put_on streets.last = ap put_by_all at.round in
     let all = sum_by-cons put_on streets.last streets.before in
-    let counted : standing.before + put_by_all standing.round ≡ put_so_far streets = let was = at.before in omega arith in
+    let counted : standing.before + put_by_all standing.round ≡ put_so_far streets = let was = at.before in
+    omega arith in
     let bettors = ap next_bettors at.round in
-    let same : street_start (next_bettors standing.round) start.marks.button 0 start.big start.unit (standing.before + put_by_all standing.round) ≡ later_street start streets = rw (bettors, counted) in
+    let same : street_start (next_bettors standing.round) start.marks.button 0 start.big start.unit
+    (standing.before + put_by_all standing.round) ≡ later_street start streets = rw (bettors, counted) in
     record {
       round = round ∙ ap (λ (s : StreetStart). street_after s []) same;
       before = before ∙ counted ∙ sym all;
@@ -135,14 +152,17 @@ at-next start streets standing after lawful ready some at round before left =
 
 -- The hand stands on its streets after an act that is not refused.
 pub at-act : (streets : Streets) (standing after : Standing) (seat : ℕ) (act : Act) → IsAt streets standing
-    → after.round ≡ street_after streets.last.start (record { seat = seat; act = act } ∷ streets.last.acts) → after.before ≡ standing.before → after.left ≡ standing.left
+    → after.round ≡ street_after streets.last.start (record { seat = seat; act = act } ∷ streets.last.acts)
+    → after.before ≡ standing.before → after.left ≡ standing.left
     → IsAt (with_act streets (record { seat = seat; act = act })) after
 at-act streets standing after seat act at round before left =
     record { round = round; before = before ∙ at.before; left = left ∙ at.left; right = at.right }
 
 -- The hand is ready for the next street after an act that is not refused.
-pub ready-act : (limits : Limits) (streets : Streets) (standing after : Standing) (seat : ℕ) (act : Act) → IsAt streets standing → IsReady standing → act_refusal limits standing.round seat act ≡ None
-    → after.round ≡ street_after streets.last.start (record { seat = seat; act = act } ∷ streets.last.acts) → after.before ≡ standing.before → IsReady after
+pub ready-act : (limits : Limits) (streets : Streets) (standing after : Standing) (seat : ℕ) (act : Act)
+    → IsAt streets standing → IsReady standing → act_refusal limits standing.round seat act ≡ None
+    → after.round ≡ street_after streets.last.start (record { seat = seat; act = act } ∷ streets.last.acts)
+    → after.before ≡ standing.before → IsReady after
 ready-act limits streets standing after seat act at ready accepted round before =
     let entry : SeatAct = record { seat = seat; act = act } in
     let free : act_refusal limits (street_now streets) seat act ≡ None = rw (← at.round) accepted in
@@ -150,11 +170,17 @@ ready-act limits streets standing after seat act at ready accepted round before 
     let was = ap chips_on at.round in
     let now = ap chips_on round in
     let few = ready.chips in
-    record { seated = rw round (seated-next streets.last.start (entry ∷ streets.last.acts) at.right.seated); chips = omega arith }
+    record {
+      seated = rw round (seated-next streets.last.start (entry ∷ streets.last.acts) at.right.seated);
+      chips =
+          omega arith;
+    }
 
 -- Somebody is in each slot after an act where one was before it.
-pub there-act : (streets : Streets) (standing : Standing) (after : Street) (seat : ℕ) (act : Act) → IsAt streets standing
-    → after ≡ street_after streets.last.start (record { seat = seat; act = act } ∷ streets.last.acts) → map is_some after.players ≡ map is_some standing.round.players
+pub there-act : (streets : Streets) (standing : Standing) (after : Street) (seat : ℕ) (act : Act)
+    → IsAt streets standing
+    → after ≡ street_after streets.last.start (record { seat = seat; act = act } ∷ streets.last.acts)
+    → map is_some after.players ≡ map is_some standing.round.players
 there-act streets standing after seat act at round =
     ap (λ (s : Street). map is_some s.players) round
     ∙ somes-street streets.last.start (record { seat = seat; act = act } ∷ streets.last.acts)
@@ -167,24 +193,32 @@ unfolding streets_after
 streets-none start = refl
 
 -- The streets of a hand after one more act.
-pub streets-more : (start : HandStart) (acts : List ActOf) (act : ActOf) (seat : ℕ) → seat_of_name start act.name ≡ Some seat
-    → streets_of (record { start = start; acts = acts ++ act ∷ [] }) ≡ all_dealt_on start (with_act (streets_of (record { start = start; acts = acts })) (record { seat = seat; act = act.act }))
+pub streets-more : (start : HandStart) (acts : List ActOf) (act : ActOf) (seat : ℕ)
+    → seat_of_name start act.name ≡ Some seat
+    → streets_of (record { start = start; acts = acts ++ act ∷ [] })
+    ≡ all_dealt_on start (with_act (streets_of (record { start = start; acts = acts }))
+    (record { seat = seat; act = act.act }))
 unfolding streets_after
 streets-more start acts act seat found =
     let made = map-append (by_seat start) acts (act ∷ []) in
     let turned = reverse-append (map (by_seat start) acts) (by_seat start act ∷ []) in
     let entry : by_seat start act ≡ record { seat = seat; act = act.act } = rw found in
-    let list : reverse (map (by_seat start) (acts ++ act ∷ [])) ≡ record { seat = seat; act = act.act } ∷ reverse (map (by_seat start) acts) = ap reverse made ∙ turned ∙ ap (λ e. e ∷ reverse (map (by_seat start) acts)) entry in
+    let list : reverse (map (by_seat start) (acts ++ act ∷ []))
+    ≡ record { seat = seat; act = act.act } ∷ reverse (map (by_seat start) acts) = ap reverse made ∙ turned
+    ∙ ap (λ e. e ∷ reverse (map (by_seat start) acts)) entry in
     ap (streets_after start) list
 
 -- A hand whose street has not ended stands on the same streets.
-pub at-open : (start : HandStart) (streets : Streets) (standing : Standing) → has_ended standing.round ≡ false → IsAt streets standing → IsAt (dealt_on start standing.left streets) standing
+pub at-open : (start : HandStart) (streets : Streets) (standing : Standing) → has_ended standing.round ≡ false
+    → IsAt streets standing → IsAt (dealt_on start standing.left streets) standing
 at-open start streets standing open_ at =
     let same = dealt_on-open start standing.left streets (ap has_ended (sym at.round) ∙ open_) in rw same at
 
 -- A hand whose street has ended stands on the streets that begin after the next.
-pub at-ended : (start : HandStart) (streets : Streets) (standing next after : Standing) → standing.left ≢ 0 → has_ended standing.round ≡ true → next.left + 1 ≡ standing.left → IsAt streets standing
-    → IsAt (dealt_on start next.left (with_next_street start streets)) after → IsAt (dealt_on start standing.left streets) after
+pub at-ended : (start : HandStart) (streets : Streets) (standing next after : Standing) → standing.left ≢ 0
+    → has_ended standing.round ≡ true → next.left + 1 ≡ standing.left → IsAt streets standing
+    → IsAt (dealt_on start next.left (with_next_street start streets)) after
+    → IsAt (dealt_on start standing.left streets) after
 at-ended start streets standing next after some ended left at rest =
     let same = dealt_on-ended start standing.left streets (omega arith) (ap has_ended (sym at.round) ∙ ended) in
     let one : standing.left - 1 ≡ next.left = omega arith in

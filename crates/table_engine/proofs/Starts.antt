@@ -1,32 +1,39 @@
 -- The first street of a hand that starts lawfully.
-use Rattle.std.proofs.Common.{◌≡◌, ◌∙◌, ℕ, zero, suc, ◌+◌, ◌-◌, ◌*◌, ◌≤◌, ◌<◌, ◌^◌, Bool, true, List, [], ◌∷◌, map, Some, None, refl, ap, sym, arith}
-use Rattle.std.specs.Prelude.{Option, ◌==◌, ◌&&◌, nat_le, find, option_map, sum_by}
+use Rattle.std.proofs.Common.{◌≡◌, ℕ, zero, suc, ◌+◌, ◌*◌, ◌≤◌, ◌^◌, true, List, [], ◌∷◌, map, Some, None, refl, arith}
+use Rattle.std.specs.Prelude.{Option, ◌==◌, nat_le, option_map, sum_by}
 use Rattle.std.specs.List.{list_all}
 use Rattle.std.proofs.lemmas.Bool.{and_from, leb-true, le-leb, eqb-true}
 use Rattle.std.proofs.lemmas.Bool.Decides.{nat_tests}
 use Rattle.std.proofs.lemmas.List.Sums.{sum_by-cons}
 use Rattle.rulebook.specs.Seats.{walk}
 use Rattle.rulebook.proofs.Tests.{find-all, find-passes, list_all-follows}
-use Rattle.betting_round.specs.declared.bettor.Bettor.{Bettor}
 use Rattle.betting_round.specs.StreetActs.{AreSeated, IsStreetStart, chips_of, sum_over}
 use Rattle.betting_round.proofs.Steps.{sum_map}
 use Rattle.table_engine.specs.declared.start.HandStart.{HandStart}
 use Rattle.table_engine.specs.declared.start.StartSeat.{StartSeat}
 use Rattle.table_engine.specs.Starts.{IsLawfulStart}
-use Rattle.table_engine.specs.Hands.{blind_of, first_street, lacking, player_of, players_by_seat, posted, seated}
+use Rattle.table_engine.specs.Hands.{blind_of, first_street, lacking, player_of, players_by_seat, seated}
 use Rattle.table_engine.proofs.Standings.{lawful-big, lawful-small, lawful-unit}
 
 -- Who is found at a seat sits there.
-pub player_of-seat : (start : HandStart) (seat : ℕ) (player : StartSeat) → player_of start seat ≡ Some player → player.seat ≡ seat
-player_of-seat start seat player found = eqb-true player.seat seat (find-passes (λ (other : StartSeat). other.seat == seat) start.seats player found)
+pub player_of-seat : (start : HandStart) (seat : ℕ) (player : StartSeat) → player_of start seat ≡ Some player
+    → player.seat ≡ seat
+player_of-seat start seat player found = eqb-true player.seat seat
+    (find-passes (λ (other : StartSeat). other.seat == seat) start.seats player found)
 
 -- Players who are listed by the seats in which they sit sit in the seats of their places in the list.
-seated-by_seat : (start : HandStart) (steps from : ℕ) → AreSeated (from + 1) (map (option_map (seated start)) (map (player_of start) (walk (λ seat. seat + 1) steps from)))
+seated-by_seat : (start : HandStart) (steps from : ℕ)
+    → AreSeated (from + 1) (map (option_map (seated start))
+    (map (player_of start) (walk (λ seat. seat + 1) steps from)))
 seated-by_seat start zero from = tt
-seated-by_seat start (suc steps) from = by_slot (player_of start (from + 1)) refl (seated-by_seat start steps (from + 1))
+seated-by_seat start (suc steps) from = by_slot (player_of start (from + 1)) refl
+    (seated-by_seat start steps (from + 1))
   where
-    by_slot : (slot : Option StartSeat) → player_of start (from + 1) ≡ slot → AreSeated (from + 1 + 1) (map (option_map (seated start)) (map (player_of start) (walk (λ seat. seat + 1) steps (from + 1))))
-        → AreSeated (from + 1) (option_map (seated start) slot ∷ map (option_map (seated start)) (map (player_of start) (walk (λ seat. seat + 1) steps (from + 1))))
+    by_slot : (slot : Option StartSeat) → player_of start (from + 1) ≡ slot
+        → AreSeated (from + 1 + 1) (map (option_map (seated start))
+        (map (player_of start) (walk (λ seat. seat + 1) steps (from + 1))))
+        → AreSeated (from + 1) (option_map (seated start) slot ∷ map (option_map (seated start))
+        (map (player_of start) (walk (λ seat. seat + 1) steps (from + 1))))
     by_slot None is later = later
     by_slot (Some player) is later = (player_of-seat start (from + 1) player is, later)
 
@@ -34,41 +41,56 @@ one_more : (steps most : ℕ) → suc steps * most ≡ steps * most + most
 one_more steps most = grind arith
 
 -- The numbers of those at some seats sum to no more than the most for each seat.
-sum-by_seat : (start : HandStart) (number : StartSeat → ℕ) (most steps from : ℕ) → ((seat : ℕ) (player : StartSeat) → player_of start seat ≡ Some player → number player ≤ most)
+sum-by_seat : (start : HandStart) (number : StartSeat → ℕ) (most steps from : ℕ)
+    → ((seat : ℕ) (player : StartSeat) → player_of start seat ≡ Some player → number player ≤ most)
     → sum_over number (map (player_of start) (walk (λ seat. seat + 1) steps from)) ≤ steps * most
 sum-by_seat start number most zero from each = omega arith
-sum-by_seat start number most (suc steps) from each = by_slot (player_of start (from + 1)) refl (sum-by_seat start number most steps (from + 1) each)
+sum-by_seat start number most (suc steps) from each =
+    by_slot (player_of start (from + 1)) refl (sum-by_seat start number most steps (from + 1) each)
   where
-    by_slot : (slot : Option StartSeat) → player_of start (from + 1) ≡ slot → sum_over number (map (player_of start) (walk (λ seat. seat + 1) steps (from + 1))) ≤ steps * most
+    by_slot : (slot : Option StartSeat) → player_of start (from + 1) ≡ slot
+        → sum_over number (map (player_of start) (walk (λ seat. seat + 1) steps (from + 1))) ≤ steps * most
         → sum_over number (slot ∷ map (player_of start) (walk (λ seat. seat + 1) steps (from + 1))) ≤ suc steps * most
     by_slot None is later = let more = one_more steps most in omega arith
-    by_slot (Some player) is later = let here = each (from + 1) player is in let more = one_more steps most in omega arith
+    by_slot (Some player) is later =
+        let here = each (from + 1) player is in let more = one_more steps most in omega arith
 
 -- Each number is at most the sum.
-each-in_sum : (players : List StartSeat) → list_all (λ player. nat_le player.stack (sum_by (λ (other : StartSeat). other.stack) players)) players ≡ true
+each-in_sum : (players : List StartSeat) → list_all
+    (λ player. nat_le player.stack (sum_by (λ (other : StartSeat). other.stack) players)) players ≡ true
 each-in_sum [] = refl
 each-in_sum (player ∷ players) =
     let all = sum_by-cons (λ (other : StartSeat). other.stack) player players in
-    let here : nat_le player.stack (sum_by (λ (other : StartSeat). other.stack) (player ∷ players)) ≡ true = le-leb player.stack _ (omega arith) in
-    let later = list_all-follows (λ (other : StartSeat). nat_le other.stack (sum_by (λ (o : StartSeat). o.stack) players)) (λ (other : StartSeat). nat_le other.stack (sum_by (λ (o : StartSeat). o.stack) (player ∷ players))) players
-    (λ other within. let less = leb-true other.stack (sum_by (λ (o : StartSeat). o.stack) players) within in le-leb other.stack _ (omega arith)) (each-in_sum players) in
+    let here : nat_le player.stack (sum_by (λ (other : StartSeat). other.stack) (player ∷ players)) ≡ true =
+    le-leb player.stack _ (omega arith) in
+    let later = list_all-follows (λ (other : StartSeat). nat_le other.stack
+    (sum_by (λ (o : StartSeat). o.stack) players))
+    (λ (other : StartSeat). nat_le other.stack (sum_by (λ (o : StartSeat). o.stack) (player ∷ players))) players
+    (λ other within. let less = leb-true other.stack (sum_by (λ (o : StartSeat). o.stack) players) within in
+    le-leb other.stack _ (omega arith)) (each-in_sum players) in
     and_from _ _ here later
 
 -- A blind is no greater than the greatest amount.
 blind-most : (start : HandStart) (seat : ℕ) → IsLawfulStart start → blind_of start seat ≤ 1000000000
-blind-most start seat lawful = let big = lawful-big start lawful in let small = lawful-small start lawful in grind (arith, nat_tests)
+blind-most start seat lawful =
+    let big = lawful-big start lawful in let small = lawful-small start lawful in grind (arith, nat_tests)
 
 -- The chips of all who are dealt in are far from the end of their type.
-pub few-lacking : (start : HandStart) → IsLawfulStart start → sum_over (lacking start) (players_by_seat start) ≤ 10000000000
+pub few-lacking : (start : HandStart) → IsLawfulStart start
+    → sum_over (lacking start) (players_by_seat start) ≤ 10000000000
 few-lacking start lawful =
-    sum-by_seat start (lacking start) 1000000000 10 0 (λ seat player found. let most = blind-most start player.seat lawful in omega arith)
+    sum-by_seat start (lacking start) 1000000000 10 0
+    (λ seat player found. let most = blind-most start player.seat lawful in omega arith)
 
-few-stacks : (start : HandStart) → IsLawfulStart start → sum_over chips_of (map (option_map (seated start)) (players_by_seat start)) ≤ 10 * 2 ^ 53
+few-stacks : (start : HandStart) → IsLawfulStart start
+    → sum_over chips_of (map (option_map (seated start)) (players_by_seat start)) ≤ 10 * 2 ^ 53
 few-stacks start lawful =
     let made = sum_map chips_of (seated start) (players_by_seat start) in
     let few = lawful.chips in
     let most = sum-by_seat start (λ player. chips_of (seated start player)) (2 ^ 53) 10 0 (λ seat player found.
-    let stack = leb-true player.stack _ (find-all (λ (other : StartSeat). other.seat == seat) (λ (other : StartSeat). nat_le other.stack (sum_by (λ (o : StartSeat). o.stack) start.seats)) start.seats player found (each-in_sum start.seats)) in
+    let stack = leb-true player.stack _ (find-all (λ (other : StartSeat). other.seat == seat)
+    (λ (other : StartSeat). nat_le other.stack (sum_by
+    (λ (o : StartSeat). o.stack) start.seats)) start.seats player found (each-in_sum start.seats)) in
     omega arith) in
     omega arith
 
@@ -79,4 +101,11 @@ right-first start lawful =
     let stacks = few-stacks start lawful in
     let big = lawful-big start lawful in
     let unit = lawful-unit start lawful in
-    record { seated = seated-by_seat start 10 0; chips = omega arith; opening = omega arith; big = omega arith; unit = omega arith }
+    record {
+      seated = seated-by_seat start 10 0;
+      chips = omega arith;
+      opening = omega arith;
+      big = omega arith;
+      unit =
+          omega arith;
+    }

@@ -10,7 +10,8 @@ use Rattle.std.proofs.lemmas.List.Sums.{sum_by-cons}
 -- A multiple in front of a number changes nothing of what is left of it.
 multiple-front : (unit front rest : ℕ) → front % unit ≡ 0 → (front + rest) % unit ≡ rest % unit
 multiple-front unit front rest multiple =
-    let whole : unit * (front / unit) ≡ front = sym (add-zero _) ∙ ap (λ (n : ℕ). unit * (front / unit) + n) (sym multiple) ∙ div-add-mod front unit in
+    let whole : unit * (front / unit) ≡ front = sym (add-zero _)
+    ∙ ap (λ (n : ℕ). unit * (front / unit) + n) (sym multiple) ∙ div-add-mod front unit in
     ap (λ (n : ℕ). (n + rest) % unit) (sym whole) ∙ mul-add-mod_self_left unit (front / unit) rest
 
 -- The sum of two multiples is one.
@@ -32,7 +33,8 @@ multiple-min unit one other first second =
     ]
 
 -- The sum of multiples is one.
-pub multiple-sum : {X : Type 0} (unit : ℕ) (f : X → ℕ) (xs : List X) → list_all (λ x. f x % unit == 0) xs ≡ true → sum_by f xs % unit ≡ 0
+pub multiple-sum : {X : Type 0} (unit : ℕ) (f : X → ℕ) (xs : List X) → list_all (λ x. f x % unit == 0) xs ≡ true
+    → sum_by f xs % unit ≡ 0
 multiple-sum unit f [] each = zero-mod unit
 multiple-sum unit f (x ∷ xs) each =
     let parts = and_parts (f x % unit == 0) (list_all (λ y. f y % unit == 0) xs) each in
@@ -44,7 +46,8 @@ pub sum-above : {X : Type 0} (f : X → ℕ) (xs : List X) → list_any (λ x. n
 sum-above f [] some = absurd cc
 sum-above f (x ∷ xs) some = rw (sum_by-cons f x xs) (by_first (nat_lt 0 (f x)) refl (λ later. sum-above f xs later))
   where
-    by_first : (above : Bool) → nat_lt 0 (f x) ≡ above → (list_any (λ y. nat_lt 0 (f y)) xs ≡ true → 0 < sum_by f xs) → 0 < f x + sum_by f xs
+    by_first : (above : Bool) → nat_lt 0 (f x) ≡ above → (list_any (λ y. nat_lt 0 (f y)) xs ≡ true → 0 < sum_by f xs)
+        → 0 < f x + sum_by f xs
     by_first true is later = let above : 0 < f x = grind (arith, nat_tests) in omega arith
     by_first false is later = let rest = later (rw is at some) in omega arith
 

@@ -1,6 +1,6 @@
 -- What is put in and what is behind are multiples of the unit.
-use Rattle.std.proofs.Common.{◌≡◌, ◌∙◌, ℕ, ◌+◌, ◌-◌, ◌%◌, ◌≤◌, ◌<◌, Bool, true, false, List, Some, None, refl, ap, sym, inl, inr, arith}
-use Rattle.std.specs.Prelude.{◌==◌, ◌&&◌, min, nat_le, nat_lt, not}
+use Rattle.std.proofs.Common.{◌≡◌, ℕ, ◌+◌, ◌-◌, ◌%◌, ◌≤◌, ◌<◌, Bool, true, false, Some, refl, inl, inr, arith}
+use Rattle.std.specs.Prelude.{◌==◌, ◌&&◌, nat_le, nat_lt, not}
 use Rattle.std.proofs.Math.Nat.{zero-mod}
 use Rattle.std.proofs.lemmas.Bool.{and_parts, cases_Bool, cases_lt}
 use Rattle.std.proofs.lemmas.Bool.Decides.{nat_tests}
@@ -9,13 +9,12 @@ use Rattle.rulebook.proofs.Tests.{find-all}
 use Rattle.betting_round.specs.declared.act.Act.{Act}
 use Rattle.betting_round.specs.declared.act.Act.TheVariants.{Fold, Check, Call, AllIn, Bet, Raise}
 use Rattle.betting_round.specs.declared.bettor.Player.{Player}
-use Rattle.betting_round.specs.declared.facing.Facing.{Facing}
 use Rattle.betting_round.specs.declared.street.Street.{Street}
 use Rattle.betting_round.specs.ActChecks.{act_checks}
 use Rattle.betting_round.specs.Limits.{Limits}
 use Rattle.betting_round.specs.Running.{amount_of}
 use Rattle.betting_round.proofs.Acted.{Acts, facing_of}
-use Rattle.level_plan.specs.Items.{is_blind, greatest_amount}
+use Rattle.level_plan.specs.Items.{greatest_amount}
 use Rattle.table_engine.specs.declared.start.HandStart.{HandStart}
 use Rattle.table_engine.specs.declared.start.StartSeat.{StartSeat}
 use Rattle.table_engine.specs.Starts.{IsLawfulStart, is_playable_stack}
@@ -26,7 +25,8 @@ is-whole : (n unit : ℕ) → not (not (n % unit == 0)) ≡ true → n % unit �
 is-whole n unit so = grind (arith, nat_tests)
 
 -- Of tests that all hold the fifth holds.
-fifth-holds : (one two three four five rest : Bool) → (one && (two && (three && (four && (five && rest))))) ≡ true → five ≡ true
+fifth-holds : (one two three four five rest : Bool) → (one && (two && (three && (four && (five && rest))))) ≡ true
+    → five ≡ true
 fifth-holds false two three four five rest all = absurd cc
 fifth-holds true false three four five rest all = absurd cc
 fifth-holds true true false four five rest all = absurd cc
@@ -35,7 +35,8 @@ fifth-holds true true true true false rest all = absurd cc
 fifth-holds true true true true true rest all = refl
 
 -- What an act that is not refused puts in is a multiple of the unit where all else is.
-pub amount-whole : (limits : Limits) (street : Street) (seat : ℕ) (act : Act) (now : Player) → Acts limits street seat act now
+pub amount-whole : (limits : Limits) (street : Street) (seat : ℕ) (act : Act) (now : Player)
+    → Acts limits street seat act now
     → street.level % street.unit ≡ 0 → now.bettor.put % street.unit ≡ 0 → now.bettor.behind % street.unit ≡ 0
     → now.bettor.put ≤ street.level → amount_of street.level now act % street.unit ≡ 0
 amount-whole limits street seat Fold now acts level put behind met = zero-mod street.unit
@@ -95,11 +96,13 @@ playable-parts unit stack playable =
     (above, whole)
 
 -- The stack of who is found at a seat of a lawful start can be played with.
-pub found-playable : (start : HandStart) (seat : ℕ) (player : StartSeat) → IsLawfulStart start → player_of start seat ≡ Some player
+pub found-playable : (start : HandStart) (seat : ℕ) (player : StartSeat) → IsLawfulStart start
+    → player_of start seat ≡ Some player
     → (0 < player.stack) × (player.stack % start.unit ≡ 0)
 found-playable start seat player lawful found =
     playable-parts start.unit player.stack
-    (find-all (λ (other : StartSeat). other.seat == seat) (λ (other : StartSeat). is_playable_stack start.unit other.stack)
+    (find-all (λ (other : StartSeat). other.seat == seat)
+    (λ (other : StartSeat). is_playable_stack start.unit other.stack)
     start.seats player found lawful.stacks)
 
 -- A blind is a multiple of the unit.

@@ -1,5 +1,5 @@
 -- How a hand stands, and which streets it stands for.
-use Rattle.std.specs.Prelude.{◌≡◌, ◌+◌, ◌<◌, ◌^◌, ℕ, sum_by}
+use Rattle.std.specs.Prelude.{◌≡◌, ◌+◌, ◌<◌, ◌^◌, sum_by}
 use Rattle.betting_round.specs.StreetActs.{AreSeated, IsStreetStart, chips_on, next_bettors}
 use Rattle.table_engine.specs.declared.standing.Standing.{Standing}
 use Rattle.table_engine.specs.Hands.{Streets, put_on, street_now}

@@ -5,8 +5,8 @@
 //! just by `refusal_of_act`, `time` by `refusal_of_time`), and ends by `finish`, whose record is a complete play of its
 //! start, or by `void`, which gives its start back. So far a hand is finished where it is won by folds.
 //!
-//! Laws of every lawful play: `chips_of_a_hand` at each moment, `acts_of_a_hand`, `turns_of_a_hand`, `levels_of_a_hand`,
-//! `length_of_a_hand`, and `players_of_a_hand` of the players and their stacks after it.
+//! Laws of every lawful play: `chips_of_a_hand` at each moment, `acts_of_a_hand`, `turns_of_a_hand`,
+//! `levels_of_a_hand`, `length_of_a_hand`, and `players_of_a_hand` of the players and their stacks after it.
 #![tactic(auto)]
 
 mod hand;

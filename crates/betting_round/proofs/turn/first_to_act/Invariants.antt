@@ -8,4 +8,5 @@ use Rattle.betting_round.proofs.turn.first_to_act.Given as goal
 abbrev pub invariant-loop-step : goal.invariant-loop-step
 invariant-loop-step l =
     find (λ seat. is_there (may_be_due l.level) (player_at l.players seat)) (clockwise_after l.fn.seats l.fn.after)
-    ≡ find (λ seat. is_there (may_be_due l.level) (player_at l.players seat)) (walk (seat_after l.fn.seats) (l.fn.seats - l._step) l.seat)
+    ≡ find (λ seat. is_there (may_be_due l.level) (player_at l.players seat))
+    (walk (seat_after l.fn.seats) (l.fn.seats - l._step) l.seat)

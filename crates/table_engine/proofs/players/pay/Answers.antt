@@ -8,9 +8,13 @@ use Rattle.table_engine.proofs.players.pay.Goals as goal
 pub loop-index-preserved : goal.loop-index-preserved
 loop-index-preserved c =
     rw (c.stack_after.ensures, c.loop-index.invariant)
-    (rewritten-more (λ (player : StartSeat). stack_after c.args.pot (player_in c.args.round.now.players player.seat)) c.args.players.now c.args.stacks.now c.loop-index.index _ (omega arith) (omega arith))
+    (rewritten-more (λ (player : StartSeat). stack_after c.args.pot
+    (player_in c.args.round.now.players player.seat)) c.args.players.now c.args.stacks.now c.loop-index.index _
+    (omega arith) (omega arith))
 
 pub returns : goal.returns
 returns c =
     c.loop-index.invariant
-    ∙ rewritten-all (λ (player : StartSeat). stack_after c.args.pot (player_in c.args.round.now.players player.seat)) c.args.players.now c.args.stacks.now c.loop-index.index (omega arith) (omega arith)
+    ∙ rewritten-all (λ (player : StartSeat). stack_after c.args.pot
+    (player_in c.args.round.now.players player.seat)) c.args.players.now c.args.stacks.now c.loop-index.index
+    (omega arith) (omega arith)

@@ -10,7 +10,8 @@ dealt number letter seat stack = record { seat = seat; player = number; name = l
 abbrev all_dealt : ℕ → ℕ → List StartSeat
 all_dealt first second =
     dealt 0 97 1 first ∷ dealt 1 98 2 second ∷ dealt 2 99 3 first ∷ dealt 3 100 4 second ∷ dealt 4 101 5 first
-    ∷ dealt 5 102 6 second ∷ dealt 6 103 7 first ∷ dealt 7 104 8 second ∷ dealt 8 105 9 first ∷ dealt 9 106 10 second ∷ []
+    ∷ dealt 5 102 6 second ∷ dealt 6 103 7 first ∷ dealt 7 104 8 second ∷ dealt 8 105 9 first ∷ dealt 9 106 10 second ∷
+    []
 
 pub new-requires : goal.new-requires
 new-requires c =

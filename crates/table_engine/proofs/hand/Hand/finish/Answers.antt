@@ -13,11 +13,13 @@ returns-clause-complete c =
       over = rw (← c.self.view_is) at c.requires.over;
       won = rw (← c.self.view_is) at c.requires.won;
       stacks = rw (c.from_vec.ensures, back, c.pay.ensures, c.items.ensures, c.put.ensures.put)
-          (standing-stacks hand c.self.inside.standing c.self.invariant.lawful c.self.invariant.played c.self.invariant.at);
+          (standing-stacks hand c.self.inside.standing c.self.invariant.lawful c.self.invariant.played
+          c.self.invariant.at);
     }
 
 pub returns-clause-kept : goal.returns-clause-kept
 returns-clause-kept c =
     rw (← c.self.view_is)
     (ap sum (returns-clause-complete c).stacks
-    ∙ chips-after (the_view c.self.inside) c.self.invariant.lawful c.self.invariant.played (rw (← c.self.view_is) at c.requires.won))
+    ∙ chips-after (the_view c.self.inside) c.self.invariant.lawful c.self.invariant.played
+    (rw (← c.self.view_is) at c.requires.won))

@@ -5,8 +5,16 @@ use Rattle.table_engine.proofs.record.HandRecord.into_players.Goals as goal
 
 pub returns-clause-same : goal.returns-clause-same
 returns-clause-same c =
-    let back = written-back c.into_vec-players.result.len c.set_stacks.new.players c.into_vec-players.result.items (omega arith) in
-    rw (c.from_vec.ensures, back, c.set_stacks.ensures, c.items.ensures, c.deref_mut.ensures.value, c.into_vec-players.ensures)
+    let back = written-back c.into_vec-players.result.len c.set_stacks.new.players c.into_vec-players.result.items
+    (omega arith) in
+    rw (
+      c.from_vec.ensures,
+      back,
+      c.set_stacks.ensures,
+      c.items.ensures,
+      c.deref_mut.ensures.value,
+      c.into_vec-players.ensures,
+    )
 
 pub returns-clause-after : goal.returns-clause-after
 returns-clause-after c = λ complete. returns-clause-same c ∙ players-of_record c.args.self complete

@@ -1,4 +1,4 @@
-use Rattle.std.proofs.Common.{◌≡◌, ◌∙◌, [], ap, sym, refl, arith}
+use Rattle.std.proofs.Common.{◌∙◌, [], ap, refl, arith}
 use Rattle.std.specs.Prelude.{map}
 use Rattle.std.specs.Option.{is_some}
 use Rattle.betting_round.specs.declared.street.Street.{Street}
@@ -11,18 +11,27 @@ pub all_lacking-counted-requires : goal.all_lacking-counted-requires
 all_lacking-counted-requires c = rw c.players_by_seat.ensures (omega (arith, few-lacking c.args.start.now c.requires))
 
 pub start-requires : goal.start-requires
-start-requires c = rw (c.all_seated-bettors.ensures, c.all_lacking-counted.ensures, c.players_by_seat.ensures) (right-first c.args.start.now c.requires)
+start-requires c = rw (c.all_seated-bettors.ensures, c.all_lacking-counted.ensures, c.players_by_seat.ensures)
+    (right-first c.args.start.now c.requires)
 
 pub returns-clause-at : goal.returns-clause-at
 returns-clause-at c = record {
-  round = rw (c.all_seated-bettors.ensures, c.all_lacking-counted.ensures, c.players_by_seat.ensures) at c.start.ensures;
+  round = rw (
+    c.all_seated-bettors.ensures,
+    c.all_lacking-counted.ensures,
+    c.players_by_seat.ensures,
+  ) at c.start.ensures;
   before = refl;
   left = refl;
   right = right-first c.args.start.now c.requires;
 }
 
 pub returns-clause-ready : goal.returns-clause-ready
-returns-clause-ready c = ready-start _ _ (rw (c.all_seated-bettors.ensures, c.all_lacking-counted.ensures, c.players_by_seat.ensures) (right-first c.args.start.now c.requires)) c.start.ensures (omega arith)
+returns-clause-ready c = ready-start _ _ (rw (
+  c.all_seated-bettors.ensures,
+  c.all_lacking-counted.ensures,
+  c.players_by_seat.ensures,
+) (right-first c.args.start.now c.requires)) c.start.ensures (omega arith)
 
 pub returns-clause-there : goal.returns-clause-there
 returns-clause-there c =

@@ -1,4 +1,4 @@
-use Rattle.std.proofs.Common.{◌≡◌, ◌∙◌, [], ap, sym, refl, arith}
+use Rattle.std.proofs.Common.{◌∙◌, [], ap, refl, arith}
 use Rattle.std.specs.Prelude.{map}
 use Rattle.std.specs.Option.{is_some}
 use Rattle.betting_round.specs.declared.street.Street.{Street}
@@ -7,7 +7,8 @@ use Rattle.table_engine.proofs.Standings.{at-next, ready-start, right-next, some
 use Rattle.table_engine.proofs.standing.Standing.next.Goals as goal
 
 pub start-requires : goal.start-requires
-start-requires c = rw (c.next_bettors-bettors.ensures, c.put.ensures.put) (right-next c.args.start.now c.args.self.now _ c.requires.lawful c.requires.ready refl)
+start-requires c = rw (c.next_bettors-bettors.ensures, c.put.ensures.put)
+    (right-next c.args.start.now c.args.self.now _ c.requires.lawful c.requires.ready refl)
 
 pub returns-clause-at : goal.returns-clause-at
 returns-clause-at c = λ streets at.
@@ -15,7 +16,9 @@ returns-clause-at c = λ streets at.
     (rw (c.next_bettors-bettors.ensures, c.put.ensures.put) at c.start.ensures) (rw c.put.ensures.put refl) refl
 
 pub returns-clause-ready : goal.returns-clause-ready
-returns-clause-ready c = ready-start _ _ (rw (c.next_bettors-bettors.ensures, c.put.ensures.put) (right-next c.args.start.now c.args.self.now _ c.requires.lawful c.requires.ready refl)) c.start.ensures (omega arith)
+returns-clause-ready c = ready-start _ _ (rw (c.next_bettors-bettors.ensures, c.put.ensures.put)
+    (right-next c.args.start.now c.args.self.now _ c.requires.lawful c.requires.ready refl)) c.start.ensures
+    (omega arith)
 
 pub returns-clause-there : goal.returns-clause-there
 returns-clause-there c =
