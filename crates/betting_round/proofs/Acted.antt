@@ -1,7 +1,6 @@
 -- What an act that is not refused tells of who acts, and how much less he can still do afterwards.
-use Rattle.std.proofs.Common.{◌≡◌, ◌∙◌, ℕ, zero, suc, ◌+◌, ◌-◌, ◌%◌, ◌≤◌, ◌<◌, Bool, true, false, cond, List, [], ◌∷◌, Some, None, refl, ap, sym, inl, inr, arith}
-use Rattle.std.specs.Prelude.{Option, IfSome, ◌==◌, ◌&&◌, ◌||◌, min, not, nat_lt}
-use Rattle.std.specs.Option.{option_map_or}
+use Rattle.std.proofs.Common.{◌≡◌, ◌∙◌, ℕ, ◌+◌, ◌-◌, ◌≤◌, ◌<◌, Bool, true, false, cond, Some, None, inl, inr, arith}
+use Rattle.std.specs.Prelude.{◌==◌, ◌&&◌, ◌||◌, min, not, nat_lt}
 use Rattle.std.proofs.lemmas.Bool.{and_parts, cases_Bool, eqb-true, not-true}
 use Rattle.std.proofs.lemmas.Bool.Decides.{nat_tests}
 use Rattle.rulebook.specs.Checks.{first_that_holds}
@@ -11,11 +10,10 @@ use Rattle.betting_round.specs.declared.act.Act.TheVariants.{Fold, Check, Call, 
 use Rattle.betting_round.specs.declared.bettor.Player.{Player}
 use Rattle.betting_round.specs.declared.facing.Facing.{Facing}
 use Rattle.betting_round.specs.declared.street.Street.{Street}
-use Rattle.betting_round.specs.Acts.{amount, is_fold}
 use Rattle.betting_round.specs.ActChecks.{act_checks, act_refusal, facing_in, turn_checks}
 use Rattle.betting_round.specs.Limits.{Limits}
-use Rattle.betting_round.specs.StreetActs.{SeatAct, StreetStart, greatest, level, player_after, put_on_street, street_after}
-use Rattle.betting_round.specs.WhoIsDue.{can_act, due_seat, is_there, may_be_due, player_at, player_in}
+use Rattle.betting_round.specs.StreetActs.{level}
+use Rattle.betting_round.specs.WhoIsDue.{can_act, may_be_due, player_at, player_in}
 use Rattle.betting_round.specs.Running.{amount_of, moved}
 use Rattle.betting_round.proofs.ActRefusals.{player_in-at}
 use Rattle.betting_round.proofs.Turns.{accepted-covered, accepted-due, due-low, due-may, slot-there}
