@@ -2,46 +2,57 @@
 use Rattle.std.proofs.Common.{◌≡◌, ◌∙◌, refl, sym, ap, ℕ, zero, suc, ◌+◌, ◌<◌, ◌≤◌, Bool, true, false, cond, ◌==◌, ◌&&◌, List, [], ◌∷◌, ◌++◌, map, length, take, get_or, Option, None, Some, inl, inr, arith}
 use Rattle.std.specs.Prelude.{not, nat_lt, nat_le, filter, slice_index_or}
 use Rattle.std.specs.List.{list_all, cons_option}
-use Rattle.std.proofs.lemmas.Bool.{and_from, and_parts, cases_Bool}
+use Rattle.std.proofs.lemmas.Bool.{and_from, and_parts, cases_Bool, not-true}
 use Rattle.std.proofs.lemmas.Bool.Decides.{nat_tests}
 use Rattle.std.proofs.lemmas.List.{get_or_read, length-set, length-map, take_more, map-append, append-nil}
 use Rattle.std.proofs.lemmas.List.Elements.{filter_map-append}
 use Rattle.std.proofs.lemmas.List.Sums.{sum_by-set, length-filter}
+use Rattle.rulebook.specs.Pairs.{are_rising}
+use Rattle.rulebook.proofs.Tests.{list_all-follows}
 use Rattle.button_blinds.specs.SeatSets.{no_seats, has_seat, with_seat, with_seats, seat_count}
 use Rattle.button_blinds.proofs.SeatSetLaws.{has_seat-with_seat, no_seats-none}
 use Rattle.seat_book.specs.declared.seated.Seated.{Seated}
-use Rattle.seat_book.specs.Places.{comes_before, IsPlaceOf}
+use Rattle.seat_book.specs.Places.{is_place_of, comes_before, IsPlaceOf}
 use Rattle.seat_book.specs.Players.{players_in, sits_at, players_at, taken_seats, places_of, are_in_order}
 use Rattle.seat_book.specs.Counts.{count_at}
 use Rattle.seat_book.specs.Seatings.{Seating, sits_within, IsSeating}
 use Rattle.seat_book.proofs.Slots.{IsPlaceOf-test}
 
--- each number of a list is below every later one
-abbrev pub are_higher : List ℕ → Bool
-are_higher [] = true
-are_higher (number ∷ numbers) = list_all (nat_lt number) numbers && are_higher numbers
+-- whether a number is that of one of so many seats
+abbrev is_seat_to : ℕ → ℕ → Bool
+is_seat_to seats seat = nat_le 1 seat && nat_le seat seats
+
+-- whether a player sits in one of so many seats
+abbrev pub sits_in_seats : ℕ → Seated → Bool
+sits_in_seats seats player = is_seat_to seats player.place.seat
+
+-- Who sits within the tables sits in one of the seats, and of more seats too.
+pub seats_of_places : (tables seats most : ℕ) (players : List Seated) → seats ≤ most
+    → list_all (sits_within tables seats) players ≡ true → list_all (sits_in_seats most) players ≡ true
+seats_of_places tables seats most players fewer within = list_all-follows (sits_within tables seats)
+    (sits_in_seats most) players (λ player sits. one player.place.table player.place.seat sits) within
+  where
+    one : (table seat : ℕ) → is_place_of tables seats (record { table = table; seat = seat }) ≡ true
+        → is_seat_to most seat ≡ true
+    one table seat within = grind (arith, nat_tests)
 
 -- a seat that may still be put into a set
 abbrev may_come : List Bool → ℕ → Bool
-may_come set seat = (nat_le 1 seat && nat_le seat 10) && not (has_seat set seat)
+may_come set seat = is_seat_to 10 seat && not (has_seat set seat)
 
 one_more : (set : List Bool) (seat : ℕ) → length set ≡ 10 → may_come set seat ≡ true
     → seat_count (with_seat set seat) ≡ seat_count set + 1
 one_more set zero size comes = cc
 one_more set (suc below) size comes =
-    let parts = and_parts (nat_le 1 (suc below) && nat_le (suc below) 10) (not (has_seat set (suc below))) comes in
+    let parts = and_parts (is_seat_to 10 (suc below)) (not (has_seat set (suc below))) comes in
     let within : below < length set = omega (arith, size, at_most below parts.0) in
-    let free : slice_index_or set below false ≡ false = is_not (has_seat set (suc below)) parts.1 in
+    let free : slice_index_or set below false ≡ false = not-true (has_seat set (suc below)) parts.1 in
     let counted = sum_by-set (λ is_in. cond is_in 1 0) set below true false within in
     let none = ap (λ (b : Bool). cond {A = ℕ} b 1 0) free in
     omega (arith, counted, none)
   where
-    at_most : (below : ℕ) → (nat_le 1 (suc below) && nat_le (suc below) 10) ≡ true → below < 10
+    at_most : (below : ℕ) → is_seat_to 10 (suc below) ≡ true → below < 10
     at_most below between = grind (arith, nat_tests)
-
-    is_not : (b : Bool) → not b ≡ true → b ≡ false
-    is_not true failed = cc
-    is_not false failed = refl
 
 same_size : (set : List Bool) (seat : ℕ) → length (with_seat set seat) ≡ length set
 same_size set zero = refl
@@ -50,7 +61,7 @@ same_size set (suc below) = length-set set below true
 still_comes : (set : List Bool) (seat other : ℕ) → nat_lt seat other ≡ true → may_come set other ≡ true
     → may_come (with_seat set seat) other ≡ true
 still_comes set seat other higher comes =
-    let parts = and_parts (nat_le 1 other && nat_le other 10) (not (has_seat set other)) comes in
+    let parts = and_parts (is_seat_to 10 other) (not (has_seat set other)) comes in
     elim (cases_Bool (has_seat (with_seat set seat) other)) [
       | inl there ↦ elim (has_seat-with_seat set seat other there) [
         | inl same ↦ absurd (not_itself seat other higher same)
@@ -72,14 +83,13 @@ all_still_come set seat [] higher comes = refl
 all_still_come set seat (other ∷ seats) higher comes =
     let above = and_parts (nat_lt seat other) (list_all (nat_lt seat) seats) higher in
     let parts = and_parts (may_come set other) (list_all (may_come set) seats) comes in
-    and_from (may_come (with_seat set seat) other) (list_all (may_come (with_seat set seat)) seats)
-    (still_comes set seat other above.0 parts.0) (all_still_come set seat seats above.1 parts.1)
+    and_from _ _ (still_comes set seat other above.0 parts.0) (all_still_come set seat seats above.1 parts.1)
 
-count_with : (set : List Bool) (seats : List ℕ) → length set ≡ 10 → are_higher seats ≡ true
+count_with : (set : List Bool) (seats : List ℕ) → length set ≡ 10 → are_rising seats ≡ true
     → list_all (may_come set) seats ≡ true → seat_count (with_seats set seats) ≡ seat_count set + length seats
 count_with set [] size higher comes = omega arith
 count_with set (seat ∷ seats) size higher comes =
-    let above = and_parts (list_all (nat_lt seat) seats) (are_higher seats) higher in
+    let above = and_parts (list_all (nat_lt seat) seats) (are_rising seats) higher in
     let parts = and_parts (may_come set seat) (list_all (may_come set) seats) comes in
     let one = one_more set seat size parts.0 in
     let others = count_with (with_seat set seat) seats (same_size set seat ∙ size) above.1
@@ -88,87 +98,80 @@ count_with set (seat ∷ seats) size higher comes =
 
 -- the seats of those who sit at a table
 abbrev pub seats_at : ℕ → List Seated → List ℕ
-seats_at table players = map (λ seated. seated.place.seat) (players_at players table)
+seats_at table players = map (λ player. player.place.seat) (filter (sits_at table) players)
 
-later_seat : (a b x y table : ℕ) → comes_before (record { table = a; seat = b })
-    (record { table = x; seat = y }) ≡ true → (a == table) ≡ true → (x == table) ≡ true → nat_lt b y ≡ true
+later_seat : (a b x y table : ℕ) → comes_before (record { table = a; seat = b }) (record { table = x; seat = y }) ≡ true
+    → (a == table) ≡ true → (x == table) ≡ true → nat_lt b y ≡ true
 later_seat a b x y table before here there = grind (arith, nat_tests)
 
-higher_step : (table seat : ℕ) (seated : Seated) (players : List Seated) (b : Bool)
-    → (b ≡ true → nat_lt seat seated.place.seat ≡ true) → list_all (nat_lt seat) (seats_at table players) ≡ true
-    → list_all (nat_lt seat) (map (λ seated. seated.place.seat)
-    (cond b (seated ∷ filter (sits_at table) players) (filter (sits_at table) players))) ≡ true
-higher_step table seat seated players true here others = and_from (nat_lt seat seated.place.seat)
-    (list_all (nat_lt seat) (seats_at table players)) (here refl) others
-higher_step table seat seated players false here others = others
+higher_step : (table seat : ℕ) (player : Seated) (players : List Seated) (b : Bool)
+    → (b ≡ true → nat_lt seat player.place.seat ≡ true) → list_all (nat_lt seat) (seats_at table players) ≡ true
+    → list_all (nat_lt seat) (map (λ player. player.place.seat)
+    (cond b (player ∷ filter (sits_at table) players) (filter (sits_at table) players))) ≡ true
+higher_step table seat player players true here others = rw (here refl, others) refl
+higher_step table seat player players false here others = others
 
 -- who sits later at a table sits in a higher seat
-all_higher : (table : ℕ) (seated : Seated) (players : List Seated) → sits_at table seated ≡ true
-    → list_all (comes_before seated.place) (places_of players) ≡ true
-    → list_all (nat_lt seated.place.seat) (seats_at table players) ≡ true
-all_higher table seated [] sits before = refl
-all_higher table seated (other ∷ players) sits before =
-    let parts = and_parts (comes_before seated.place other.place)
-    (list_all (comes_before seated.place) (places_of players)) before in
-    higher_step table seated.place.seat other players (sits_at table other)
-    (λ there. later_seat seated.place.table seated.place.seat other.place.table other.place.seat table parts.0 sits
+all_higher : (table : ℕ) (player : Seated) (players : List Seated) → sits_at table player ≡ true
+    → list_all (comes_before player.place) (places_of players) ≡ true
+    → list_all (nat_lt player.place.seat) (seats_at table players) ≡ true
+all_higher table player [] sits before = refl
+all_higher table player (other ∷ players) sits before =
+    let parts = and_parts (comes_before player.place other.place)
+    (list_all (comes_before player.place) (places_of players)) before in
+    higher_step table player.place.seat other players (sits_at table other)
+    (λ there. later_seat player.place.table player.place.seat other.place.table other.place.seat table parts.0 sits
     there)
-    (all_higher table seated players sits parts.1)
+    (all_higher table player players sits parts.1)
 
-rising_step : (table : ℕ) (seated : Seated) (players : List Seated) (b : Bool) → sits_at table seated ≡ b
-    → list_all (comes_before seated.place) (places_of players) ≡ true → are_higher (seats_at table players) ≡ true
-    → are_higher (map (λ seated. seated.place.seat) (cond b (seated ∷ filter (sits_at table) players)
+rising_step : (table : ℕ) (player : Seated) (players : List Seated) (b : Bool) → sits_at table player ≡ b
+    → list_all (comes_before player.place) (places_of players) ≡ true → are_rising (seats_at table players) ≡ true
+    → are_rising (map (λ player. player.place.seat) (cond b (player ∷ filter (sits_at table) players)
     (filter (sits_at table) players))) ≡ true
-rising_step table seated players true sits before others = and_from
-    (list_all (nat_lt seated.place.seat) (seats_at table players)) (are_higher (seats_at table players))
-    (all_higher table seated players sits before) others
-rising_step table seated players false sits before others = others
+rising_step table player players true sits before others = rw (all_higher table player players sits before, others) refl
+rising_step table player players false sits before others = others
 
--- the players of a table are listed in rising seat
+-- The seats of those who sit at a table rise, where the players are in order.
 pub seats_rise : (table : ℕ) (players : List Seated) → are_in_order players ≡ true
-    → are_higher (seats_at table players) ≡ true
+    → are_rising (seats_at table players) ≡ true
 seats_rise table [] ordered = refl
-seats_rise table (seated ∷ players) ordered =
-    let parts = and_parts (list_all (comes_before seated.place) (places_of players)) (are_in_order players) ordered in
-    rising_step table seated players (sits_at table seated) refl parts.0 (seats_rise table players parts.1)
+seats_rise table (player ∷ players) ordered =
+    let parts = and_parts (list_all (comes_before player.place) (places_of players)) (are_in_order players) ordered in
+    rising_step table player players (sits_at table player) refl parts.0 (seats_rise table players parts.1)
 
-comes_from : (tables seats : ℕ) (seated : Seated) → seats ≤ 10 → sits_within tables seats seated ≡ true
-    → may_come no_seats seated.place.seat ≡ true
-comes_from tables seats seated most within =
-    let at = IsPlaceOf-test tables seats seated.place within in
-    let none = no_seats-none seated.place.seat in
-    and_from (nat_le 1 seated.place.seat && nat_le seated.place.seat 10) (not (has_seat no_seats seated.place.seat))
-    (between seated.place.seat seats at.first at.last most) (ap not none)
-  where
-    between : (seat seats : ℕ) → 1 ≤ seat → seat ≤ seats → seats ≤ 10 → (nat_le 1 seat && nat_le seat 10) ≡ true
-    between seat seats first last most = grind (arith, nat_tests)
+come_step : (table : ℕ) (player : Seated) (players : List Seated) (b : Bool) → sits_in_seats 10 player ≡ true
+    → list_all (may_come no_seats) (seats_at table players) ≡ true
+    → list_all (may_come no_seats) (map (λ player. player.place.seat)
+    (cond b (player ∷ filter (sits_at table) players) (filter (sits_at table) players))) ≡ true
+come_step table player players true within others =
+    let free = no_seats-none player.place.seat in
+    rw (within, free, others) refl
+come_step table player players false within others = others
 
-come_step : (table : ℕ) (seated : Seated) (players : List Seated) (b : Bool)
-    → may_come no_seats seated.place.seat ≡ true → list_all (may_come no_seats) (seats_at table players) ≡ true
-    → list_all (may_come no_seats) (map (λ seated. seated.place.seat)
-    (cond b (seated ∷ filter (sits_at table) players) (filter (sits_at table) players))) ≡ true
-come_step table seated players true here others = and_from (may_come no_seats seated.place.seat)
-    (list_all (may_come no_seats) (seats_at table players)) here others
-come_step table seated players false here others = others
+seats_come : (table : ℕ) (players : List Seated) → list_all (sits_in_seats 10) players ≡ true
+    → list_all (may_come no_seats) (seats_at table players) ≡ true
+seats_come table [] within = refl
+seats_come table (player ∷ players) within =
+    let parts = and_parts (sits_in_seats 10 player) (list_all (sits_in_seats 10) players) within in
+    come_step table player players (sits_at table player) parts.0 (seats_come table players parts.1)
 
-seats_come : (tables seats table : ℕ) (players : List Seated) → seats ≤ 10
-    → list_all (sits_within tables seats) players ≡ true → list_all (may_come no_seats) (seats_at table players) ≡ true
-seats_come tables seats table [] most within = refl
-seats_come tables seats table (seated ∷ players) most within =
-    let parts = and_parts (sits_within tables seats seated) (list_all (sits_within tables seats) players) within in
-    come_step table seated players (sits_at table seated) (comes_from tables seats seated most parts.0)
-    (seats_come tables seats table players most parts.1)
-
--- as many seats of a table are taken as players sit there
-pub taken_count : (seating : Seating) (table : ℕ) → IsSeating seating
-    → seat_count (taken_seats seating.players table) ≡ count_at seating.players table
-taken_count seating table lawful =
-    let counted = count_with no_seats (seats_at table seating.players) refl
-    (seats_rise table seating.players lawful.ordered) (seats_come seating.table_count seating.seat_count table
-    seating.players lawful.most_seats lawful.within) in
-    let size = length-map (players_at seating.players table) (λ (seated : Seated). seated.place.seat) in
-    let number = length-filter (sits_at table) seating.players in
+-- As many seats of a table are taken as players sit there.
+pub taken_count : (table : ℕ) (players : List Seated) → are_in_order players ≡ true
+    → list_all (sits_in_seats 10) players ≡ true
+    → seat_count (taken_seats players table) ≡ count_at players table
+taken_count table players ordered within =
+    let counted = count_with no_seats (seats_at table players) refl (seats_rise table players ordered)
+    (seats_come table players within) in
+    let size = length-map (players_at players table) (λ (player : Seated). player.place.seat) in
+    let number = length-filter (sits_at table) players in
     omega (arith, counted, size, number)
+
+-- As many seats of a table of a seating are taken as players sit there.
+pub taken_count-seating : (seating : Seating) (table : ℕ) → IsSeating seating
+    → seat_count (taken_seats seating.players table) ≡ count_at seating.players table
+taken_count-seating seating table lawful =
+    taken_count table seating.players lawful.ordered
+    (seats_of_places seating.table_count seating.seat_count 10 seating.players lawful.most_seats lawful.within)
 
 -- what holds of all players in slots holds of the one in a slot
 pub list_all-slot : (test : Seated → Bool) (slots : List (Option Seated)) (slot : ℕ) (seated : Seated)

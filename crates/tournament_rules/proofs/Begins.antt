@@ -23,6 +23,7 @@ use Rattle.seat_book.specs.declared.seated.Seated.{Seated}
 use Rattle.seat_book.specs.Counts.{count_at}
 use Rattle.seat_book.specs.Players.{taken_seats}
 use Rattle.seat_book.specs.Tables.{status_at}
+use Rattle.seat_book.proofs.TakenSeats.{sits_in_seats, seats_of_places, taken_count}
 use Rattle.table_engine.specs.declared.start.HandStart.{HandStart}
 use Rattle.table_engine.specs.declared.start.StartSeat.{StartSeat}
 use Rattle.table_engine.specs.Starts.{chips_of, have_playable_stacks, IsLawfulStart}
@@ -39,7 +40,7 @@ use Rattle.tournament_rules.proofs.Entries.{right_has}
 use Rattle.tournament_rules.proofs.Fitting.{table_range, each_status, fitting_changed, out_changed, play_changed, chips_out}
 use Rattle.tournament_rules.proofs.NextMarks.{marks-within}
 use Rattle.tournament_rules.proofs.DealtIn.{as_dealt, dealt-stacks, rest-dealt_in, lent-dealt_in, lent_elsewhere-dealt_in, whole-dealt_in, playable-dealt}
-use Rattle.tournament_rules.proofs.TakenSeats.{sits_in_seats, seats_of_places, taken_count, taken_within}
+use Rattle.tournament_rules.proofs.TakenSeats.{taken_within}
 use Rattle.tournament_rules.proofs.WhoIsDealt.{numbers_distinct, keys_dealt, rising_dealt, most_dealt, dealt_there}
 
 -- A hand may begin at a table: it is one of the plan's, no hand is played there, and two or more sit there.
@@ -62,7 +63,12 @@ may_begin book table row free =
     let rests = and_parts _ _ listed.1 in
     let many = and_parts _ _ rests.1 in
     let parts = and_parts (has_table book table) (nat_lt 0 (count_at book.seating.players table)) (is_so _ listed.0) in
-    record { there = parts.0; rests = not-true _ rests.0; two = two_sit (count_at book.seating.players table) parts.1 (not-true _ many.0) }
+    record {
+      there = parts.0;
+      rests = not-true _ rests.0;
+      two =
+          two_sit (count_at book.seating.players table) parts.1 (not-true _ many.0);
+    }
 
 -- No start is out at a table where no hand is played.
 pub none_out : (book : BookState) (table : ℕ) → IsValid book → is_playing book table ≡ false
@@ -78,7 +84,8 @@ pub all_rest : (book : BookState) (table : ℕ) → IsValid book → is_playing 
     → filter (is_lent table) book.seating.players ≡ []
 all_rest book table valid rests =
     no_items start_seat (filter (is_lent table) book.seating.players)
-    (valid.hands.lent table ∙ ap (λ (start : Option HandStart). map without_stack (players_out start)) (none_out book table valid rests))
+    (valid.hands.lent table ∙ ap (λ (start : Option HandStart). map without_stack (players_out start))
+    (none_out book table valid rests))
 
 product_small : (entries stack : ℕ) → entries ≤ 640 → stack ≤ 1000000000 → entries * stack ≤ 640000000000
 product_small entries stack few small = grind arith
@@ -88,7 +95,8 @@ pub small_dealt : (book : BookState) (table : ℕ) (waiting : List Bool) → IsV
     → chips_of (dealt_seats table waiting book.seating.players) < 2 ^ 53
 small_dealt book table waiting valid =
     let kept = valid.chips.kept in
-    let most = product_small (length book.entries) book.plan.stack valid.entries.few (right_has book.plan valid.plan.right).most_stack in
+    let most = product_small (length book.entries) book.plan.stack valid.entries.few
+    (right_has book.plan valid.plan.right).most_stack in
     let gone = rest-dealt_in table waiting book.seating.players in
     omega (arith, kept, most, gone)
 
@@ -104,7 +112,8 @@ lawful_blinds book planned =
     let first = planned.first in
     let last = planned.last in
     let found = level_there book.plan.blinds (book.level - 1) (omega (arith, first, last)) in
-    let lawful = is_blind_level book.plan.blinds (book.level - 1) found.0 (right_has book.plan planned.right).levels found.1 in
+    let lawful = is_blind_level book.plan.blinds (book.level - 1) found.0 (right_has book.plan planned.right).levels
+    found.1 in
     rw found.1 lawful
 
 -- The unit of the current level's blinds is that of the level.
@@ -125,12 +134,17 @@ lawful_start book table cards valid may =
     let lawful = valid.tables.lawful in
     let some : 2 ≤ book.plan.seats = subst (λ (seats : ℕ). 2 ≤ seats) valid.tables.seats lawful.some_seats in
     let most : book.plan.seats ≤ 10 = subst (λ (seats : ℕ). seats ≤ 10) valid.tables.seats lawful.most_seats in
-    let seats : list_all (sits_in_seats book.plan.seats) players ≡ true = seats_of_places book.seating.table_count book.seating.seat_count book.plan.seats players (let same = valid.tables.seats in omega (arith, same)) lawful.within in
-    let ten : list_all (sits_in_seats 10) players ≡ true = seats_of_places book.seating.table_count book.seating.seat_count 10 players lawful.most_seats lawful.within in
+    let seats : list_all (sits_in_seats book.plan.seats) players
+    ≡ true = seats_of_places book.seating.table_count book.seating.seat_count book.plan.seats players
+    (let same = valid.tables.seats in omega (arith, same)) lawful.within in
+    let ten : list_all (sits_in_seats 10) players ≡ true =
+    seats_of_places book.seating.table_count book.seating.seat_count 10 players lawful.most_seats lawful.within in
     let counted = taken_count table players lawful.ordered ten in
     let two = may.two in
-    let marked = subst (λ (seats : ℕ). ForSome (status_at book.seating.tables table).marks (AreMarksOf seats)) valid.tables.seats (lawful.statuses table).marks in
-    let fit = marks-fit (status_at book.seating.tables table).marks (taken_seats players table) book.plan.seats most (taken_within book.plan.seats table players seats) (omega (arith, counted, two)) marked in
+    let marked = subst (λ (seats : ℕ). ForSome (status_at book.seating.tables table).marks (AreMarksOf seats))
+    valid.tables.seats (lawful.statuses table).marks in
+    let fit = marks-fit (status_at book.seating.tables table).marks (taken_seats players table) book.plan.seats most
+    (taken_within book.plan.seats table players seats) (omega (arith, counted, two)) marked in
     let dealt = most_dealt table waiting players lawful.ordered ten in
     let two_play = fit.two_play in
     let found = filter (is_dealt_in table waiting) players in
@@ -141,20 +155,28 @@ lawful_start book table cards valid may =
       rising = rising_dealt table waiting players lawful.ordered;
       within = list_all-map (λ (player : StartSeat). is_between 1 book.plan.seats player.seat) start_seat found
           ∙ (sym (list_all-map (is_between 1 book.plan.seats) (λ (player : Seated). player.place.seat) found)
-          ∙ list_all-filter (is_between 1 book.plan.seats) (λ (player : Seated). player.place.seat) (is_dealt_in table waiting) players
+          ∙ list_all-filter (is_between 1 book.plan.seats) (λ (player : Seated). player.place.seat)
+          (is_dealt_in table waiting) players
           (list_all-map (is_between 1 book.plan.seats) (λ (player : Seated). player.place.seat) players ∙ seats));
-      numbers = ap (are_distinct (λ one other. one == other)) (keys_dealt (λ player. player.player) (λ player. player.player) (λ player. refl) found)
-          ∙ is_pairwise-filter (λ one other. not (one == other)) (λ player. player.player) (is_dealt_in table waiting) players (numbers_distinct players lawful.apart);
+      numbers = ap (are_distinct (λ one other. one == other))
+          (keys_dealt (λ player. player.player) (λ player. player.player) (λ player. refl) found)
+          ∙ is_pairwise-filter (λ one other. not (one == other)) (λ player. player.player)
+          (is_dealt_in table waiting) players (numbers_distinct players lawful.apart);
       entries = list_all-map (λ (player : StartSeat). nat_lt player.player 640) start_seat found
           ∙ (sym (list_all-map (λ number. nat_lt number 640) (λ (player : Seated). player.player) found)
-          ∙ list_all-filter (λ number. nat_lt number 640) (λ (player : Seated). player.player) (is_dealt_in table waiting) players
+          ∙ list_all-filter (λ number. nat_lt number 640) (λ (player : Seated). player.player)
+          (is_dealt_in table waiting) players
           (list_all-map (λ number. nat_lt number 640) (λ (player : Seated). player.player) players ∙ lawful.entries));
-      names = ap (are_distinct bytes_eq) (keys_dealt (λ player. player.name) (λ player. player.name) (λ player. refl) found)
-          ∙ is_pairwise-filter (λ one other. not (bytes_eq one other)) (λ player. player.name) (is_dealt_in table waiting) players valid.entries.apart;
+      names = ap (are_distinct bytes_eq) (keys_dealt (λ player. player.name) (λ player. player.name) (λ player. refl)
+          found)
+          ∙ is_pairwise-filter (λ one other. not (bytes_eq one other)) (λ player. player.name)
+          (is_dealt_in table waiting) players valid.entries.apart;
       stacks = ap (λ (unit : ℕ). have_playable_stacks unit (dealt_seats table waiting players)) (unit_now book)
-          ∙ playable-dealt (unit_of_level book.plan.blinds book.level) table waiting players (all_rest book table valid may.rests) valid.chips.whole;
+          ∙ playable-dealt (unit_of_level book.plan.blinds book.level) table waiting players
+          (all_rest book table valid may.rests) valid.chips.whole;
       chips = small_dealt book table waiting valid;
-      marks = marks-within (status_at book.seating.tables table).marks (taken_seats players table) book.plan.seats (omega (arith, some)) marked;
+      marks = marks-within (status_at book.seating.tables table).marks (taken_seats players table) book.plan.seats
+          (omega (arith, some)) marked;
       big = dealt_there table (next_at book table).marks.big waiting players fit.big_sits fit.big_plays;
       small = fit.apart;
       blinds = lawful_blinds book valid.plan;
@@ -184,11 +206,21 @@ valid_begun book table row valid free =
     let marks = subst (λ (seats : ℕ). AreMarksOf seats next.marks) (sym valid.tables.seats) lawful.marks in
     record {
       plan = valid.plan;
-      entries = entered_changed book.entries players (as_dealt table next.waiting) (dealt-stacks table next.waiting) valid.entries;
-      tables = fitting_changed book.plan book.seating book.out table (playing_from next.marks (status_at book.seating.tables table)) (Some start) (as_dealt table next.waiting) valid.tables may.there
-          (record { marks = λ found is. subst (AreMarksOf book.seating.seat_count) (same_Some next.marks found is) marks; unit = stands.unit; race = stands.race }) refl (dealt-stacks table next.waiting);
-      hands = out_changed book.plan book.level players (dealt_in table next.waiting players) book.out table (Some start) valid.hands within
-          (λ found is. subst (IsStartAt book.plan book.level table) (same_Some start found is) (record { here = refl; lawful = lawful; seats = refl; unit = unit_now book }))
+      entries = entered_changed book.entries players (as_dealt table next.waiting) (dealt-stacks table next.waiting)
+          valid.entries;
+      tables = fitting_changed book.plan book.seating book.out table
+          (playing_from next.marks (status_at book.seating.tables table)) (Some start) (as_dealt table next.waiting)
+          valid.tables may.there
+          (record {
+            marks = λ found is. subst (AreMarksOf book.seating.seat_count) (same_Some next.marks found is)
+                marks;
+            unit = stands.unit;
+            race = stands.race;
+          }) refl (dealt-stacks table next.waiting);
+      hands = out_changed book.plan book.level players (dealt_in table next.waiting players) book.out table
+          (Some start) valid.hands within
+          (λ found is. subst (IsStartAt book.plan book.level table) (same_Some start found is)
+          (record { here = refl; lawful = lawful; seats = refl; unit = unit_now book }))
           (lent-dealt_in table next.waiting players rest)
           (λ other differ. lent_elsewhere-dealt_in table other next.waiting players differ);
       chips = record {
@@ -199,7 +231,10 @@ valid_begun book table row valid free =
             let none : chips_out (start_at book.out table) ≡ 0 = ap chips_out (none_out book table valid may.rests) in
             omega (arith, kept, gone, play, none);
         whole = whole-dealt_in (unit_of_level book.plan.blinds book.level) table next.waiting players valid.chips.whole;
-        units = λ other listed. each_status (λ number status. is_between 1 book.plan.tables number ≡ true → status.unit ≡ unit_of_level book.plan.blinds book.level) book.seating.tables table (playing_from next.marks (status_at book.seating.tables table)) range.0 (omega (arith, range.1, count, size))
+        units = λ other listed. each_status (λ number status. is_between 1 book.plan.tables number ≡ true →
+            status.unit ≡ unit_of_level book.plan.blinds book.level) book.seating.tables table
+            (playing_from next.marks (status_at book.seating.tables table)) range.0
+            (omega (arith, range.1, count, size))
             (valid.chips.units table) other (valid.chips.units other) listed;
       };
       counted = let counted = valid.counted in omega (arith, counted);

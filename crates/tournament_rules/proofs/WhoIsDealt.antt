@@ -11,11 +11,11 @@ use Rattle.button_blinds.proofs.Distances.{dominated}
 use Rattle.seat_book.specs.declared.seated.Seated.{Seated}
 use Rattle.seat_book.specs.Places.{comes_before}
 use Rattle.seat_book.specs.Players.{sits_at, is_numbered, taken_seats, places_of, are_in_order, are_apart}
+use Rattle.seat_book.proofs.TakenSeats.{sits_in_seats, seats_at, seats_rise, taken_count}
 use Rattle.table_engine.specs.declared.start.StartSeat.{StartSeat}
 use Rattle.tournament_rules.specs.Players.{start_seat, is_dealt_in, dealt_seats}
 use Rattle.tournament_rules.proofs.Members.{eqb-swap}
 use Rattle.tournament_rules.proofs.SitDown.{count-first}
-use Rattle.tournament_rules.proofs.TakenSeats.{sits_in_seats, seats_at, seats_rise, taken_count}
 
 -- some of the players are in order too
 ordered_filter : (keep : Seated → Bool) (players : List Seated) → are_in_order players ≡ true
@@ -25,7 +25,8 @@ ordered_filter keep (player ∷ players) ordered =
     let parts = and_parts (list_all (comes_before player.place) (places_of players)) (are_in_order players) ordered in
     let rest = ordered_filter keep players parts.1 in
     elim (cases_Bool (keep player)) [
-      | inl kept ↦ rw kept (and_from _ _ (list_all-filter (comes_before player.place) (λ player. player.place) keep players parts.0) rest)
+      | inl kept ↦ rw kept (and_from _ _
+          (list_all-filter (comes_before player.place) (λ player. player.place) keep players parts.0) rest)
       | inr left ↦ rw left rest
     ]
 
@@ -45,14 +46,16 @@ pub numbers_distinct : (players : List Seated) → are_apart players ≡ true
     → are_distinct (λ one other. one == other) (map (λ player. player.player) players) ≡ true
 numbers_distinct [] apart = refl
 numbers_distinct (player ∷ players) apart =
-    let parts = and_parts (list_all (λ other. not (is_numbered player.player other)) players) (are_apart players) apart in
+    let parts = and_parts (list_all (λ other. not (is_numbered player.player other)) players) (are_apart players)
+    apart in
     and_from _ _ (others players parts.0) (numbers_distinct players parts.1)
   where
     others : (players : List Seated) → list_all (λ other. not (is_numbered player.player other)) players ≡ true
         → list_all (λ other. not (player.player == other)) (map (λ player. player.player) players) ≡ true
     others [] none = refl
     others (next ∷ players) none =
-        let parts = and_parts (not (is_numbered player.player next)) (list_all (λ other. not (is_numbered player.player other)) players) none in
+        let parts = and_parts (not (is_numbered player.player next))
+        (list_all (λ other. not (is_numbered player.player other)) players) none in
         and_from _ _ (ap not (eqb-swap player.player next.player) ∙ parts.0) (others players parts.1)
 
 -- What of a player of a start is as it was of him who is dealt in, is so of all who are.
@@ -72,36 +75,48 @@ plays_on waiting player = not (has_seat waiting player.place.seat)
 seats_step : (table : ℕ) (waiting : List Bool) (player : Seated) (found : List Seated) (rest : List ℕ) (s w : Bool)
     → sits_at table player ≡ s → plays_on waiting player ≡ w
     → map (λ (player : StartSeat). player.seat) (map start_seat found) ≡ rest
-    → map (λ (player : StartSeat). player.seat) (map start_seat (cond (s && w) (player ∷ found) found)) ≡ cond w (cond s (player.place.seat ∷ rest) rest) rest
-seats_step table waiting player found rest true true sits plays same = ap (λ (seats : List ℕ). player.place.seat ∷ seats) same
+    → map (λ (player : StartSeat). player.seat) (map start_seat (cond (s && w) (player ∷ found) found))
+    ≡ cond w (cond s (player.place.seat ∷ rest) rest) rest
+seats_step table waiting player found rest true true sits plays same =
+    ap (λ (seats : List ℕ). player.place.seat ∷ seats) same
 seats_step table waiting player found rest true false sits plays same = same
 seats_step table waiting player found rest false true sits plays same = same
 seats_step table waiting player found rest false false sits plays same = same
 
 seats_front : (table : ℕ) (waiting : List Bool) (player : Seated) (players : List Seated) (w : Bool)
     → plays_on waiting player ≡ w
-    → seats_at table (cond w (player ∷ filter (plays_on waiting) players) (filter (plays_on waiting) players)) ≡ cond w (cond (sits_at table player) (player.place.seat ∷ seats_at table (filter (plays_on waiting) players)) (seats_at table (filter (plays_on waiting) players))) (seats_at table (filter (plays_on waiting) players))
+    → seats_at table (cond w (player ∷ filter (plays_on waiting) players) (filter (plays_on waiting) players))
+    ≡ cond w (cond (sits_at table player) (player.place.seat ∷ seats_at table
+    (filter (plays_on waiting) players)) (seats_at table (filter (plays_on waiting) players)))
+    (seats_at table (filter (plays_on waiting) players))
 seats_front table waiting player players true plays = by_test (sits_at table player)
   where
     by_test : (s : Bool)
-        → map (λ (player : Seated). player.place.seat) (cond s (player ∷ filter (sits_at table) (filter (plays_on waiting) players)) (filter (sits_at table) (filter (plays_on waiting) players)))
-        ≡ cond s (player.place.seat ∷ seats_at table (filter (plays_on waiting) players)) (seats_at table (filter (plays_on waiting) players))
+        → map (λ (player : Seated). player.place.seat) (cond s
+        (player ∷ filter (sits_at table) (filter (plays_on waiting) players))
+        (filter (sits_at table) (filter (plays_on waiting) players)))
+        ≡ cond s (player.place.seat ∷ seats_at table (filter (plays_on waiting) players))
+        (seats_at table (filter (plays_on waiting) players))
     by_test true = refl
     by_test false = refl
 seats_front table waiting player players false plays = refl
 
 -- The seats of those who are dealt in are those of a table's players who do not wait.
 pub seats_dealt : (table : ℕ) (waiting : List Bool) (players : List Seated)
-    → map (λ player. player.seat) (dealt_seats table waiting players) ≡ seats_at table (filter (plays_on waiting) players)
+    → map (λ player. player.seat) (dealt_seats table waiting players)
+    ≡ seats_at table (filter (plays_on waiting) players)
 seats_dealt table waiting [] = refl
 seats_dealt table waiting (player ∷ players) =
-    seats_step table waiting player (filter (is_dealt_in table waiting) players) (seats_at table (filter (plays_on waiting) players)) (sits_at table player) (plays_on waiting player) refl refl (seats_dealt table waiting players)
+    seats_step table waiting player (filter (is_dealt_in table waiting) players)
+    (seats_at table (filter (plays_on waiting) players)) (sits_at table player) (plays_on waiting player) refl
+    refl (seats_dealt table waiting players)
     ∙ sym (seats_front table waiting player players (plays_on waiting player) refl)
 
 -- The seats of those who are dealt in rise.
 pub rising_dealt : (table : ℕ) (waiting : List Bool) (players : List Seated) → are_in_order players ≡ true
     → are_rising (map (λ player. player.seat) (dealt_seats table waiting players)) ≡ true
-rising_dealt table waiting players ordered = ap are_rising (seats_dealt table waiting players) ∙ seats_rise table (filter (plays_on waiting) players) (ordered_filter (plays_on waiting) players ordered)
+rising_dealt table waiting players ordered = ap are_rising (seats_dealt table waiting players)
+    ∙ seats_rise table (filter (plays_on waiting) players) (ordered_filter (plays_on waiting) players ordered)
 
 -- a seat that is in a set of seats that another set has is in that set
 from_other : (set other : List Bool) (seats : List ℕ)
@@ -111,13 +126,16 @@ from_other set other [] before all seat there = before seat there
 from_other set other (next ∷ seats) before all seat there =
     let parts = and_parts (has_seat other next) (list_all (has_seat other) seats) all in
     from_other (with_seat set next) other seats
-    (λ found put. elim (has_seat-with_seat set next found put) [ inl same ↦ subst (λ (s : ℕ). has_seat other s ≡ true) (sym same) parts.0 | inr was ↦ before found was ])
+    (λ found put. elim (has_seat-with_seat set next found put)
+    [ inl same ↦ subst (λ (s : ℕ). has_seat other s ≡ true) (sym same) parts.0 | inr was ↦ before found was ])
     parts.1 seat there
 
 -- the seats of those who wait at a table are seats that wait
 all_wait : (table : ℕ) (waiting : List Bool) (players : List Seated)
-    → list_all (has_seat waiting) (seats_at table (filter (λ player. has_seat waiting player.place.seat) players)) ≡ true
-all_wait table waiting players = list_all-filter (has_seat waiting) (λ player. player.place.seat) (sits_at table) (filter (λ player. has_seat waiting player.place.seat) players) (kept players)
+    → list_all (has_seat waiting) (seats_at table (filter (λ player. has_seat waiting player.place.seat) players))
+    ≡ true
+all_wait table waiting players = list_all-filter (has_seat waiting) (λ player. player.place.seat) (sits_at table)
+    (filter (λ player. has_seat waiting player.place.seat) players) (kept players)
   where
     step : (player : Seated) (found : List Seated) (b : Bool) → has_seat waiting player.place.seat ≡ b
         → list_all (has_seat waiting) (map (λ player. player.place.seat) found) ≡ true
@@ -126,9 +144,11 @@ all_wait table waiting players = list_all-filter (has_seat waiting) (λ player. 
     step player found false waits rest = rest
 
     kept : (players : List Seated)
-        → list_all (has_seat waiting) (map (λ player. player.place.seat) (filter (λ player. has_seat waiting player.place.seat) players)) ≡ true
+        → list_all (has_seat waiting) (map (λ player. player.place.seat)
+        (filter (λ player. has_seat waiting player.place.seat) players)) ≡ true
     kept [] = refl
-    kept (player ∷ players) = step player (filter (λ player. has_seat waiting player.place.seat) players) (has_seat waiting player.place.seat) refl (kept players)
+    kept (player ∷ players) = step player (filter (λ player. has_seat waiting player.place.seat) players)
+        (has_seat waiting player.place.seat) refl (kept players)
 
 -- no more players wait at a table than seats
 few_wait : (table : ℕ) (waiting : List Bool) (players : List Seated) → are_in_order players ≡ true
@@ -136,9 +156,11 @@ few_wait : (table : ℕ) (waiting : List Bool) (players : List Seated) → are_i
     → count_by (sits_at table) (filter (λ player. has_seat waiting player.place.seat) players) ≤ seat_count waiting
 few_wait table waiting players ordered within =
     let those = filter (λ (player : Seated). has_seat waiting player.place.seat) players in
-    let counted = taken_count table those (ordered_filter (λ player. has_seat waiting player.place.seat) players ordered) (within_filter 10 (λ player. has_seat waiting player.place.seat) players within) in
+    let counted = taken_count table those (ordered_filter (λ player. has_seat waiting player.place.seat) players
+    ordered) (within_filter 10 (λ player. has_seat waiting player.place.seat) players within) in
     let fewer = dominated (taken_seats those table) waiting (λ k there.
-    from_other no_seats waiting (seats_at table those) (λ seat put. let none = no_seats-none seat in absurd cc) (all_wait table waiting players) (suc k) there) in
+    from_other no_seats waiting (seats_at table those) (λ seat put. let none = no_seats-none seat in absurd cc)
+    (all_wait table waiting players) (suc k) there) in
     omega (arith, counted, fewer)
 
 split_step : (s w : Bool) → cond (s && not w) 1 0 + cond w (cond s 1 0) 0 ≡ cond {A = ℕ} s 1 0
@@ -148,17 +170,21 @@ split_step false true = refl
 split_step false false = refl
 
 count_front : (table : ℕ) (keep : Seated → Bool) (player : Seated) (players : List Seated) (b : Bool) → keep player ≡ b
-    → count_by (sits_at table) (cond b (player ∷ filter keep players) (filter keep players)) ≡ cond b (cond (sits_at table player) 1 0) 0 + count_by (sits_at table) (filter keep players)
-count_front table keep player players true kept = count-first (sits_at table) player (filter keep players) (sits_at table player) refl
+    → count_by (sits_at table) (cond b (player ∷ filter keep players) (filter keep players))
+    ≡ cond b (cond (sits_at table player) 1 0) 0 + count_by (sits_at table) (filter keep players)
+count_front table keep player players true kept =
+    count-first (sits_at table) player (filter keep players) (sits_at table player) refl
 count_front table keep player players false kept = omega arith
 
 -- who sits at a table is dealt in or waits
 dealt_or_waits : (table : ℕ) (waiting : List Bool) (players : List Seated)
-    → count_by (is_dealt_in table waiting) players + count_by (sits_at table) (filter (λ player. has_seat waiting player.place.seat) players) ≡ count_by (sits_at table) players
+    → count_by (is_dealt_in table waiting) players + count_by (sits_at table)
+    (filter (λ player. has_seat waiting player.place.seat) players) ≡ count_by (sits_at table) players
 dealt_or_waits table waiting [] = refl
 dealt_or_waits table waiting (player ∷ players) =
     let dealt = count-first (is_dealt_in table waiting) player players (is_dealt_in table waiting player) refl in
-    let waits = count_front table (λ player. has_seat waiting player.place.seat) player players (has_seat waiting player.place.seat) refl in
+    let waits = count_front table (λ player. has_seat waiting player.place.seat) player players
+    (has_seat waiting player.place.seat) refl in
     let sits = count-first (sits_at table) player players (sits_at table player) refl in
     let both = split_step (sits_at table player) (has_seat waiting player.place.seat) in
     omega (arith, dealt, waits, sits, both, dealt_or_waits table waiting players)
@@ -193,16 +219,20 @@ sits_there table seat player = sits_at table player && player.place.seat == seat
 
 taken_step : (table seat : ℕ) (set : List Bool) (player : Seated) (players : List Seated) (s : Bool)
     → sits_at table player ≡ s
-    → ((set : List Bool) → has_seat (with_seats set (seats_at table players)) seat ≡ true → (has_seat set seat ≡ true) ⊎ (list_any (sits_there table seat) players ≡ true))
-    → has_seat (with_seats set (map (λ player. player.place.seat) (cond s (player ∷ filter (sits_at table) players) (filter (sits_at table) players)))) seat ≡ true
+    → ((set : List Bool) → has_seat (with_seats set (seats_at table players)) seat ≡ true
+    → (has_seat set seat ≡ true) ⊎ (list_any (sits_there table seat) players ≡ true))
+    → has_seat (with_seats set (map (λ player. player.place.seat)
+    (cond s (player ∷ filter (sits_at table) players) (filter (sits_at table) players)))) seat ≡ true
     → (has_seat set seat ≡ true) ⊎ (list_any (sits_there table seat) (player ∷ players) ≡ true)
-taken_step table seat set player players true sits others there = elim (others (with_seat set player.place.seat) there) [
-  | inl put ↦ elim (has_seat-with_seat set player.place.seat seat put) [
-    | inl same ↦ inr (or_left _ _ (and_from (sits_at table player) (player.place.seat == seat) sits (eq-eqb player.place.seat seat (sym same))))
-    | inr was ↦ inl was
-  ]
-  | inr found ↦ inr (or_right (sits_there table seat player) _ found)
-]
+taken_step table seat set player players true sits others there =
+    elim (others (with_seat set player.place.seat) there) [
+      | inl put ↦ elim (has_seat-with_seat set player.place.seat seat put) [
+        | inl same ↦ inr (or_left _ _ (and_from (sits_at table player) (player.place.seat == seat) sits
+            (eq-eqb player.place.seat seat (sym same))))
+        | inr was ↦ inl was
+      ]
+      | inr found ↦ inr (or_right (sits_there table seat player) _ found)
+    ]
 taken_step table seat set player players false sits others there = elim (others set there) [
   | inl was ↦ inl was
   | inr found ↦ inr (or_right (sits_there table seat player) _ found)
@@ -213,11 +243,13 @@ taken_by : (table seat : ℕ) (players : List Seated) (set : List Bool)
     → has_seat (with_seats set (seats_at table players)) seat ≡ true
     → (has_seat set seat ≡ true) ⊎ (list_any (sits_there table seat) players ≡ true)
 taken_by table seat [] set there = inl there
-taken_by table seat (player ∷ players) set there = taken_step table seat set player players (sits_at table player) refl (λ set there. taken_by table seat players set there) there
+taken_by table seat (player ∷ players) set there = taken_step table seat set player players (sits_at table player)
+    refl (λ set there. taken_by table seat players set there) there
 
 dealt_step : (table seat : ℕ) (waiting : List Bool) (player : Seated) (found : List Seated) (d : Bool)
     → is_dealt_in table waiting player ≡ d → has_seat waiting seat ≡ false
-    → (sits_there table seat player ≡ true) ⊎ (list_any (λ (player : StartSeat). player.seat == seat) (map start_seat found) ≡ true)
+    → (sits_there table seat player ≡ true) ⊎ (list_any (λ (player : StartSeat). player.seat == seat)
+    (map start_seat found) ≡ true)
     → list_any (λ (player : StartSeat). player.seat == seat) (map start_seat (cond d (player ∷ found) found)) ≡ true
 dealt_step table seat waiting player found true dealt plays sits = elim sits [
   | inl here ↦ or_left _ _ (and_parts (sits_at table player) (player.place.seat == seat) here).1
@@ -226,7 +258,8 @@ dealt_step table seat waiting player found true dealt plays sits = elim sits [
 dealt_step table seat waiting player found false dealt plays sits = elim sits [
   | inl here ↦
       let parts = and_parts (sits_at table player) (player.place.seat == seat) here in
-      let on : has_seat waiting player.place.seat ≡ false = subst (λ (s : ℕ). has_seat waiting s ≡ false) (sym (eqb-true player.place.seat seat parts.1)) plays in
+      let on : has_seat waiting player.place.seat ≡ false =
+      subst (λ (s : ℕ). has_seat waiting s ≡ false) (sym (eqb-true player.place.seat seat parts.1)) plays in
       let in_it : is_dealt_in table waiting player ≡ true = rw (parts.0, on) refl in
       absurd cc
   | inr later ↦ later
@@ -237,7 +270,9 @@ dealt_by : (table seat : ℕ) (waiting : List Bool) (players : List Seated) → 
     → list_any (λ (player : StartSeat). player.seat == seat) (dealt_seats table waiting players) ≡ true
 dealt_by table seat waiting [] plays sits = cc
 dealt_by table seat waiting (player ∷ players) plays sits =
-    dealt_step table seat waiting player (filter (is_dealt_in table waiting) players) (is_dealt_in table waiting player) refl plays (elim (or_cases (sits_there table seat player) (list_any (sits_there table seat) players) sits) [
+    dealt_step table seat waiting player (filter (is_dealt_in table waiting) players)
+    (is_dealt_in table waiting player) refl plays (elim
+    (or_cases (sits_there table seat player) (list_any (sits_there table seat) players) sits) [
       | inl here ↦ inl here
       | inr later ↦ inr (dealt_by table seat waiting players plays later)
     ])

@@ -1,7 +1,7 @@
 use Rattle.std.proofs.Common.{◌∙◌, sym, ap, subst, map, arith}
 use Rattle.std.proofs.lemmas.List.{take_all}
 use Rattle.button_blinds.specs.SeatSets.{AreSeatsOf, no_seats, with_seat, with_seats, seat_count}
-use Rattle.seat_book.proofs.TakenSeats.{slot-place, seats_in, seats_in-more, seats_in-empty, taken_count, none-there}
+use Rattle.seat_book.proofs.TakenSeats.{slot-place, seats_in, seats_in-more, seats_in-empty, taken_count-seating, none-there}
 use Rattle.seat_book.proofs.seat_book.SeatBook.occupied.Goals.{in-Some, in_default}
 use Rattle.seat_book.proofs.seat_book.SeatBook.occupied.Goals as goal
 
@@ -52,4 +52,4 @@ returns-clause-count c =
     let seats = c.loop-slot.invariant.taken ∙ (ap seats_in all ∙ ap
     (λ players. with_seats no_seats (map (λ seated. seated.place.seat) players))
     c.table_slots-slot-items.ensures.players) in
-    ap seat_count seats ∙ taken_count c.args.self.now c.args.table c.table_slots-slot-items.ensures.lawful
+    ap seat_count seats ∙ taken_count-seating c.args.self.now c.args.table c.table_slots-slot-items.ensures.lawful
