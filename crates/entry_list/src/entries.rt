@@ -10,7 +10,7 @@ use std::marker::Model;
 use thiserror::Error;
 
 /// The most entries of a tournament.
-const MOST_ENTRIES: usize = 640;
+pub const MOST_ENTRIES: usize = 640;
 
 /// Why a name was not added.
 #[derive(Clone, Copy, Debug, PartialEq, Eq, Error)]

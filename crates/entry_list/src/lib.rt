@@ -6,7 +6,7 @@
 
 mod entries;
 
-pub use entries::{EntryFault, EntryList};
+pub use entries::{EntryFault, EntryList, MOST_ENTRIES};
 
 #[cfg(test)]
 mod tests;
