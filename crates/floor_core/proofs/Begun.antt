@@ -35,73 +35,99 @@ use Rattle.floor_core.specs.Pay.{ArePayees}
 use Rattle.floor_core.specs.Seats.{has_lawful_seat, dealt_of}
 
 -- The refusal of a hand that is to begin is that of its checks.
-pub begin_refusal : (book : BookState) (table : ℕ) (row : CardRow) → book_refusal book (Begin table row) ≡ first_that_holds (begin_checks book table row)
+pub begin_refusal : (book : BookState) (table : ℕ) (row : CardRow) → book_refusal book (Begin table row)
+    ≡ first_that_holds (begin_checks book table row)
 unfolding book_refusal
 begin_refusal book table row = refl
 
 -- The seats once a table plays and its players are dealt in.
-pub seating_begun : (seating played dealt : Seating) (table : ℕ) (next : NextMarks) (status : TableStatus) → status ≡ status_at seating.tables table
-    → played ≡ record seating { tables = with_status seating.tables table (record status { marks = Some next.marks; playing = true }) }
+pub seating_begun : (seating played dealt : Seating) (table : ℕ) (next : NextMarks) (status : TableStatus) → status
+    ≡ status_at seating.tables table
+    → played ≡ record seating {
+      tables = with_status seating.tables table
+          (record status { marks = Some next.marks; playing = true });
+    }
     → dealt ≡ record played { players = dealt_in table next.waiting played.players }
-    → dealt ≡ record (with_table seating table (playing_from next.marks)) { players = dealt_in table next.waiting seating.players }
-seating_begun seating played dealt table next status status_is played_is dealt_is = dealt_is ∙ rw (played_is, status_is) refl
+    → dealt ≡ record (with_table seating table (playing_from next.marks))
+    { players = dealt_in table next.waiting seating.players }
+seating_begun seating played dealt table next status status_is played_is dealt_is = dealt_is
+    ∙ rw (played_is, status_is) refl
 
 -- The fields that a begin writes make the book of the definition.
 pub begun_state : (book : BookState) (table : ℕ) (cards : List Card) (seating : Seating) (out : List (Option HandStart))
-    → seating ≡ record (with_table book.seating table (playing_from (next_at book table).marks)) { players = dealt_in table (next_at book table).waiting book.seating.players }
+    → seating ≡ record (with_table book.seating table (playing_from (next_at book table).marks))
+    { players = dealt_in table (next_at book table).waiting book.seating.players }
     → out ≡ slice_set book.out table (Some (next_start book table cards))
-    → record book { seating = seating; out = out; begun = book.begun + 1; accepted = book.accepted + 1 } ≡ begun_book book table cards
+    → record book { seating = seating; out = out; begun = book.begun + 1; accepted = book.accepted + 1 }
+    ≡ begun_book book table cards
 begun_state book table cards seating out seating_is out_is = rw (seating_is, out_is) refl
 
 -- The fields that an end writes make the book of the definition.
-pub ended_state : (book : BookState) (table : ℕ) (payees : List StartSeat) (paid rested : Seating) (out : List (Option HandStart)) → paid ≡ record book.seating { players = put_back payees book.seating.players }
-    → rested ≡ with_table paid table at_rest → out ≡ slice_set book.out table None → record book { seating = rested; out = out } ≡ ended book table payees
+pub ended_state : (book : BookState) (table : ℕ) (payees : List StartSeat) (paid rested : Seating)
+    (out : List (Option HandStart)) → paid ≡ record book.seating { players = put_back payees book.seating.players }
+    → rested ≡ with_table paid table at_rest → out ≡ slice_set book.out table None
+    → record book { seating = rested; out = out } ≡ ended book table payees
 ended_state book table payees paid rested out paid_is rested_is out_is = rw (rested_is, paid_is, out_is) refl
 
 -- The fields that a settle writes make the book of the definition.
-pub settled_state : (book : BookState) (hand : HandTerms) (payees : List StartSeat) (paid rested : Seating) (out : List (Option HandStart)) → payees ≡ players_after hand
-    → paid ≡ record book.seating { players = put_back payees book.seating.players } → rested ≡ with_table paid hand.start.table at_rest → out ≡ slice_set book.out hand.start.table None
+pub settled_state : (book : BookState) (hand : HandTerms) (payees : List StartSeat) (paid rested : Seating)
+    (out : List (Option HandStart)) → payees ≡ players_after hand
+    → paid ≡ record book.seating { players = put_back payees book.seating.players } → rested
+    ≡ with_table paid hand.start.table at_rest → out ≡ slice_set book.out hand.start.table None
     → record book { seating = rested; out = out; accepted = book.accepted + 1 } ≡ settled book hand
-settled_state book hand payees paid rested out payees_is paid_is rested_is out_is = rw (rested_is, paid_is, out_is, payees_is) refl
+settled_state book hand payees paid rested out payees_is paid_is rested_is out_is =
+    rw (rested_is, paid_is, out_is, payees_is) refl
 
-seat_known : (tables seats at seat : ℕ) → seats ≤ 10 → ((nat_le 1 at && nat_le at tables) && (nat_le 1 seat && nat_le seat seats)) ≡ true → is_between 1 10 seat ≡ true
+seat_known : (tables seats at seat : ℕ) → seats ≤ 10
+    → ((nat_le 1 at && nat_le at tables) && (nat_le 1 seat && nat_le seat seats)) ≡ true → is_between 1 10 seat ≡ true
 seat_known tables seats at seat most there = grind (arith, nat_tests)
 
 -- What passes for all passes for those whom a test picks.
-picked_pass : (test keep : Seated → Bool) (players : List Seated) → list_all test players ≡ true → list_all test (filter keep players) ≡ true
+picked_pass : (test keep : Seated → Bool) (players : List Seated) → list_all test players ≡ true
+    → list_all test (filter keep players) ≡ true
 picked_pass test keep [] all = refl
 picked_pass test keep (player ∷ players) all =
     let parts = and_parts (test player) (list_all test players) all in
     by_test (keep player) parts.0 (picked_pass test keep players parts.1)
   where
-    by_test : (b : Bool) → test player ≡ true → list_all test (filter keep players) ≡ true → list_all test (cond b (player ∷ filter keep players) (filter keep players)) ≡ true
+    by_test : (b : Bool) → test player ≡ true → list_all test (filter keep players) ≡ true
+        → list_all test (cond b (player ∷ filter keep players) (filter keep players)) ≡ true
     by_test true one rest = and_from (test player) (list_all test (filter keep players)) one rest
     by_test false one rest = rest
 
 -- All who sit at a table sit in a seat that a set of seats knows.
-pub lawful_seats : (seating : Seating) (table : ℕ) → IsSeating seating → list_all has_lawful_seat (players_at seating.players table) ≡ true
+pub lawful_seats : (seating : Seating) (table : ℕ) → IsSeating seating
+    → list_all has_lawful_seat (players_at seating.players table) ≡ true
 lawful_seats seating table lawful =
     picked_pass has_lawful_seat (sits_at table) seating.players
     (list_all-follows (sits_within seating.table_count seating.seat_count) has_lawful_seat seating.players
-    (λ player there. seat_known seating.table_count seating.seat_count player.place.table player.place.seat lawful.most_seats there) lawful.within)
+    (λ player there. seat_known seating.table_count seating.seat_count player.place.table player.place.seat
+    lawful.most_seats there) lawful.within)
 
 -- Whom one test picks of those whom another picks are picked by both.
-picked_twice : (one other : Seated → Bool) (players : List Seated) → filter other (filter one players) ≡ filter (λ player. one player && other player) players
+picked_twice : (one other : Seated → Bool) (players : List Seated) → filter other (filter one players)
+    ≡ filter (λ player. one player && other player) players
 picked_twice one other [] = refl
 picked_twice one other (player ∷ players) = by_tests (one player) (other player) (picked_twice one other players) refl
   where
-    by_tests : (a b : Bool) → filter other (filter one players) ≡ filter (λ player. one player && other player) players → other player ≡ b
-        → filter other (cond a (player ∷ filter one players) (filter one players)) ≡ cond (a && b) (player ∷ filter (λ player. one player && other player) players) (filter (λ player. one player && other player) players)
+    by_tests : (a b : Bool) → filter other (filter one players)
+        ≡ filter (λ player. one player && other player) players → other player ≡ b
+        → filter other (cond a (player ∷ filter one players) (filter one players))
+        ≡ cond (a && b) (player ∷ filter (λ player. one player && other player) players)
+        (filter (λ player. one player && other player) players)
     by_tests true true rest is = rw is (ap (◌∷◌ player) rest)
     by_tests true false rest is = rw is rest
     by_tests false b rest is = rest
 
 -- Those of a table who do not wait are dealt in.
-pub dealt_at : (table : ℕ) (waiting : List Bool) (players : List Seated) → dealt_of waiting (players_at players table) ≡ dealt_seats table waiting players
-dealt_at table waiting players = ap (map start_seat) (picked_twice (sits_at table) (λ player. not (has_seat waiting player.place.seat)) players)
+pub dealt_at : (table : ℕ) (waiting : List Bool) (players : List Seated)
+    → dealt_of waiting (players_at players table) ≡ dealt_seats table waiting players
+dealt_at table waiting players =
+    ap (map start_seat) (picked_twice (sits_at table) (λ player. not (has_seat waiting player.place.seat)) players)
 
 -- What is there is there whatever stands for what is not.
-pub there_is : {A : Type 0} (items : List A) (index : ℕ) (one other : A) → index < length items → get_or items index one ≡ get_or items index other
+pub there_is : {A : Type 0} (items : List A) (index : ℕ) (one other : A) → index < length items
+    → get_or items index one ≡ get_or items index other
 there_is [] index one other within = absurd (omega arith)
 there_is (item ∷ items) zero one other within = refl
 there_is (item ∷ items) (suc index) one other within = there_is items index one other (omega arith)
@@ -111,46 +137,84 @@ pub payees_of : (start : HandStart) → IsLawfulStart start → ArePayees start.
 payees_of start lawful = record { apart = lawful.numbers; entries = lawful.entries }
 
 -- The fields that a void writes make the book of the definition.
-pub voided_state : (book : BookState) (table : ℕ) (start : HandStart) → start_at book.out table ≡ Some start → ended book table start.seats ≡ void_at book table
+pub voided_state : (book : BookState) (table : ℕ) (start : HandStart) → start_at book.out table ≡ Some start
+    → ended book table start.seats ≡ void_at book table
 voided_state book table start is = rw is refl
 
 -- What is listed for a start makes the start of the definition.
-pub start_state : (book : BookState) (table : ℕ) (deck : List Card) (next : NextMarks) (seats : List StartSeat) (seat_count begun : ℕ) (blind : Blind) (game : Game) → next ≡ next_at book table
-    → seats ≡ dealt_seats table next.waiting book.seating.players → seat_count ≡ book.plan.seats → begun ≡ book.begun → blind ≡ blind_now book → game ≡ book.plan.game
-    → (let start : HandStart = record { table = table; serial = begun + 1; seats = seats; seat_count = seat_count; marks = next.marks; small = blind.small; big = blind.big; unit = blind.unit; game = game; deck = deck } in start)
+pub start_state : (book : BookState) (table : ℕ) (deck : List Card) (next : NextMarks) (seats : List StartSeat)
+    (seat_count begun : ℕ) (blind : Blind) (game : Game) → next ≡ next_at book table
+    → seats ≡ dealt_seats table next.waiting book.seating.players → seat_count ≡ book.plan.seats → begun ≡ book.begun
+    → blind ≡ blind_now book → game ≡ book.plan.game
+    → (let start : HandStart = record {
+      table = table;
+      serial = begun + 1;
+      seats = seats;
+      seat_count = seat_count;
+      marks = next.marks;
+      small = blind.small;
+      big = blind.big;
+      unit = blind.unit;
+      game = game;
+      deck = deck;
+    }
+    in start)
     ≡ next_start book table deck
-start_state book table deck next seats seat_count begun blind game next_is seats_is count_is begun_is blind_is game_is = rw (seats_is, next_is, count_is, begun_is, blind_is, game_is) refl
+start_state book table deck next seats seat_count begun blind game next_is seats_is count_is begun_is blind_is
+    game_is = rw (seats_is, next_is, count_is, begun_is, blind_is, game_is) refl
 
 -- A start that is taken out of its slot was out at its table.
-pub taken_out : (out : List (Option HandStart)) (index table : ℕ) (slot taken : Option HandStart) (start : HandStart) → index < length out → index ≡ table → slot ≡ get_or out index slot → taken ≡ slot → taken ≡ Some start
+pub taken_out : (out : List (Option HandStart)) (index table : ℕ) (slot taken : Option HandStart) (start : HandStart)
+    → index < length out → index ≡ table → slot ≡ get_or out index slot → taken ≡ slot → taken ≡ Some start
     → start_at out table ≡ Some start
 taken_out out index table slot taken start within same slot_is taken_is is =
-    ap (λ (table : ℕ). start_at out table) (sym same) ∙ (there_is out index None slot within ∙ (sym slot_is ∙ (sym taken_is ∙ is)))
+    ap (λ (table : ℕ). start_at out table) (sym same)
+    ∙ (there_is out index None slot within ∙ (sym slot_is ∙ (sym taken_is ∙ is)))
 
 -- Voids leave the number of tables.
-pub left_count : (book : BookState) (tables : ℕ) → (void_first book tables).seating.table_count ≡ book.seating.table_count
-left_count book tables = left-void_first (λ book. book.seating.table_count) (record { same = λ book table payees. refl }) book tables
+pub left_count : (book : BookState) (tables : ℕ) → (void_first book tables).seating.table_count
+    ≡ book.seating.table_count
+left_count book tables =
+    left-void_first (λ book. book.seating.table_count) (record { same = λ book table payees. refl }) book tables
 
 -- Voids are no accepted events.
 pub left_accepted : (book : BookState) (tables : ℕ) → (void_first book tables).accepted ≡ book.accepted
-left_accepted book tables = left-void_first (λ book. book.accepted) (record { same = λ book table payees. refl }) book tables
+left_accepted book tables =
+    left-void_first (λ book. book.accepted) (record { same = λ book table payees. refl }) book tables
 
 -- The fields that a stop writes make the book of the definition.
-pub stopped_state : (book now : BookState) (below : ℕ) → now ≡ void_first book below → below ≡ book.plan.tables → record now { stopped = true; accepted = now.accepted + 1 } ≡ stopped_book book
+pub stopped_state : (book now : BookState) (below : ℕ) → now ≡ void_first book below → below ≡ book.plan.tables
+    → record now { stopped = true; accepted = now.accepted + 1 } ≡ stopped_book book
 stopped_state book now below now_is all =
     let is : now ≡ void_first book book.plan.tables = now_is ∙ ap (void_first book) all in
     ap (λ (now : BookState). record now { stopped = true; accepted = now.accepted + 1 }) is
-    ∙ ap (λ (accepted : ℕ). record (void_first book book.plan.tables) { stopped = true; accepted = accepted + 1 }) (left_accepted book book.plan.tables)
+    ∙ ap (λ (accepted : ℕ). record (void_first book book.plan.tables) { stopped = true; accepted = accepted + 1 })
+    (left_accepted book book.plan.tables)
 
 -- What a begin does, step by step, makes the book of the definition.
-pub begun_by_steps : (book : BookState) (table number index : ℕ) (cards : List Card) (played dealt : Seating) (next : NextMarks) (status : TableStatus) (start : HandStart) → number ≡ table → index ≡ number
+pub begun_by_steps : (book : BookState) (table number index : ℕ) (cards : List Card) (played dealt : Seating)
+    (next : NextMarks) (status : TableStatus) (start : HandStart) → number ≡ table → index ≡ number
     → next ≡ next_at book number → status ≡ status_at book.seating.tables number
-    → played ≡ record book.seating { tables = with_status book.seating.tables number (record status { marks = Some next.marks; playing = true }) }
-    → dealt ≡ record played { players = dealt_in number next.waiting played.players } → start ≡ next_start book table cards
-    → record book { seating = dealt; out = slice_set book.out index (Some start); begun = book.begun + 1; accepted = book.accepted + 1 } ≡ begun_book book table cards
-begun_by_steps book table number index cards played dealt next status start same index_is next_is status_is played_is dealt_is start_is =
+    → played ≡ record book.seating {
+      tables = with_status book.seating.tables number
+          (record status { marks = Some next.marks; playing = true });
+    }
+    → dealt ≡ record played { players = dealt_in number next.waiting played.players } → start
+    ≡ next_start book table cards
+    → record book {
+      seating = dealt;
+      out = slice_set book.out index (Some start);
+      begun = book.begun + 1;
+      accepted =
+          book.accepted + 1;
+    } ≡ begun_book book table cards
+begun_by_steps book table number index cards played dealt next status start same index_is next_is status_is played_is
+    dealt_is start_is =
     let seated = seating_begun book.seating played dealt number next status status_is played_is dealt_is in
-    let here : record (with_table book.seating number (playing_from next.marks)) { players = dealt_in number next.waiting book.seating.players }
-    ≡ record (with_table book.seating table (playing_from (next_at book table).marks)) { players = dealt_in table (next_at book table).waiting book.seating.players } = rw (next_is, same) refl in
-    let out : slice_set book.out index (Some start) ≡ slice_set book.out table (Some (next_start book table cards)) = rw (index_is, same, start_is) refl in
+    let here : record (with_table book.seating number (playing_from next.marks))
+    { players = dealt_in number next.waiting book.seating.players }
+    ≡ record (with_table book.seating table (playing_from (next_at book table).marks))
+    { players = dealt_in table (next_at book table).waiting book.seating.players } = rw (next_is, same) refl in
+    let out : slice_set book.out index (Some start)
+    ≡ slice_set book.out table (Some (next_start book table cards)) = rw (index_is, same, start_is) refl in
     begun_state book table cards dealt (slice_set book.out index (Some start)) (seated ∙ here) out

@@ -18,30 +18,45 @@ pub record IsDealtSoFar (before now : Seating) (table : ℕ) (waiting : List Boo
   pub lawful : IsSeating before
 
 -- Before any seat nobody is dealt in.
-pub dealt_first : (before : Seating) (table : ℕ) (waiting : List Bool) → IsSeating before → IsDealtSoFar before before table waiting 0
+pub dealt_first : (before : Seating) (table : ℕ) (waiting : List Bool) → IsSeating before
+    → IsDealtSoFar before before table waiting 0
 dealt_first before table waiting lawful = record {
-  dealt = ap (seated_as before) (sym (dealt-none before.table_count before.seat_count table waiting before.players lawful.within));
+  dealt = ap (seated_as before) (sym
+      (dealt-none before.table_count before.seat_count table waiting before.players lawful.within));
   lawful = lawful;
 }
 
 -- One seat more.
-pub dealt_next : (before now next : Seating) (table : ℕ) (waiting : List Bool) (below : ℕ) → IsDealtSoFar before now table waiting below
-    → next ≡ cond (is_some (player_at now.players (seat_of table (below + 1))) && not (has_seat waiting (below + 1))) (seated_as now (with_stack (seat_of table (below + 1)) 0 now.players)) now
+pub dealt_next : (before now next : Seating) (table : ℕ) (waiting : List Bool) (below : ℕ)
+    → IsDealtSoFar before now table waiting below
+    → next ≡ cond (is_some (player_at now.players (seat_of table (below + 1))) && not (has_seat waiting (below + 1)))
+    (seated_as now (with_stack (seat_of table (below + 1)) 0 now.players)) now
     → IsDealtSoFar before next table waiting (below + 1)
 dealt_next before now next table waiting below so_far is = record {
-  dealt = (rw so_far.dealt at is) ∙ by_cases (player_at (dealt_below table waiting below before.players) (seat_of table (below + 1))) refl (has_seat waiting (below + 1)) refl;
+  dealt = (rw so_far.dealt at is) ∙ by_cases (player_at (dealt_below table waiting below before.players)
+      (seat_of table (below + 1))) refl (has_seat waiting (below + 1)) refl;
   lawful = so_far.lawful;
 }
   where
-    by_cases : (o : Option Seated) → player_at (dealt_below table waiting below before.players) (seat_of table (below + 1)) ≡ o → (h : Bool) → has_seat waiting (below + 1) ≡ h
-        → cond (is_some (player_at (dealt_below table waiting below before.players) (seat_of table (below + 1))) && not (has_seat waiting (below + 1)))
-        (seated_as before (with_stack (seat_of table (below + 1)) 0 (dealt_below table waiting below before.players))) (seated_as before (dealt_below table waiting below before.players))
+    by_cases : (o : Option Seated) → player_at (dealt_below table waiting below before.players)
+        (seat_of table (below + 1)) ≡ o → (h : Bool) → has_seat waiting (below + 1) ≡ h
+        → cond (is_some (player_at (dealt_below table waiting below before.players) (seat_of table (below + 1)))
+        && not (has_seat waiting (below + 1)))
+        (seated_as before (with_stack (seat_of table (below + 1)) 0
+        (dealt_below table waiting below before.players)))
+        (seated_as before (dealt_below table waiting below before.players))
         ≡ seated_as before (dealt_below table waiting (below + 1) before.players)
-    by_cases None nobody h here = rw nobody (ap (seated_as before) (dealt-empty table waiting below before.players nobody))
-    by_cases (Some player) somebody true waits = rw (somebody, waits) (ap (seated_as before) (dealt-waiting table waiting below before.players waits))
-    by_cases (Some player) somebody false plays = rw (somebody, plays) (ap (seated_as before) (dealt-seat table waiting below before.players plays))
+    by_cases None nobody h here =
+        rw nobody (ap (seated_as before) (dealt-empty table waiting below before.players nobody))
+    by_cases (Some player) somebody true waits =
+        rw (somebody, waits) (ap (seated_as before) (dealt-waiting table waiting below before.players waits))
+    by_cases (Some player) somebody false plays =
+        rw (somebody, plays) (ap (seated_as before) (dealt-seat table waiting below before.players plays))
 
 -- Once all seats are passed, all who do not wait are dealt in.
-pub dealt_last : (before now : Seating) (table : ℕ) (waiting : List Bool) (below : ℕ) → IsDealtSoFar before now table waiting below → below ≡ before.seat_count → now ≡ seated_as before (dealt_in table waiting before.players)
+pub dealt_last : (before now : Seating) (table : ℕ) (waiting : List Bool) (below : ℕ)
+    → IsDealtSoFar before now table waiting below → below ≡ before.seat_count → now
+    ≡ seated_as before (dealt_in table waiting before.players)
 dealt_last before now table waiting below so_far all =
-    so_far.dealt ∙ ap (seated_as before) (ap (λ (below : ℕ). dealt_below table waiting below before.players) all ∙ dealt-all before.table_count before.seat_count table waiting before.players so_far.lawful.within)
+    so_far.dealt ∙ ap (seated_as before) (ap (λ (below : ℕ). dealt_below table waiting below before.players) all ∙
+    dealt-all before.table_count before.seat_count table waiting before.players so_far.lawful.within)

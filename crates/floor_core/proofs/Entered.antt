@@ -14,30 +14,54 @@ use Rattle.tournament_rules.specs.Effects.{entered, first_book, first_seating}
 use Rattle.tournament_rules.specs.Valid.{AreEntered, seats_owed}
 
 -- The fields that an entry writes make the book of the definition.
-pub entered_state : (book : BookState) (name : List ℕ) (table seat player stack : ℕ) (place : Place) (entries : List (List ℕ)) (seating : Seating) → entries ≡ book.entries ++ name ∷ [] → player ≡ length book.entries
+pub entered_state : (book : BookState) (name : List ℕ) (table seat player stack : ℕ) (place : Place)
+    (entries : List (List ℕ)) (seating : Seating) → entries ≡ book.entries ++ name ∷ [] → player ≡ length book.entries
     → place ≡ record { table = table; seat = seat } → stack ≡ book.plan.stack
-    → seating ≡ record book.seating { players = sit_down (record { place = place; player = player; name = name; stack = stack }) book.seating.players }
+    → seating ≡ record book.seating {
+      players = sit_down
+          (record { place = place; player = player; name = name; stack = stack }) book.seating.players;
+    }
     → record book { entries = entries; seating = seating; accepted = book.accepted + 1 } ≡ entered book name table seat
-entered_state book name table seat player stack place entries seating entries_is player_is place_is stack_is seating_is = rw (entries_is, seating_is, player_is, place_is, stack_is) refl
+entered_state book name table seat player stack place entries seating entries_is player_is place_is stack_is
+    seating_is = rw (entries_is, seating_is, player_is, place_is, stack_is) refl
 
-none_counted : (number : ℕ) (players : List Seated) → count_by (is_numbered number) players ≡ 0 → place_of players number ≡ None
+none_counted : (number : ℕ) (players : List Seated) → count_by (is_numbered number) players ≡ 0
+    → place_of players number ≡ None
 none_counted number [] none = refl
 none_counted number (player ∷ players) none =
-    by_test (is_numbered number player) refl (sym (count_by-cons (is_numbered number) player players) ∙ none) (λ (more : count_by (is_numbered number) players ≡ 0). none_counted number players more)
+    by_test (is_numbered number player) refl (sym (count_by-cons (is_numbered number) player players) ∙ none)
+    (λ (more : count_by (is_numbered number) players ≡ 0). none_counted number players more)
   where
-    by_test : (b : Bool) → is_numbered number player ≡ b → cond (is_numbered number player) 1 0 + count_by (is_numbered number) players ≡ 0 → (count_by (is_numbered number) players ≡ 0 → place_of players number ≡ None)
+    by_test : (b : Bool) → is_numbered number player ≡ b
+        → cond (is_numbered number player) 1 0 + count_by (is_numbered number) players ≡ 0
+        → (count_by (is_numbered number) players ≡ 0 → place_of players number ≡ None)
         → place_of (player ∷ players) number ≡ None
-    by_test true is counted rest = let some : 1 + count_by (is_numbered number) players ≡ 0 = rw is at counted in absurd (omega arith)
-    by_test false is counted rest = let more : 0 + count_by (is_numbered number) players ≡ 0 = rw is at counted in rw is (rest (omega arith))
+    by_test true is counted rest = let some : 1 + count_by (is_numbered number) players
+        ≡ 0 = rw is at counted in absurd (omega arith)
+    by_test false is counted rest = let more : 0 + count_by (is_numbered number) players
+        ≡ 0 = rw is at counted in rw is (rest (omega arith))
 
 -- The next number is that of nobody who sits.
-pub next_stands : (entries : List (List ℕ)) (players : List Seated) → AreEntered entries players → place_of players (length entries) ≡ None
-next_stands entries players entered = none_counted (length entries) players (entered.seated (length entries) ∙ none_owed (length entries))
+pub next_stands : (entries : List (List ℕ)) (players : List Seated) → AreEntered entries players
+    → place_of players (length entries) ≡ None
+next_stands entries players entered =
+    none_counted (length entries) players (entered.seated (length entries) ∙ none_owed (length entries))
   where
     none_owed : (n : ℕ) → seats_owed entries (length entries) ≡ 0
     none_owed n = grind (arith, nat_tests)
 
 -- The fields of a new book make the book before any entry.
-pub first_state_of : (plan : PlanTerms) (entries : List (List ℕ)) (seating : Seating) (out : List (Option HandStart)) → entries ≡ [] → seating ≡ first_seating plan → out ≡ no_hands plan.tables
-    → (let book : BookState = record { plan = plan; entries = entries; seating = seating; out = out; level = 1; begun = 0; accepted = 0; stopped = false } in book) ≡ first_book plan
+pub first_state_of : (plan : PlanTerms) (entries : List (List ℕ)) (seating : Seating) (out : List (Option HandStart))
+    → entries ≡ [] → seating ≡ first_seating plan → out ≡ no_hands plan.tables
+    → (let book : BookState = record {
+      plan = plan;
+      entries = entries;
+      seating = seating;
+      out = out;
+      level = 1;
+      begun
+          = 0;
+      accepted = 0;
+      stopped = false;
+    } in book) ≡ first_book plan
 first_state_of plan entries seating out entries_is seating_is out_is = rw (entries_is, seating_is, out_is) refl

@@ -14,40 +14,53 @@ use Rattle.tournament_rules.specs.Players.{start_seat}
 use Rattle.floor_core.specs.Seats.{dealt_of}
 
 -- The players in slots are those of the slots in front, and that of one more.
-pub players_more : (slots : List (Option Seated)) (index : ℕ) (slot : Option Seated) → index < length slots → slot ≡ get_or slots index slot
+pub players_more : (slots : List (Option Seated)) (index : ℕ) (slot : Option Seated) → index < length slots → slot
+    ≡ get_or slots index slot
     → players_in (take (index + 1) slots) ≡ players_in (take index slots) ++ players_in (slot ∷ [])
 players_more slots index slot within is =
-    ap players_in (take_more slots index slot within) ∙ (filter_map-append (λ slot. slot) (take index slots) (get_or slots index slot ∷ [])
+    ap players_in (take_more slots index slot within)
+    ∙ (filter_map-append (λ slot. slot) (take index slots) (get_or slots index slot ∷ [])
     ∙ ap (λ (slot : Option Seated). players_in (take index slots) ++ players_in (slot ∷ [])) (sym is))
 
 -- What passes for all players passes for those in front.
-passes_front : (test : Seated → Bool) (slots : List (Option Seated)) (count : ℕ) → list_all test (players_in slots) ≡ true → list_all test (players_in (take count slots)) ≡ true
+passes_front : (test : Seated → Bool) (slots : List (Option Seated)) (count : ℕ) → list_all test (players_in slots)
+    ≡ true → list_all test (players_in (take count slots)) ≡ true
 passes_front test slots count all =
-    let split : players_in slots ≡ players_in (take count slots) ++ players_in (drop count slots) = ap players_in (sym (take-append-drop count slots)) ∙ filter_map-append (λ slot. slot) (take count slots) (drop count slots) in
-    let both : list_all test (players_in (take count slots) ++ players_in (drop count slots)) ≡ true = rw split at all in
-    (and_parts (list_all test (players_in (take count slots))) (list_all test (players_in (drop count slots))) (sym (list_all-append test (players_in (take count slots)) (players_in (drop count slots))) ∙ both)).0
+    let split : players_in slots ≡ players_in (take count slots)
+    ++ players_in (drop count slots) = ap players_in (sym (take-append-drop count slots))
+    ∙ filter_map-append (λ slot. slot) (take count slots) (drop count slots) in
+    let both : list_all test (players_in (take count slots) ++ players_in (drop count slots))
+    ≡ true = rw split at all in
+    (and_parts (list_all test (players_in (take count slots))) (list_all test (players_in (drop count slots)))
+    (sym (list_all-append test (players_in (take count slots)) (players_in (drop count slots))) ∙ both)).0
 
 -- There are as many players as slots that are taken.
 pub length_players : (slots : List (Option Seated)) → length (players_in slots) ≡ count_by is_some slots
 length_players [] = refl
-length_players (None ∷ slots) = length_players slots ∙ sym (count_by-cons is_some None slots ∙ zero-add (count_by is_some slots))
+length_players (None ∷ slots) = length_players slots
+    ∙ sym (count_by-cons is_some None slots ∙ zero-add (count_by is_some slots))
 length_players (Some player ∷ slots) =
     let rest : length (players_in slots) ≡ count_by is_some slots = length_players slots in
     let more = count_by-cons is_some (Some player) slots in
     omega (arith, rest, more)
 
 -- What passes for all players passes for the one of a slot.
-pub passes_at : (test : Seated → Bool) (slots : List (Option Seated)) (index : ℕ) (slot : Option Seated) → list_all test (players_in slots) ≡ true → index < length slots → slot ≡ get_or slots index slot
+pub passes_at : (test : Seated → Bool) (slots : List (Option Seated)) (index : ℕ) (slot : Option Seated)
+    → list_all test (players_in slots) ≡ true → index < length slots → slot ≡ get_or slots index slot
     → list_all test (players_in (slot ∷ [])) ≡ true
 passes_at test slots index slot all within is =
-    let split : players_in (take (index + 1) slots) ≡ players_in (take index slots) ++ players_in (slot ∷ []) = players_more slots index slot within is in
+    let split : players_in (take (index + 1) slots) ≡ players_in (take index slots)
+    ++ players_in (slot ∷ []) = players_more slots index slot within is in
     let front : list_all test (players_in (take (index + 1) slots)) ≡ true = passes_front test slots (index + 1) all in
     let both : list_all test (players_in (take index slots) ++ players_in (slot ∷ [])) ≡ true = rw split at front in
-    (and_parts (list_all test (players_in (take index slots))) (list_all test (players_in (slot ∷ []))) (sym (list_all-append test (players_in (take index slots)) (players_in (slot ∷ []))) ∙ both)).1
+    (and_parts (list_all test (players_in (take index slots))) (list_all test (players_in (slot ∷ [])))
+    (sym (list_all-append test (players_in (take index slots)) (players_in (slot ∷ []))) ∙ both)).1
 
 -- Those who are dealt in of the slots in front, and of one more.
-pub dealt_more : (waiting : List Bool) (slots : List (Option Seated)) (index : ℕ) (slot : Option Seated) → index < length slots → slot ≡ get_or slots index slot
-    → dealt_of waiting (players_in (take (index + 1) slots)) ≡ dealt_of waiting (players_in (take index slots)) ++ dealt_of waiting (players_in (slot ∷ []))
+pub dealt_more : (waiting : List Bool) (slots : List (Option Seated)) (index : ℕ) (slot : Option Seated)
+    → index < length slots → slot ≡ get_or slots index slot
+    → dealt_of waiting (players_in (take (index + 1) slots)) ≡ dealt_of waiting (players_in (take index slots))
+    ++ dealt_of waiting (players_in (slot ∷ []))
 dealt_more waiting slots index slot within is =
     let keep : Seated → Bool = λ player. not (has_seat waiting player.place.seat) in
     ap (dealt_of waiting) (players_more slots index slot within is)

@@ -13,12 +13,15 @@ use Rattle.tournament_rules.specs.Books.{BookState}
 use Rattle.tournament_rules.specs.Checks.{going_checks, newcomer_checks, seat_checks, entry_checks, room_checks, enter_checks, book_refusal}
 
 -- An error that is handed on is that of the checks.
-pub checked_on : {A T : Type 0} (checks : List (A × Bool)) (found : A) (result : Result T A) → first_that_holds checks ≡ Some found → IsErr result → IsErrAnd result (λ error. error ≡ found) → IsChecked checks result
+pub checked_on : {A T : Type 0} (checks : List (A × Bool)) (found : A) (result : Result T A)
+    → first_that_holds checks ≡ Some found → IsErr result → IsErrAnd result (λ error. error ≡ found)
+    → IsChecked checks result
 checked_on checks found (Ok value) holds error same = let never : false ≡ true = error in absurd cc
 checked_on checks found (Err other) holds error same = holds ∙ ap Some (sym same)
 
 -- A refusal that is handed on is the answer.
-pub answered_no : {T : Type 0} (refusal : Option Refusal) (found : Refusal) (result : Result T ActFault) → refusal ≡ Some found → IsErr result → IsErrAnd result (λ fault. fault ≡ No found) → IsAnswer refusal result
+pub answered_no : {T : Type 0} (refusal : Option Refusal) (found : Refusal) (result : Result T ActFault) → refusal
+    ≡ Some found → IsErr result → IsErrAnd result (λ fault. fault ≡ No found) → IsAnswer refusal result
 answered_no refusal found (Ok value) is error same = let never : false ≡ true = error in absurd cc
 answered_no refusal found (Err (No other)) is error same = is ∙ ap Some (same_refusal found other (sym same))
   where
@@ -27,31 +30,46 @@ answered_no refusal found (Err (No other)) is error same = is ∙ ap Some (same_
 answered_no refusal found (Err NoMemory) is error same = absurd cc
 
 -- A fault that is handed on is the answer, whatever else the result may hold.
-pub answered_on : {T : Type 0} (U : Type 0) (refusal : Option Refusal) (fault : ActFault) (result : Result T ActFault) → IsAnswer {T = U} refusal (Err fault) → IsErr result → IsErrAnd result (λ other. other ≡ fault) → IsAnswer refusal result
+pub answered_on : {T : Type 0} (U : Type 0) (refusal : Option Refusal) (fault : ActFault)
+    (result : Result T ActFault) → IsAnswer {T = U} refusal (Err fault) → IsErr result
+    → IsErrAnd result (λ other. other ≡ fault) → IsAnswer refusal result
 answered_on U refusal fault (Ok value) answer error same = let never : false ≡ true = error in absurd cc
-answered_on U refusal fault (Err (No found)) answer error same = let P : ActFault → Type 0 = λ fault. IsAnswer {T = U} refusal (Err fault) in subst P (sym same) answer
-answered_on U refusal fault (Err NoMemory) answer error same = let P : ActFault → Type 0 = λ fault. IsAnswer {T = U} refusal (Err fault) in subst P (sym same) answer
+answered_on U refusal fault (Err (No found)) answer error same = let P : ActFault
+    → Type 0 = λ fault. IsAnswer {T = U} refusal (Err fault) in subst P (sym same) answer
+answered_on U refusal fault (Err NoMemory) answer error same = let P : ActFault
+    → Type 0 = λ fault. IsAnswer {T = U} refusal (Err fault) in subst P (sym same) answer
 
 -- The seat's check is the first of an entry's that holds.
-pub seat_sooner : (book : BookState) (name : List ℕ) (table seat : ℕ) (found : Refusal) → first_that_holds (going_checks book) ≡ None → first_that_holds (newcomer_checks book name) ≡ None
-    → first_that_holds (seat_checks book table seat) ≡ Some found → first_that_holds (enter_checks book name table seat) ≡ Some found
+pub seat_sooner : (book : BookState) (name : List ℕ) (table seat : ℕ) (found : Refusal)
+    → first_that_holds (going_checks book) ≡ None → first_that_holds (newcomer_checks book name) ≡ None
+    → first_that_holds (seat_checks book table seat) ≡ Some found
+    → first_that_holds (enter_checks book name table seat) ≡ Some found
 seat_sooner book name table seat found going newcomer seated =
     let two = going_checks book ++ newcomer_checks book name in
-    let free : first_that_holds two ≡ None = first_that_holds-later (going_checks book) (newcomer_checks book name) going ∙ newcomer in
-    first_that_holds-sooner (two ++ seat_checks book table seat) (entry_checks book) found (first_that_holds-later two (seat_checks book table seat) free ∙ seated)
+    let free : first_that_holds two ≡ None =
+    first_that_holds-later (going_checks book) (newcomer_checks book name) going ∙ newcomer in
+    first_that_holds-sooner (two ++ seat_checks book table seat) (entry_checks book) found
+    (first_that_holds-later two (seat_checks book table seat) free ∙ seated)
 
 -- A check of an entry before that of the list's room is the book's refusal.
-pub entry_sooner : (book : BookState) (name : List ℕ) (table seat : ℕ) (found : Refusal) → first_that_holds (enter_checks book name table seat) ≡ Some found → book_refusal book (Enter name table seat) ≡ Some found
+pub entry_sooner : (book : BookState) (name : List ℕ) (table seat : ℕ) (found : Refusal)
+    → first_that_holds (enter_checks book name table seat) ≡ Some found → book_refusal book (Enter name table seat)
+    ≡ Some found
 unfolding book_refusal
-entry_sooner book name table seat found holds = first_that_holds-sooner (enter_checks book name table seat) (room_checks book.entries) found holds
+entry_sooner book name table seat found holds =
+    first_that_holds-sooner (enter_checks book name table seat) (room_checks book.entries) found holds
 
 -- Where none of these holds, the book's refusal is that of the list's room.
-pub entry_later : (book : BookState) (name : List ℕ) (table seat : ℕ) → first_that_holds (enter_checks book name table seat) ≡ None → book_refusal book (Enter name table seat) ≡ first_that_holds (room_checks book.entries)
+pub entry_later : (book : BookState) (name : List ℕ) (table seat : ℕ)
+    → first_that_holds (enter_checks book name table seat) ≡ None → book_refusal book (Enter name table seat)
+    ≡ first_that_holds (room_checks book.entries)
 unfolding book_refusal
-entry_later book name table seat none = first_that_holds-later (enter_checks book name table seat) (room_checks book.entries) none
+entry_later book name table seat none =
+    first_that_holds-later (enter_checks book name table seat) (room_checks book.entries) none
 
 -- Want of memory that is handed on is no refusal.
-pub answered_memory : {T : Type 0} (refusal : Option Refusal) (result : Result T ActFault) → refusal ≡ None → IsErr result → IsErrAnd result (λ fault. fault ≡ NoMemory) → IsAnswer refusal result
+pub answered_memory : {T : Type 0} (refusal : Option Refusal) (result : Result T ActFault) → refusal ≡ None
+    → IsErr result → IsErrAnd result (λ fault. fault ≡ NoMemory) → IsAnswer refusal result
 answered_memory refusal (Ok value) none error same = let never : false ≡ true = error in absurd cc
 answered_memory refusal (Err (No found)) none error same = absurd cc
 answered_memory refusal (Err NoMemory) none error same = none

@@ -23,17 +23,22 @@ seen book hands = seen_of (record { book = book; hands = hands })
 
 -- An event is refused by the book, or else by the hand that it is about.
 pub in_parts : (book : BookState) (hands : List (Option HandTerms)) (event : Event) → map start_of hands ≡ book.out
-    → refusal_of (seen book hands) event ≡ option_or (book_refusal book event) (option_and_then (hand_refusal event) (hand_for hands event))
+    → refusal_of (seen book hands) event ≡ option_or (book_refusal book event)
+    (option_and_then (hand_refusal event) (hand_for hands event))
 in_parts book hands event tied =
     refusal-parts (seen book hands) event
-    ∙ ap (λ (hand : Option HandTerms). option_or (book_refusal book event) (option_and_then (hand_refusal event) hand)) (hand_for-read book hands event tied)
+    ∙ ap (λ (hand : Option HandTerms). option_or (book_refusal book event)
+    (option_and_then (hand_refusal event) hand)) (hand_for-read book hands event tied)
 
 -- What the book refuses is refused.
-pub by_book : (book : BookState) (hands : List (Option HandTerms)) (event : Event) (found : Refusal) → map start_of hands ≡ book.out → book_refusal book event ≡ Some found → refusal_of (seen book hands) event ≡ Some found
+pub by_book : (book : BookState) (hands : List (Option HandTerms)) (event : Event) (found : Refusal)
+    → map start_of hands ≡ book.out → book_refusal book event ≡ Some found → refusal_of (seen book hands) event
+    ≡ Some found
 by_book book hands event found tied is = in_parts book hands event tied ∙ rw is refl
 
 -- An event about no hand is refused by the book alone.
-pub by_book_alone : (book : BookState) (hands : List (Option HandTerms)) (event : Event) → map start_of hands ≡ book.out → hand_for hands event ≡ None → refusal_of (seen book hands) event ≡ book_refusal book event
+pub by_book_alone : (book : BookState) (hands : List (Option HandTerms)) (event : Event) → map start_of hands
+    ≡ book.out → hand_for hands event ≡ None → refusal_of (seen book hands) event ≡ book_refusal book event
 by_book_alone book hands event tied none = in_parts book hands event tied ∙ rw none (no_more (book_refusal book event))
   where
     no_more : (refusal : Option Refusal) → option_or refusal None ≡ refusal
@@ -41,19 +46,25 @@ by_book_alone book hands event tied none = in_parts book hands event tied ∙ rw
     no_more (Some found) = refl
 
 -- What the book does not refuse is refused by the hand alone.
-pub by_hand : (book : BookState) (hands : List (Option HandTerms)) (event : Event) → map start_of hands ≡ book.out → book_refusal book event ≡ None → refusal_of (seen book hands) event ≡ option_and_then (hand_refusal event) (hand_for hands event)
+pub by_hand : (book : BookState) (hands : List (Option HandTerms)) (event : Event) → map start_of hands ≡ book.out
+    → book_refusal book event ≡ None → refusal_of (seen book hands) event
+    ≡ option_and_then (hand_refusal event) (hand_for hands event)
 by_hand book hands event tied none = in_parts book hands event tied ∙ rw none refl
 
 -- The book's refusal of an act is that of its checks.
-pub act_refusal : (book : BookState) (table : ℕ) (name : List ℕ) (act : Act) → book_refusal book (Acts table name act) ≡ first_that_holds (before_act_checks book table name)
+pub act_refusal : (book : BookState) (table : ℕ) (name : List ℕ) (act : Act)
+    → book_refusal book (Acts table name act) ≡ first_that_holds (before_act_checks book table name)
 unfolding book_refusal
 act_refusal book table name act = refl
 
 -- The book's refusal of a settle is that of its checks.
-pub settle_refusal : (book : BookState) (table : ℕ) → book_refusal book (Settle table) ≡ first_that_holds (before_settle_checks book table)
+pub settle_refusal : (book : BookState) (table : ℕ) → book_refusal book (Settle table)
+    ≡ first_that_holds (before_settle_checks book table)
 unfolding book_refusal
 settle_refusal book table = refl
 
 -- The same refusal has the same answer.
-pub answer_of_same : {T : Type 0} (one other : Option Refusal) (result : Result T ActFault) → other ≡ one → IsAnswer one result → IsAnswer other result
-answer_of_same one other result same answer = let P : Option Refusal → Type 0 = λ refusal. IsAnswer refusal result in subst P (sym same) answer
+pub answer_of_same : {T : Type 0} (one other : Option Refusal) (result : Result T ActFault) → other ≡ one
+    → IsAnswer one result → IsAnswer other result
+answer_of_same one other result same answer = let P : Option Refusal
+    → Type 0 = λ refusal. IsAnswer refusal result in subst P (sym same) answer

@@ -13,20 +13,36 @@ abbrev pub stack_in : Option Seated → ℕ
 stack_in slot = option_map_or (λ player. player.stack) slot 0
 
 -- The stacks of the players in slots are those in the slots.
-pub stacks_in-slots : (slots : List (Option Seated)) → sum_by (λ player. player.stack) (players_in slots) ≡ sum_by stack_in slots
+pub stacks_in-slots : (slots : List (Option Seated)) → sum_by (λ player. player.stack) (players_in slots)
+    ≡ sum_by stack_in slots
 stacks_in-slots [] = refl
 stacks_in-slots (None ∷ slots) = rw (sum_by-cons stack_in None slots, stacks_in-slots slots) (omega arith)
-stacks_in-slots (Some player ∷ slots) = rw (sum_by-cons stack_in (Some player) slots, sum_by-cons (λ player. player.stack) player (players_in slots), stacks_in-slots slots)
+stacks_in-slots (Some player ∷ slots) = rw (
+  sum_by-cons stack_in (Some player) slots,
+  sum_by-cons
+      (λ player. player.stack) player (players_in slots),
+  stacks_in-slots slots,
+)
 
 -- What holds of all players in slots holds of the player in one of them.
-pub held : (P : Seated → Type 0) (slots : List (Option Seated)) (i : ℕ) (fallback : Option Seated) (player : Seated) → All P (players_in slots) → i < length slots → get_or slots i fallback ≡ Some player → P player
+pub held : (P : Seated → Type 0) (slots : List (Option Seated)) (i : ℕ) (fallback : Option Seated) (player : Seated)
+    → All P (players_in slots) → i < length slots → get_or slots i fallback ≡ Some player → P player
 held P [] i fallback player all within is = absurd (omega arith)
 held P (None ∷ slots) zero fallback player all within is = absurd cc
-held P (Some other ∷ slots) zero fallback player all within is = let same : other ≡ player = cc in subst P same (All-head P other (players_in slots) all)
+held P (Some other ∷ slots) zero fallback player all within is = let same : other
+    ≡ player = cc in subst P same (All-head P other (players_in slots) all)
 held P (None ∷ slots) (suc i) fallback player all within is = held P slots i fallback player all (omega arith) is
-held P (Some other ∷ slots) (suc i) fallback player all within is = held P slots i fallback player (All-tail P other (players_in slots) all) (omega arith) is
+held P (Some other ∷ slots) (suc i) fallback player all within is =
+    held P slots i fallback player (All-tail P other (players_in slots) all) (omega arith) is
 
 -- What is made of the players in one slot more.
-pub mapped-more : {A : Type 0} (f : Seated → A) (slots : List (Option Seated)) (i : ℕ) (fallback slot : Option Seated) → i < length slots → get_or slots i fallback ≡ slot → map f (players_in (take (i + 1) slots)) ≡ map f (players_in (take i slots)) ++ map f (players_in (slot ∷ []))
+pub mapped-more : {A : Type 0} (f : Seated → A) (slots : List (Option Seated)) (i : ℕ)
+    (fallback slot : Option Seated) → i < length slots → get_or slots i fallback ≡ slot
+    → map f (players_in (take (i + 1) slots)) ≡ map f (players_in (take i slots)) ++ map f (players_in (slot ∷ []))
 mapped-more f slots i fallback slot within is =
-    rw (take_more slots i fallback within, is, filter_map-append (λ slot. slot) (take i slots) (slot ∷ []), map-append f (players_in (take i slots)) (players_in (slot ∷ [])))
+    rw (
+      take_more slots i fallback within,
+      is,
+      filter_map-append (λ slot. slot) (take i slots) (slot ∷ []),
+      map-append f (players_in (take i slots)) (players_in (slot ∷ [])),
+    )

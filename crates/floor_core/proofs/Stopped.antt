@@ -10,16 +10,19 @@ use Rattle.tournament_rules.proofs.Ends.{left-void_first, valid_stopped, none_ou
 use Rattle.tournament_rules.proofs.Layers.{hands_length, map_empty}
 
 -- Where nothing is found at any table, all slots are empty.
-all_empty : {A : Type 0} (slots : List (Option A)) → ((table : ℕ) → slice_index_or slots table None ≡ None) → slots ≡ replicate (length slots) None
+all_empty : {A : Type 0} (slots : List (Option A)) → ((table : ℕ) → slice_index_or slots table None ≡ None) → slots
+    ≡ replicate (length slots) None
 all_empty [] none = refl
-all_empty (slot ∷ slots) none = let first : slot ≡ None = none 0 in rw (first, ← all_empty slots (λ table. none (suc table))) refl
+all_empty (slot ∷ slots) none = let first : slot ≡ None =
+    none 0 in rw (first, ← all_empty slots (λ table. none (suc table))) refl
 
 -- A stop leaves no hand out, and each table keeps its slot.
 pub stopped_hands : (book : BookState) (hands : List (Option HandTerms)) → IsValid book → map start_of hands ≡ book.out
     → map start_of (replicate (length hands) None) ≡ (stopped_book book).out
 stopped_hands book hands valid tied =
     let none = all_empty (stopped_book book).out (λ table. none_out-stopped book table valid) in
-    let tables = left-void_first (λ book. book.plan.tables) (record { same = λ book table payees. refl }) book book.plan.tables in
+    let tables = left-void_first (λ book. book.plan.tables) (record { same = λ book table payees. refl }) book
+    book.plan.tables in
     let after = (valid_stopped book valid).tables.room in
     let before = valid.tables.room in
     let same = hands_length book hands tied in

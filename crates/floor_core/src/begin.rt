@@ -87,7 +87,8 @@ fn dealt_seats(
 fn deal_in_seat(seats: &mut SeatBook, place: Place, waiting: SeatSet)
     requires within { IsPlaceOf seats.old.table_count seats.old.seat_count place }
     requires few { seats.old.seat_count ≤ 10 }
-    ensures { seats.new ≡ (if is_some (player_at seats.old.players place) && not (has_seat waiting place.seat) then record seats.old { players = with_stack place 0 seats.old.players } else seats.old) }
+    ensures { seats.new ≡ (if is_some (player_at seats.old.players place) && not (has_seat waiting place.seat)
+        then record seats.old { players = with_stack place 0 seats.old.players } else seats.old) }
 {
     if seats.at(place).is_some() && !waiting.has(place.seat) {
         seats.set_stack(place, 0);
@@ -213,7 +214,8 @@ impl Book {
     pub fn begin(&mut self, table: u64, row: &CardRow) -> Result<Hand, BookFault>
         requires { self.old.accepted < 2 ^ 60 }
         ensures answer { IsAnswer (book_refusal self.old (events.Begin table row.now)) result }
-        ensures hand { IfOk result (λ hand. hand ≡ record { start = next_start self.old table row.now.cards; acts = [] }) }
+        ensures hand { IfOk result (λ hand.
+            hand ≡ record { start = next_start self.old table row.now.cards; acts = [] }) }
         ensures state { OnOk result (self.new ≡ begun_book self.old table row.now.cards) }
         ensures within { OnOk result (table < length self.old.out) }
         ensures err { OnErr result (self.new ≡ self.old) }

@@ -12,7 +12,7 @@ ghost use Rattle.tournament_rules.specs.Effects.{entered};
 
 use crate::BookFault;
 use crate::book::Book;
-use entry_list::{EntryFault, EntryList};
+use entry_list::{EntryFault, EntryList, MOST_ENTRIES};
 use floor_text::{Name, Refusal};
 use seat_book::Place;
 
@@ -21,7 +21,7 @@ fn enlist(entries: &mut EntryList, name: Name) -> Result<u32, BookFault>
     requires { is_known entries.old name ≡ false }
     ensures answer { IsAnswer (first_that_holds (room_checks entries.old)) result }
     ensures number { IfOk result (λ player. player ≡ length entries.old) }
-    ensures entry { IfOk result (λ player. player < 640) }
+    ensures entry { IfOk result (λ player. player < MOST_ENTRIES) }
     ensures state { OnOk result (entries.new ≡ entries.old ++ name ∷ []) }
     ensures err { OnErr result (entries.new ≡ entries.old) }
 {

@@ -8,13 +8,14 @@ ghost use Rattle.tournament_rules.specs.Players.{pay_one, put_back};
 ghost use Rattle.tournament_rules.specs.Effects.{with_table, at_rest};
 ghost use Rattle.floor_core.specs.Pay.{ArePayees};
 
+use entry_list::MOST_ENTRIES;
 use seat_book::{SeatBook, TableStatus};
 use table_engine::StartSeat;
 
 /// Gives a player his stack back, by his number.
 #[tactic(auto, using(tournament_rules::proofs::ByNumber::paid_in_place, tournament_rules::proofs::ByNumber::paid_nobody, crate::proofs::Found::sits_found))]
 fn pay(seats: &mut SeatBook, payee: StartSeat)
-    requires entry { payee.player < 640 }
+    requires entry { payee.player < MOST_ENTRIES }
     requires lawful { IsSeating seats.old }
     ensures paid { seats.new ≡ record seats.old { players = pay_one seats.old.players payee } }
     ensures lawful { IsSeating seats.new }
@@ -48,7 +49,8 @@ pub(crate) fn pay_stacks(seats: &mut SeatBook, players: &[StartSeat], stacks: &[
     requires payees { ArePayees players.now }
     requires named { length stacks.now ≡ length players.now }
     requires lawful { IsSeating seats.old }
-    ensures paid { seats.new ≡ record seats.old { players = put_back (with_stacks players.now stacks.now) seats.old.players } }
+    ensures paid { seats.new
+        ≡ record seats.old { players = put_back (with_stacks players.now stacks.now) seats.old.players } }
     ensures lawful { IsSeating seats.new }
 {
     for index in 0..players.len() {

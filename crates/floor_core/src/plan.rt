@@ -26,7 +26,8 @@ fn is_not_built(line: &PlanLine) -> bool
 /// Takes a line of the plan. A refusal and want of memory leave the draft as it was.
 pub(crate) fn take_line(draft: &mut PlanDraft, line: &PlanLine) -> Result<Answer, AllocError>
     ensures answer { IfOk result (λ answer. answer ≡ planning_answer draft.old (events.Plan line.now)) }
-    ensures state { OnOk result (draft.new ≡ (if is_accepted (planning_answer draft.old (events.Plan line.now)) then draft_after draft.old line.now else draft.old)) }
+    ensures state { OnOk result (draft.new ≡ (if is_accepted (planning_answer draft.old (events.Plan line.now))
+        then draft_after draft.old line.now else draft.old)) }
     ensures err { OnErr result (draft.new ≡ draft.old) }
     ensures lawful { OnErr result (planning_answer draft.old (events.Plan line.now) ≡ answers.Ok) }
 {

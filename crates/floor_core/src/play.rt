@@ -152,8 +152,10 @@ fn act_at(
 ) -> Result<(), BookFault>
     requires within { index < length hands.old.items }
     requires played { IsSome (hand_in hands.old.items index) }
-    ensures answer { IsAnswer (option_and_then (λ hand. refusal_of_act hand name) (hand_in hands.old.items index)) result }
-    ensures state { OnOk result (hands.new.items ≡ slice_set hands.old.items index (option_map (λ hand. hand_after hand name act false) (hand_in hands.old.items index))) }
+    ensures answer { IsAnswer
+        (option_and_then (λ hand. refusal_of_act hand name) (hand_in hands.old.items index)) result }
+    ensures state { OnOk result (hands.new.items ≡ slice_set hands.old.items index
+        (option_map (λ hand. hand_after hand name act false) (hand_in hands.old.items index))) }
     ensures err { OnErr result (hands.new.items ≡ hands.old.items) }
 {
     hands[index].as_mut().unwrap().act(name, act)?;

@@ -40,7 +40,8 @@ impl Book {
         ensures same { IfOk result (λ number. number ≡ table) }
         ensures within { IfOk result (λ number. number < length self.now.out) }
         ensures out { IfOk result (λ number. IsSome (start_at self.now.out number)) }
-        ensures here { IfOk result (λ number. (start : HandStart) → start_at self.now.out number ≡ Some start → start.table ≡ number) }
+        ensures here { IfOk result (λ number. (start : HandStart)
+            → start_at self.now.out number ≡ Some start → start.table ≡ number) }
     {
         let Some(number) = self.table_number(table) else {
             return Err(Refusal::NoTable);

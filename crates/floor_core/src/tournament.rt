@@ -60,7 +60,8 @@ impl Tournament {
     fn plan(&mut self, event: &Event) -> Result<Answer, AllocError>
         requires { self.old.play ≡ None }
         ensures answer { IfOk result (λ answer. answer ≡ answer_to self.old event.now) }
-        ensures state { OnOk result (self.new ≡ (if is_accepted (answer_to self.old event.now) then effect self.old event.now else self.old)) }
+        ensures state { OnOk result (self.new ≡
+            (if is_accepted (answer_to self.old event.now) then effect self.old event.now else self.old)) }
         ensures err { OnErr result (self.new ≡ self.old) }
         ensures lawful { OnErr result (answer_to self.old event.now ≡ answers.Ok) }
     {
@@ -75,7 +76,8 @@ impl Tournament {
     fn go(&mut self) -> Result<Answer, AllocError>
         requires { self.old.play ≡ None }
         ensures answer { IfOk result (λ answer. answer ≡ answer_to self.old events.Go) }
-        ensures state { OnOk result (self.new ≡ (if is_accepted (answer_to self.old events.Go) then effect self.old events.Go else self.old)) }
+        ensures state { OnOk result (self.new ≡
+            (if is_accepted (answer_to self.old events.Go) then effect self.old events.Go else self.old)) }
         ensures err { OnErr result (self.new ≡ self.old) }
         ensures lawful { OnErr result (answer_to self.old events.Go ≡ answers.Ok) }
     {
@@ -118,7 +120,9 @@ impl Tournament {
         ensures err { OnErr result (self.new ≡ self.old) }
         ensures lawful { OnErr result (answer_to self.old event.now ≡ answers.Ok) }
         // A hand that begins starts lawfully.
-        ensures start { (table : ℕ) (row : CardRow) → event.now ≡ events.Begin table row → IfOk result (λ answer. answer ≡ answers.Ok → ForSome self.old.play (λ play. IsLawfulStart (next_start play.book table row.cards))) }
+        ensures start { (table : ℕ) (row : CardRow) → event.now ≡ events.Begin table row
+            → IfOk result (λ answer. answer ≡ answers.Ok
+            → ForSome self.old.play (λ play. IsLawfulStart (next_start play.book table row.cards))) }
     {
         if self.play.is_some() {
             return self.play(event);

@@ -32,18 +32,27 @@ row ▸ rows = (row, rows)
 -- each row reads what is spelled so
 own_rows : AllByRecursion IsOwnRow grammar
 own_rows =
-    row0_rest (codes "shares") shares_rest (λ shares. events.Plan (lines.Shares shares)) (λ a p. record { spelling = refl; parts = p }) ▸
-    row1 (codes "game") game_field (λ game. events.Plan (lines.Game game)) (λ a p. record { spelling = refl; parts = p }) ▸
-    row1 (codes "tables") number_field (λ n. events.Plan (lines.Tables n)) (λ a p. record { spelling = refl; parts = p }) ▸
-    row1 (codes "seats") number_field (λ n. events.Plan (lines.Seats n)) (λ a p. record { spelling = refl; parts = p }) ▸
-    row1 (codes "stack") number_field (λ n. events.Plan (lines.Stack n)) (λ a p. record { spelling = refl; parts = p }) ▸
-    row1 (codes "buyin") number_field (λ n. events.Plan (lines.Buyin n)) (λ a p. record { spelling = refl; parts = p }) ▸
+    row0_rest (codes "shares") shares_rest (λ shares. events.Plan (lines.Shares shares))
+    (λ a p. record { spelling = refl; parts = p }) ▸
+    row1 (codes "game") game_field (λ game. events.Plan (lines.Game game))
+    (λ a p. record { spelling = refl; parts = p }) ▸
+    row1 (codes "tables") number_field (λ n. events.Plan (lines.Tables n))
+    (λ a p. record { spelling = refl; parts = p }) ▸
+    row1 (codes "seats") number_field (λ n. events.Plan (lines.Seats n))
+    (λ a p. record { spelling = refl; parts = p }) ▸
+    row1 (codes "stack") number_field (λ n. events.Plan (lines.Stack n))
+    (λ a p. record { spelling = refl; parts = p }) ▸
+    row1 (codes "buyin") number_field (λ n. events.Plan (lines.Buyin n))
+    (λ a p. record { spelling = refl; parts = p }) ▸
     row1 (codes "late") number_field (λ n. events.Plan (lines.Late n)) (λ a p. record { spelling = refl; parts = p }) ▸
-    row3 (codes "blinds") number_field number_field number_field (λ s b u. events.Plan (lines.Blinds s b u)) (λ a b c p q r. record { spelling = refl; parts = (p, q, r) }) ▸
+    row3 (codes "blinds") number_field number_field number_field (λ s b u. events.Plan (lines.Blinds s b u))
+    (λ a b c p q r. record { spelling = refl; parts = (p, q, r) }) ▸
     row0 (codes "go") events.Go (record { spelling = refl; parts = tt }) ▸
-    row3 (codes "enter") name_field number_field number_field events.Enter (λ a b c p q r. record { spelling = refl; parts = (p, q, r) }) ▸
+    row3 (codes "enter") name_field number_field number_field events.Enter
+    (λ a b c p q r. record { spelling = refl; parts = (p, q, r) }) ▸
     row2 (codes "begin") number_field row_field events.Begin (λ a b p q. record { spelling = refl; parts = p }) ▸
-    row2_rest (codes "act") number_field name_field act_rest events.Act (λ a b c p q r. record { spelling = refl; parts = (q, p) }) ▸
+    row2_rest (codes "act") number_field name_field act_rest events.Act
+    (λ a b c p q r. record { spelling = refl; parts = (q, p) }) ▸
     row1 (codes "settle") number_field events.Settle (λ a p. record { spelling = refl; parts = p }) ▸
     row0 (codes "stop") events.Stop (record { spelling = refl; parts = tt }) ▸
     tt
@@ -56,62 +65,90 @@ again (events.Plan (lines.Seats n)) parts = fields1_again number_field (λ k. ev
 again (events.Plan (lines.Stack n)) parts = fields1_again number_field (λ k. events.Plan (lines.Stack k)) n parts
 again (events.Plan (lines.Buyin n)) parts = fields1_again number_field (λ k. events.Plan (lines.Buyin k)) n parts
 again (events.Plan (lines.Late n)) parts = fields1_again number_field (λ k. events.Plan (lines.Late k)) n parts
-again (events.Plan (lines.Blinds s b u)) parts = fields3_again number_field number_field number_field (λ s b u. events.Plan (lines.Blinds s b u)) s b u parts.0 parts.1 parts.2
-again (events.Plan (lines.Shares shares)) parts = rest0_again shares_rest (λ ns. events.Plan (lines.Shares ns)) shares parts
+again (events.Plan (lines.Blinds s b u)) parts = fields3_again number_field number_field number_field
+    (λ s b u. events.Plan (lines.Blinds s b u)) s b u parts.0 parts.1 parts.2
+again (events.Plan (lines.Shares shares)) parts =
+    rest0_again shares_rest (λ ns. events.Plan (lines.Shares ns)) shares parts
 again events.Go parts = fields0_again events.Go
-again (events.Enter name table seat) parts = fields3_again name_field number_field number_field events.Enter name table seat parts.0 parts.1 parts.2
+again (events.Enter name table seat) parts =
+    fields3_again name_field number_field number_field events.Enter name table seat parts.0 parts.1 parts.2
 again (events.Begin table row) parts = fields2_again number_field row_field events.Begin table row parts tt
-again (events.Act table name act) parts = rest2_again number_field name_field act_rest events.Act table name act parts.1 parts.0 tt
+again (events.Act table name act) parts =
+    rest2_again number_field name_field act_rest events.Act table name act parts.1 parts.0 tt
 again (events.Settle table) parts = fields1_again number_field events.Settle table parts
 again events.Stop parts = fields0_again events.Stop
 
 -- no word of an event has a space
 words_of_text : (event : Event) → HasLineParts event → words_of_line (event_text event) ≡ event_words event
-words_of_text (events.Plan (lines.Game game)) parts = words_again (codes "game") _ (rw (game_field.spaceless game parts) refl)
-words_of_text (events.Plan (lines.Tables n)) parts = words_again (codes "tables") _ (rw (number_field.spaceless n parts) refl)
-words_of_text (events.Plan (lines.Seats n)) parts = words_again (codes "seats") _ (rw (number_field.spaceless n parts) refl)
-words_of_text (events.Plan (lines.Stack n)) parts = words_again (codes "stack") _ (rw (number_field.spaceless n parts) refl)
-words_of_text (events.Plan (lines.Buyin n)) parts = words_again (codes "buyin") _ (rw (number_field.spaceless n parts) refl)
-words_of_text (events.Plan (lines.Late n)) parts = words_again (codes "late") _ (rw (number_field.spaceless n parts) refl)
+words_of_text (events.Plan (lines.Game game)) parts =
+    words_again (codes "game") _ (rw (game_field.spaceless game parts) refl)
+words_of_text (events.Plan (lines.Tables n)) parts =
+    words_again (codes "tables") _ (rw (number_field.spaceless n parts) refl)
+words_of_text (events.Plan (lines.Seats n)) parts =
+    words_again (codes "seats") _ (rw (number_field.spaceless n parts) refl)
+words_of_text (events.Plan (lines.Stack n)) parts =
+    words_again (codes "stack") _ (rw (number_field.spaceless n parts) refl)
+words_of_text (events.Plan (lines.Buyin n)) parts =
+    words_again (codes "buyin") _ (rw (number_field.spaceless n parts) refl)
+words_of_text (events.Plan (lines.Late n)) parts =
+    words_again (codes "late") _ (rw (number_field.spaceless n parts) refl)
 words_of_text (events.Plan (lines.Blinds s b u)) parts =
-    words_again (codes "blinds") _ (rw (number_field.spaceless s parts.0, number_field.spaceless b parts.1, number_field.spaceless u parts.2) refl)
-words_of_text (events.Plan (lines.Shares shares)) parts = words_again (codes "shares") _ (shares_rest.spaceless shares parts)
+    words_again (codes "blinds") _ (rw
+    (number_field.spaceless s parts.0, number_field.spaceless b parts.1, number_field.spaceless u parts.2) refl)
+words_of_text (events.Plan (lines.Shares shares)) parts =
+    words_again (codes "shares") _ (shares_rest.spaceless shares parts)
 words_of_text events.Go parts = words_again (codes "go") [] refl
 words_of_text (events.Enter name table seat) parts =
-    words_again (codes "enter") _ (rw (name_field.spaceless name parts.0, number_field.spaceless table parts.1, number_field.spaceless seat parts.2) refl)
-words_of_text (events.Begin table row) parts = words_again (codes "begin") _ (rw (number_field.spaceless table parts, row_field.spaceless row tt) refl)
+    words_again (codes "enter") _ (rw (
+      name_field.spaceless name parts.0,
+      number_field.spaceless table parts.1,
+      number_field.spaceless seat
+          parts.2,
+    ) refl)
+words_of_text (events.Begin table row) parts =
+    words_again (codes "begin") _ (rw (number_field.spaceless table parts, row_field.spaceless row tt) refl)
 words_of_text (events.Act table name act) parts =
-    words_again (codes "act") _ (rw (number_field.spaceless table parts.1, name_field.spaceless name parts.0, act_rest.spaceless act tt) refl)
-words_of_text (events.Settle table) parts = words_again (codes "settle") _ (rw (number_field.spaceless table parts) refl)
+    words_again (codes "act") _ (rw
+    (number_field.spaceless table parts.1, name_field.spaceless name parts.0, act_rest.spaceless act tt) refl)
+words_of_text (events.Settle table) parts =
+    words_again (codes "settle") _ (rw (number_field.spaceless table parts) refl)
 words_of_text events.Stop parts = words_again (codes "stop") [] refl
 
-row_or_later : (b : Bool) (row : List ℕ × Reader) (later : Option Event) (word : List ℕ) (words : List (List ℕ)) (event : Event) → (b ≡ true → word ≡ row.0) → IsOwnRow row → (later ≡ Some event → Spells (word ∷ words) event) → cond b (row.1 words) later ≡ Some event → Spells (word ∷ words) event
-row_or_later true row later word words event same mine others h = subst (λ (w : List ℕ). Spells (w ∷ words) event) (sym (same refl)) (mine words event h)
+row_or_later : (b : Bool) (row : List ℕ × Reader) (later : Option Event) (word : List ℕ) (words : List (List ℕ))
+    (event : Event) → (b ≡ true → word ≡ row.0) → IsOwnRow row → (later ≡ Some event → Spells (word ∷ words) event)
+    → cond b (row.1 words) later ≡ Some event → Spells (word ∷ words) event
+row_or_later true row later word words event same mine others h =
+    subst (λ (w : List ℕ). Spells (w ∷ words) event) (sym (same refl)) (mine words event h)
 row_or_later false row later word words event same mine others h = others h
 
-event_found : (rows : List (List ℕ × Reader)) (word : List ℕ) (words : List (List ℕ)) (event : Event) → AllByRecursion IsOwnRow rows → event_by rows word words ≡ Some event → Spells (word ∷ words) event
+event_found : (rows : List (List ℕ × Reader)) (word : List ℕ) (words : List (List ℕ)) (event : Event)
+    → AllByRecursion IsOwnRow rows → event_by rows word words ≡ Some event → Spells (word ∷ words) event
 event_found [] word words event mine h = absurd cc
 event_found (row ∷ rows) word words event mine h =
-    row_or_later (bytes_eq word row.0) row (event_by rows word words) word words event (bytes_eq-Decides word row.0).0 mine.0 (event_found rows word words event mine.1) h
+    row_or_later (bytes_eq word row.0) row (event_by rows word words) word words event
+    (bytes_eq-Decides word row.0).0 mine.0 (event_found rows word words event mine.1) h
 
 words_found : (words : List (List ℕ)) (event : Event) → event_of_words words ≡ Some event → Spells words event
 words_found [] event h = absurd cc
 words_found (word ∷ words) event h = event_found grammar word words event own_rows h
 
 -- what is read from a line is writable and spelled so
-pub line_found : (line : List ℕ) (item : Item) → item_of_bytes line ≡ Some item → IsWritable item × (line ≡ item_text item)
+pub line_found : (line : List ℕ) (item : Item) → item_of_bytes line ≡ Some item → IsWritable item
+    × (line ≡ item_text item)
 unfolding item_of_bytes item_of_words
 line_found line item h =
     let test = test_found (leb (length line) LONGEST_LINE) (item_of_words (words_of_line line)) item h in
     let read = map_found found.Event (event_of_words (words_of_line line)) item test.1 in
     let spelled = words_found (words_of_line line) read.0 read.1 in
-    let text : line ≡ event_text read.0 = sym (join_with_byte-slice_split 32 line) ∙ ap (join_with_byte 32) spelled.spelling in
+    let text : line ≡ event_text read.0 = sym (join_with_byte-slice_split 32 line)
+    ∙ ap (join_with_byte 32) spelled.spelling in
     let short : length line ≤ LONGEST_LINE = grind (arith, nat_tests, test.0) in
     let few : length (event_text read.0) ≤ LONGEST_LINE = subst (λ (l : List ℕ). length l ≤ LONGEST_LINE) text short in
     subst (λ (i : Item). IsWritable i × (line ≡ item_text i)) read.2 ((spelled.parts, few), text)
 
 -- what is read from a line, if something is, is writable and spelled so
-pub found_in_line : (line : List ℕ) (read : Option Item) → read ≡ item_of_bytes line → IfSome read (λ item. IsWritable item × (line ≡ item_text item))
+pub found_in_line : (line : List ℕ) (read : Option Item) → read ≡ item_of_bytes line
+    → IfSome read (λ item. IsWritable item × (line ≡ item_text item))
 found_in_line line None same = tt
 found_in_line line (Some item) same = line_found line item (sym same)
 

@@ -23,12 +23,14 @@ use Rattle.floor_events.specs.Fields.{◌>>=◌, meaning, game_list, game_of, ac
 use Rattle.floor_events.proofs.Spaces.{and_parts, has_no_space, decimal_spaceless, decimals_spaceless, name_spaceless, row_spaceless}
 
 -- the value of a step that found something
-pub bind_found : {A B : Type 0} (o : Option A) (f : A → Option B) (y : B) → (o >>= f) ≡ Some y → (x : A) × (o ≡ Some x) × (f x ≡ Some y)
+pub bind_found : {A B : Type 0} (o : Option A) (f : A → Option B) (y : B) → (o >>= f) ≡ Some y → (x : A)
+    × (o ≡ Some x) × (f x ≡ Some y)
 bind_found None f y h = absurd cc
 bind_found (Some x) f y h = (x, refl, h)
 
 -- the value that was mapped to this one
-pub map_found : {A B : Type 0} (f : A → B) (o : Option A) (y : B) → option_map f o ≡ Some y → (x : A) × (o ≡ Some x) × (f x ≡ y)
+pub map_found : {A B : Type 0} (f : A → B) (o : Option A) (y : B) → option_map f o ≡ Some y → (x : A) × (o ≡ Some x)
+    × (f x ≡ y)
 map_found f None y h = absurd cc
 map_found f (Some x) y h = (x, refl, same_Some (f x) y h)
 
@@ -44,7 +46,8 @@ pub record IsField {A : Type 0} (read : List ℕ → Option A) (write : A → Li
   pub spaceless : (value : A) → Fits value → has_no_space (write value) ≡ true
 
 -- a field of all words that are left reads exactly what it writes
-pub record IsRest {A : Type 0} (read : List (List ℕ) → Option A) (write : A → List (List ℕ)) (Fits : A → Type 0) : Type 0 where
+pub record IsRest {A : Type 0} (read : List (List ℕ) → Option A) (write : A → List (List ℕ)) (Fits : A → Type 0)
+    : Type 0 where
   pub found : (words : List (List ℕ)) (value : A) → read words ≡ Some value → (words ≡ write value) × Fits value
   pub again : (value : A) → Fits value → read (write value) ≡ Some value
   pub spaceless : (value : A) → Fits value → list_all has_no_space (write value) ≡ true
@@ -69,15 +72,20 @@ name_again name right = rw right refl
 pub name_field : IsField name_of (λ name. name) (λ name. IsTrue (is_name name))
 name_field = record { found = name_found; again = name_again; spaceless = name_spaceless }
 
-meaning_here : {A : Type 0} (spelling : A → List ℕ) (b : Bool) (entry : List ℕ × A) (others : Option A) (word : List ℕ) (a : A) → (b ≡ true → word ≡ entry.0) → entry.0 ≡ spelling entry.1 → (others ≡ Some a → word ≡ spelling a) → cond b (Some entry.1) others ≡ Some a → word ≡ spelling a
-meaning_here spelling true entry others word a same spelled later h = same refl ∙ spelled ∙ ap spelling (same_Some entry.1 a h)
+meaning_here : {A : Type 0} (spelling : A → List ℕ) (b : Bool) (entry : List ℕ × A) (others : Option A)
+    (word : List ℕ) (a : A) → (b ≡ true → word ≡ entry.0) → entry.0 ≡ spelling entry.1
+    → (others ≡ Some a → word ≡ spelling a) → cond b (Some entry.1) others ≡ Some a → word ≡ spelling a
+meaning_here spelling true entry others word a same spelled later h = same refl ∙ spelled
+    ∙ ap spelling (same_Some entry.1 a h)
 meaning_here spelling false entry others word a same spelled later h = later h
 
 -- a word that was looked up is the spelling of what it stands for
-meaning_found : {A : Type 0} (spelling : A → List ℕ) (entries : List (List ℕ × A)) (word : List ℕ) (a : A) → AllByRecursion (λ entry. entry.0 ≡ spelling entry.1) entries → meaning entries word ≡ Some a → word ≡ spelling a
+meaning_found : {A : Type 0} (spelling : A → List ℕ) (entries : List (List ℕ × A)) (word : List ℕ) (a : A)
+    → AllByRecursion (λ entry. entry.0 ≡ spelling entry.1) entries → meaning entries word ≡ Some a → word ≡ spelling a
 meaning_found spelling [] word a spelled h = absurd cc
 meaning_found spelling (entry ∷ entries) word a spelled h =
-    meaning_here spelling (bytes_eq word entry.0) entry (meaning entries word) word a (bytes_eq-Decides word entry.0).0 spelled.0 (meaning_found spelling entries word a spelled.1) h
+    meaning_here spelling (bytes_eq word entry.0) entry (meaning entries word) word a
+    (bytes_eq-Decides word entry.0).0 spelled.0 (meaning_found spelling entries word a spelled.1) h
 
 game_again : (game : Game) → Unit {0} → game_of (game_word game) ≡ Some game
 game_again Holdem fits = refl
@@ -111,7 +119,8 @@ act_word Fold = codes "fold"
 act_found : (words : List (List ℕ)) (act : Act) → act_of words ≡ Some act → (words ≡ act_words act) × Unit {0}
 unfolding act_of
 act_found [] act h = absurd cc
-act_found (word ∷ []) Fold h = (ap (λ (w : List ℕ). w ∷ []) (meaning_found act_word act_list word Fold (refl, tt) h), tt)
+act_found (word ∷ []) Fold h =
+    (ap (λ (w : List ℕ). w ∷ []) (meaning_found act_word act_list word Fold (refl, tt) h), tt)
 act_found (word ∷ second ∷ words) act h = absurd cc
 
 act_again : (act : Act) → Unit {0} → act_of (act_words act) ≡ Some act
@@ -125,30 +134,38 @@ act_spaceless Fold fits = refl
 pub act_rest : IsRest act_of act_words (λ act. Unit {0})
 act_rest = record { found = act_found; again = act_again; spaceless = act_spaceless }
 
-numbers_found : (fields : List (List ℕ)) (numbers : List ℕ) → numbers_of fields ≡ Some numbers → (fields ≡ map decimal numbers) × AllByRecursion IsLineNumber numbers
-numbers_found [] numbers h = subst (λ (ns : List ℕ). ([] ≡ map decimal ns) × AllByRecursion IsLineNumber ns) (same_Some [] numbers h) (refl, tt)
+numbers_found : (fields : List (List ℕ)) (numbers : List ℕ) → numbers_of fields ≡ Some numbers
+    → (fields ≡ map decimal numbers) × AllByRecursion IsLineNumber numbers
+numbers_found [] numbers h =
+    subst (λ (ns : List ℕ). ([] ≡ map decimal ns) × AllByRecursion IsLineNumber ns) (same_Some [] numbers h) (refl, tt)
 numbers_found (word ∷ words) numbers h =
     let first = bind_found (number_of word) (λ n. numbers_of words >>= λ ns. Some (n ∷ ns)) numbers h in
     let others = bind_found (numbers_of words) (λ ns. Some (first.0 ∷ ns)) numbers first.2 in
     let number = number_found word first.0 first.1 in
     let rest = numbers_found words others.0 others.1 in
-    let whole : word ∷ words ≡ map decimal (first.0 ∷ others.0) = ap (λ (w : List ℕ). w ∷ words) number.1 ∙ ap (λ (ws : List (List ℕ)). decimal first.0 ∷ ws) rest.0 in
-    subst (λ (ns : List ℕ). (word ∷ words ≡ map decimal ns) × AllByRecursion IsLineNumber ns) (same_Some (first.0 ∷ others.0) numbers others.2) (whole, (number.0, rest.1))
+    let whole : word ∷ words ≡ map decimal (first.0 ∷ others.0) = ap (λ (w : List ℕ). w ∷ words) number.1
+    ∙ ap (λ (ws : List (List ℕ)). decimal first.0 ∷ ws) rest.0 in
+    subst (λ (ns : List ℕ). (word ∷ words ≡ map decimal ns) × AllByRecursion IsLineNumber ns)
+    (same_Some (first.0 ∷ others.0) numbers others.2) (whole, (number.0, rest.1))
 
-numbers_again : (numbers : List ℕ) → AllByRecursion IsLineNumber numbers → numbers_of (map decimal numbers) ≡ Some numbers
+numbers_again : (numbers : List ℕ) → AllByRecursion IsLineNumber numbers → numbers_of (map decimal numbers)
+    ≡ Some numbers
 numbers_again [] small = refl
 numbers_again (number ∷ numbers) small = rw (number_of-decimal number small.0, numbers_again numbers small.1) refl
 
-shares_found : (words : List (List ℕ)) (shares : List ℕ) → shares_of words ≡ Some shares → (words ≡ map decimal shares) × AreLineShares shares
+shares_found : (words : List (List ℕ)) (shares : List ℕ) → shares_of words ≡ Some shares
+    → (words ≡ map decimal shares) × AreLineShares shares
 unfolding shares_of
 shares_found words shares h =
-    let read = bind_found (numbers_of words) (λ ns. cond (leb 1 (length ns) && leb (length ns) MOST_SHARES) (Some ns) None) shares h in
+    let read = bind_found (numbers_of words) (λ ns. cond (leb 1 (length ns) && leb (length ns) MOST_SHARES) (Some ns)
+    None) shares h in
     let test = test_found (leb 1 (length read.0) && leb (length read.0) MOST_SHARES) (Some read.0) shares read.2 in
     let both = and_parts (leb 1 (length read.0)) (leb (length read.0) MOST_SHARES) test.0 in
     let numbers = numbers_found words read.0 read.1 in
     let least : 1 ≤ length read.0 = grind (arith, nat_tests, both.0) in
     let most : length read.0 ≤ MOST_SHARES = grind (arith, nat_tests, both.1) in
-    subst (λ (ns : List ℕ). (words ≡ map decimal ns) × AreLineShares ns) (same_Some read.0 shares test.1) (numbers.0, (least, most, numbers.1))
+    subst (λ (ns : List ℕ). (words ≡ map decimal ns) × AreLineShares ns) (same_Some read.0 shares test.1)
+    (numbers.0, (least, most, numbers.1))
 
 shares_again : (shares : List ℕ) → AreLineShares shares → shares_of (map decimal shares) ≡ Some shares
 unfolding shares_of
@@ -159,23 +176,34 @@ shares_again shares fits =
 
 -- the shares of the prizes
 pub shares_rest : IsRest shares_of (map decimal) AreLineShares
-shares_rest = record { found = shares_found; again = shares_again; spaceless = λ shares fits. decimals_spaceless shares fits.2 }
+shares_rest = record {
+  found = shares_found;
+  again = shares_again;
+  spaceless = λ shares fits. decimals_spaceless
+      shares fits.2;
+}
 
 -- the first word is the spelling of the field that is read, and the others are left
-pub record IsNext {A : Type 0} (write : A → List ℕ) (Fits : A → Type 0) (words : List (List ℕ)) (read : A × List (List ℕ)) : Type 0 where
+pub record IsNext {A : Type 0} (write : A → List ℕ) (Fits : A → Type 0) (words : List (List ℕ))
+    (read : A × List (List ℕ)) : Type 0 where
   pub spelling : words ≡ write read.0 ∷ read.1
   pub fits : Fits read.0
 
 -- a field that is read is the spelling of the first word
-pub next_found : {A : Type 0} (read : List ℕ → Option A) (write : A → List ℕ) (Fits : A → Type 0) → IsField read write Fits → (words : List (List ℕ)) (found : A × List (List ℕ)) → next_by read words ≡ Some found → IsNext write Fits words found
+pub next_found : {A : Type 0} (read : List ℕ → Option A) (write : A → List ℕ) (Fits : A → Type 0)
+    → IsField read write Fits → (words : List (List ℕ)) (found : A × List (List ℕ)) → next_by read words ≡ Some found
+    → IsNext write Fits words found
 unfolding next_by
 next_found read write Fits field [] found h = absurd cc
 next_found {A} read write Fits field (word ∷ words) found h =
     let value = map_found (λ (v : A). (v, words)) (read word) found h in
     let first = field.found word value.0 value.1 in
-    subst (λ (r : A × List (List ℕ)). IsNext write Fits (word ∷ words) r) value.2 (record { spelling = ap (λ (w : List ℕ). w ∷ words) first.0; fits = first.1 })
+    subst (λ (r : A × List (List ℕ)). IsNext write Fits (word ∷ words) r) value.2
+    (record { spelling = ap (λ (w : List ℕ). w ∷ words) first.0; fits = first.1 })
 
 -- a field that is spelled is read, and the words behind it are left
-pub next_again : {A : Type 0} (read : List ℕ → Option A) (write : A → List ℕ) (Fits : A → Type 0) → IsField read write Fits → (value : A) (words : List (List ℕ)) → Fits value → next_by read (write value ∷ words) ≡ Some (value, words)
+pub next_again : {A : Type 0} (read : List ℕ → Option A) (write : A → List ℕ) (Fits : A → Type 0)
+    → IsField read write Fits → (value : A) (words : List (List ℕ)) → Fits value → next_by read (write value ∷ words)
+    ≡ Some (value, words)
 unfolding next_by
 next_again read write Fits field value words fits = rw (field.again value fits) refl

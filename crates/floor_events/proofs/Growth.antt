@@ -18,21 +18,31 @@ Extends-append old new more grown = rw grown (take_at old more (length old) refl
 take_front : (old middle new : List ℕ) → take (length (old ++ middle)) new ≡ old ++ middle → take (length old) new ≡ old
 take_front [] middle new kept = refl
 take_front (x ∷ old) middle [] kept = absurd cc
-take_front (x ∷ old) middle (y ∷ new) kept = let heads : y ≡ x = cc in let tails : take (length (old ++ middle)) new ≡ old ++ middle = cc in let rest = take_front old middle new tails in cc
+take_front (x ∷ old) middle (y ∷ new) kept = let heads : y ≡ x = cc in let tails : take (length (old ++ middle)) new
+    ≡ old ++ middle = cc in let rest = take_front old middle new tails in cc
 
 -- what begins with a longer list begins with the shorter one
 pub Extends-before : (old now new more : List ℕ) → now ≡ old ++ more → Extends now new → Extends old new
-Extends-before old now new more grown kept = take_front old more new (subst (λ (list : List ℕ). Extends list new) grown kept)
+Extends-before old now new more grown kept =
+    take_front old more new (subst (λ (list : List ℕ). Extends list new) grown kept)
 
 -- a line is its first word, and each other word behind a space
-join-cons : (word : Word) (words : List Word) → word_text word ++ flat_map (λ w. 32 ∷ word_text w) words ≡ join_with_byte 32 (map word_text (word ∷ words))
+join-cons : (word : Word) (words : List Word) → word_text word ++ flat_map (λ w. 32 ∷ word_text w) words
+    ≡ join_with_byte 32 (map word_text (word ∷ words))
 join-cons word [] = append-nil (word_text word)
-join-cons word (next ∷ words) = ap (λ (text : List ℕ). word_text word ++ text) (flat_map-cons (λ w. 32 ∷ word_text w) next words ∙ ap (λ (text : List ℕ). 32 ∷ text) (join-cons next words))
+join-cons word (next ∷ words) = ap (λ (text : List ℕ). word_text word ++ text)
+    (flat_map-cons (λ w. 32 ∷ word_text w) next words ∙ ap (λ (text : List ℕ). 32 ∷ text) (join-cons next words))
 
 -- what was written word by word is the line
-pub joined : (words : List Word) (d : Word) (old first new : List ℕ) → 1 ≤ length words → first ≡ old ++ word_text (get_or words 0 d) → new ≡ first ++ flat_map (λ w. 32 ∷ word_text w) (take (length words - 1) (drop 1 words)) → new ≡ old ++ join_with_byte 32 (map word_text words)
+pub joined : (words : List Word) (d : Word) (old first new : List ℕ) → 1 ≤ length words → first ≡ old
+    ++ word_text (get_or words 0 d) → new ≡ first ++ flat_map (λ w. 32 ∷ word_text w)
+    (take (length words - 1) (drop 1 words)) → new ≡ old ++ join_with_byte 32 (map word_text words)
 joined [] d old first new some begun grown = absurd (omega arith)
 joined (word ∷ words) d old first new some begun grown =
-    let rest : take (length (word ∷ words) - 1) words ≡ words = take_all (length (word ∷ words) - 1) words (omega arith) in
-    let whole : new ≡ first ++ flat_map (λ w. 32 ∷ word_text w) words = grown ∙ ap (λ ws. first ++ flat_map (λ w. 32 ∷ word_text w) ws) rest in
-    whole ∙ ap (λ text. text ++ flat_map (λ w. 32 ∷ word_text w) words) begun ∙ append_assoc old (word_text word) (flat_map (λ w. 32 ∷ word_text w) words) ∙ ap (λ text. old ++ text) (join-cons word words)
+    let rest : take (length (word ∷ words) - 1) words
+    ≡ words = take_all (length (word ∷ words) - 1) words (omega arith) in
+    let whole : new ≡ first ++ flat_map (λ w. 32 ∷ word_text w) words = grown
+    ∙ ap (λ ws. first ++ flat_map (λ w. 32 ∷ word_text w) ws) rest in
+    whole ∙ ap (λ text. text ++ flat_map (λ w. 32 ∷ word_text w) words) begun
+    ∙ append_assoc old (word_text word) (flat_map (λ w. 32 ∷ word_text w) words)
+    ∙ ap (λ text. old ++ text) (join-cons word words)

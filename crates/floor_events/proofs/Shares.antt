@@ -11,9 +11,11 @@ abbrev pub with_front : List ℕ → Option (List ℕ) → Option (List ℕ)
 with_front front others = option_map (λ numbers. front ++ numbers) others
 
 abbrev checked : Option (List ℕ) → Option (List ℕ)
-checked numbers = numbers >>= λ shares. cond (leb 1 (length shares) && leb (length shares) MOST_SHARES) (Some shares) None
+checked numbers = numbers >>= λ shares. cond (leb 1 (length shares) && leb (length shares) MOST_SHARES) (Some shares)
+    None
 
-shares_are : (fields : List (List ℕ)) (numbers : Option (List ℕ)) → numbers ≡ numbers_of fields → checked numbers ≡ shares_of fields
+shares_are : (fields : List (List ℕ)) (numbers : Option (List ℕ)) → numbers ≡ numbers_of fields → checked numbers
+    ≡ shares_of fields
 unfolding shares_of
 shares_are fields numbers same = ap checked same
 
@@ -26,24 +28,31 @@ too_long shares long =
     let some : leb 1 (length shares) ≡ true = grind (arith, nat_tests) in
     rw (some, over) refl
 
-one_more : (front : List ℕ) (first : Option ℕ) (others : Option (List ℕ)) → length front ≡ MOST_SHARES → None ≡ checked (with_front front (joined first others))
+one_more : (front : List ℕ) (first : Option ℕ) (others : Option (List ℕ)) → length front ≡ MOST_SHARES → None
+    ≡ checked (with_front front (joined first others))
 one_more front None others full = refl
 one_more front (Some number) None full = refl
-one_more front (Some number) (Some numbers) full = too_long (front ++ number ∷ numbers) (omega (arith, length-append front (number ∷ numbers)))
+one_more front (Some number) (Some numbers) full =
+    too_long (front ++ number ∷ numbers) (omega (arith, length-append front (number ∷ numbers)))
 
 -- a word more than a line of shares may hold
-pub shares_too_many : (front : List ℕ) (word : List ℕ) (words fields : List (List ℕ)) → length front ≡ MOST_SHARES → with_front front (numbers_of (word ∷ words)) ≡ numbers_of fields → None ≡ shares_of fields
+pub shares_too_many : (front : List ℕ) (word : List ℕ) (words fields : List (List ℕ)) → length front ≡ MOST_SHARES
+    → with_front front (numbers_of (word ∷ words)) ≡ numbers_of fields → None ≡ shares_of fields
 shares_too_many front word words fields full read =
-    one_more front (number_of word) (numbers_of words) full ∙ shares_are fields (with_front front (numbers_of (word ∷ words))) read
+    one_more front (number_of word) (numbers_of words) full
+    ∙ shares_are fields (with_front front (numbers_of (word ∷ words))) read
 
-no_number : (front : List ℕ) (first : Option ℕ) (others : Option (List ℕ)) → None ≡ first → None ≡ checked (with_front front (joined first others))
+no_number : (front : List ℕ) (first : Option ℕ) (others : Option (List ℕ)) → None ≡ first → None
+    ≡ checked (with_front front (joined first others))
 no_number front None others none = refl
 no_number front (Some number) others none = absurd cc
 
 -- a word that is no number
-pub shares_unread : (front : List ℕ) (word : List ℕ) (words fields : List (List ℕ)) → None ≡ number_of word → with_front front (numbers_of (word ∷ words)) ≡ numbers_of fields → None ≡ shares_of fields
+pub shares_unread : (front : List ℕ) (word : List ℕ) (words fields : List (List ℕ)) → None ≡ number_of word
+    → with_front front (numbers_of (word ∷ words)) ≡ numbers_of fields → None ≡ shares_of fields
 shares_unread front word words fields none read =
-    no_number front (number_of word) (numbers_of words) none ∙ shares_are fields (with_front front (numbers_of (word ∷ words))) read
+    no_number front (number_of word) (numbers_of words) none
+    ∙ shares_are fields (with_front front (numbers_of (word ∷ words))) read
 
 -- no number
 pub shares_none : (fields : List (List ℕ)) → with_front [] (numbers_of []) ≡ numbers_of fields → None ≡ shares_of fields
@@ -56,6 +65,8 @@ within shares some few =
     rw (least, most) refl
 
 -- one to as many numbers as a line of shares may hold
-pub shares_all : (front : List ℕ) (fields : List (List ℕ)) → 1 ≤ length front → length front ≤ MOST_SHARES → with_front front (numbers_of []) ≡ numbers_of fields → Some front ≡ shares_of fields
+pub shares_all : (front : List ℕ) (fields : List (List ℕ)) → 1 ≤ length front → length front ≤ MOST_SHARES
+    → with_front front (numbers_of []) ≡ numbers_of fields → Some front ≡ shares_of fields
 shares_all front fields some few read =
-    within front some few ∙ shares_are fields (Some front) (ap (λ (numbers : List ℕ). Some numbers) (sym (append-nil front)) ∙ read)
+    within front some few ∙ shares_are fields (Some front) (ap (λ (numbers : List ℕ). Some numbers)
+    (sym (append-nil front)) ∙ read)

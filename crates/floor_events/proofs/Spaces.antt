@@ -35,11 +35,14 @@ and_parts true b h = (refl, h)
 and_parts false b h = absurd cc
 
 -- words without a space are the words of their line
-pub words_again : (word : List ℕ) (words : List (List ℕ)) → list_all has_no_space (word ∷ words) ≡ true → words_of_line (join_with_byte 32 (word ∷ words)) ≡ word ∷ words
+pub words_again : (word : List ℕ) (words : List (List ℕ)) → list_all has_no_space (word ∷ words) ≡ true
+    → words_of_line (join_with_byte 32 (word ∷ words)) ≡ word ∷ words
 words_again word [] h = slice_split_none is_space word (no_part word (and_parts (has_no_space word) true h).0)
 words_again word (next ∷ words) h =
-    slice_split_at is_space word 32 (join_with_byte 32 (next ∷ words)) (no_part word (and_parts (has_no_space word) (list_all has_no_space (next ∷ words)) h).0) refl
-    ∙ ap (λ (ws : List (List ℕ)). word ∷ ws) (words_again next words (and_parts (has_no_space word) (list_all has_no_space (next ∷ words)) h).1)
+    slice_split_at is_space word 32 (join_with_byte 32 (next ∷ words))
+    (no_part word (and_parts (has_no_space word) (list_all has_no_space (next ∷ words)) h).0) refl
+    ∙ ap (λ (ws : List (List ℕ)). word ∷ ws) (words_again next words
+    (and_parts (has_no_space word) (list_all has_no_space (next ∷ words)) h).1)
 
 digits_spaceless : (digits : List ℕ) → all_ascii_digits digits ≡ true → has_no_space digits ≡ true
 digits_spaceless [] h = refl
@@ -53,9 +56,11 @@ own = numerals_by_value (λ ds. all_ascii_digits ds ≡ true) tells_all_ascii_di
 pub decimal_spaceless : (n : ℕ) → IsLineNumber n → has_no_space (decimal n) ≡ true
 decimal_spaceless n small = digits_spaceless (decimal n) (digits_decimal own n (omega arith))
 
-pub decimals_spaceless : (numbers : List ℕ) → AllByRecursion IsLineNumber numbers → list_all has_no_space (map decimal numbers) ≡ true
+pub decimals_spaceless : (numbers : List ℕ) → AllByRecursion IsLineNumber numbers
+    → list_all has_no_space (map decimal numbers) ≡ true
 decimals_spaceless [] small = refl
-decimals_spaceless (number ∷ numbers) small = rw (decimal_spaceless number small.0, decimals_spaceless numbers small.1) refl
+decimals_spaceless (number ∷ numbers) small =
+    rw (decimal_spaceless number small.0, decimals_spaceless numbers small.1) refl
 
 name_bytes_spaceless : (bytes : List ℕ) → list_all is_name_byte bytes ≡ true → has_no_space bytes ≡ true
 name_bytes_spaceless [] h = refl
@@ -66,14 +71,18 @@ name_bytes_spaceless (byte ∷ bytes) h =
 pub name_spaceless : (name : List ℕ) → IsTrue (is_name name) → has_no_space name ≡ true
 name_spaceless name right = name_bytes_spaceless name (grind (arith, nat_tests))
 
-letter_spaceless : (letters : List ℕ) (place : ℕ) → has_no_space letters ≡ true → not (is_space (slice_index letters place)) ≡ true
+letter_spaceless : (letters : List ℕ) (place : ℕ) → has_no_space letters ≡ true
+    → not (is_space (slice_index letters place)) ≡ true
 letter_spaceless [] place h = refl
 letter_spaceless (letter ∷ letters) zero h = (and_parts (not (is_space letter)) (has_no_space letters) h).0
-letter_spaceless (letter ∷ letters) (suc place) h = letter_spaceless letters place (and_parts (not (is_space letter)) (has_no_space letters) h).1
+letter_spaceless (letter ∷ letters) (suc place) h =
+    letter_spaceless letters place (and_parts (not (is_space letter)) (has_no_space letters) h).1
 
 both_spaceless : (a b c : Bool) → a ≡ true → b ≡ true → c ≡ true → (a && (b && c)) ≡ true
 both_spaceless a b c first second others = rw (first, second) others
 
 pub row_spaceless : (cards : List Card) → has_no_space (row_text cards) ≡ true
 row_spaceless [] = refl
-row_spaceless (card ∷ cards) = both_spaceless _ _ (has_no_space (row_text cards)) (letter_spaceless rank_letters (card.rank - 2) refl) (letter_spaceless (codes "cdhs") card.suit refl) (row_spaceless cards)
+row_spaceless (card ∷ cards) = both_spaceless _ _ (has_no_space (row_text cards))
+    (letter_spaceless rank_letters (card.rank - 2) refl) (letter_spaceless (codes "cdhs") card.suit refl)
+    (row_spaceless cards)

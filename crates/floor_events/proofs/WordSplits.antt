@@ -17,16 +17,20 @@ rest_of : (bytes : List ℕ) (k : ℕ) → take (length bytes - k) (drop k bytes
 rest_of bytes k = take_all (length bytes - k) (drop k bytes) (omega (arith, length-drop k bytes))
 
 -- a line with a space is a word and the words behind the space
-pub first_word : (bytes : List ℕ) (k : ℕ) → Some k ≡ position is_space bytes → words_of_line bytes ≡ take k bytes ∷ words_of_line (take (length bytes - (k + 1)) (drop (k + 1) bytes))
+pub first_word : (bytes : List ℕ) (k : ℕ) → Some k ≡ position is_space bytes → words_of_line bytes ≡ take k bytes
+    ∷ words_of_line (take (length bytes - (k + 1)) (drop (k + 1) bytes))
 first_word bytes k found =
     let place = position_or_len is_space bytes in
     let at = cond_some (ltb place (length bytes)) place k (sym found) in
     let within : place < length bytes = ltb-true place (length bytes) at.0 in
     let parts = slice_split_first is_space bytes 0 within in
-    let here : slice_split is_space bytes ≡ take k bytes ∷ slice_split is_space (drop (k + 1) bytes) = rw (← at.1) parts in
+    let here : slice_split is_space bytes ≡ take k bytes
+    ∷ slice_split is_space (drop (k + 1) bytes) = rw (← at.1) parts in
     rw (rest_of bytes (k + 1)) here
 
-later : (b : Bool) (byte : ℕ) (bytes : List ℕ) → (length bytes ≤ position_or_len is_space bytes → slice_split is_space bytes ≡ bytes ∷ []) → suc (length bytes) ≤ cond (not b) (1 + position_or_len is_space bytes) 0 → cond b ([] ∷ slice_split is_space bytes) (onto_first byte (slice_split is_space bytes)) ≡ (byte ∷ bytes) ∷ []
+later : (b : Bool) (byte : ℕ) (bytes : List ℕ) → (length bytes ≤ position_or_len is_space bytes → slice_split
+    is_space bytes ≡ bytes ∷ []) → suc (length bytes) ≤ cond (not b) (1 + position_or_len is_space bytes) 0
+    → cond b ([] ∷ slice_split is_space bytes) (onto_first byte (slice_split is_space bytes)) ≡ (byte ∷ bytes) ∷ []
 later true byte bytes others far = absurd (omega arith)
 later false byte bytes others far = rw (others (omega arith)) refl
 
@@ -48,7 +52,8 @@ first_is_some : (byte : ℕ) (words : List (List ℕ)) → no_word (onto_first b
 first_is_some byte [] = refl
 first_is_some byte (word ∷ words) = refl
 
-split_is_some : (b : Bool) (byte : ℕ) (words : List (List ℕ)) → no_word (cond b ([] ∷ words) (onto_first byte words)) ≡ false
+split_is_some : (b : Bool) (byte : ℕ) (words : List (List ℕ)) → no_word (cond b ([] ∷ words) (onto_first byte words))
+    ≡ false
 split_is_some true byte words = refl
 split_is_some false byte words = first_is_some byte words
 
@@ -58,7 +63,8 @@ some_word [] = refl
 some_word (byte ∷ bytes) = split_is_some (is_space byte) byte (words_of_line bytes)
 
 -- no word is left just where nothing is
-pub done_is : (rest : Option (Bor (List ℕ))) (done : Bool) → is_some rest ≡ not done → done ≡ no_word (words_of_rest (option_copied rest))
+pub done_is : (rest : Option (Bor (List ℕ))) (done : Bool) → is_some rest ≡ not done → done
+    ≡ no_word (words_of_rest (option_copied rest))
 done_is None true h = refl
 done_is None false h = absurd cc
 done_is (Some rest) true h = absurd cc

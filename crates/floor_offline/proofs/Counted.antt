@@ -6,11 +6,13 @@ use Rattle.floor_events.specs.declared.event.Item.TheVariants.{Event}
 use Rattle.tournament_rules.specs.States.{State, answer_to, accepted, is_accepted}
 use Rattle.floor_offline.specs.Replay.{state_after_item}
 
-by_answer : (state after : State) (b : Bool) → after.accepted ≡ state.accepted + 1 → (cond b after state).accepted ≤ state.accepted + 1
+by_answer : (state after : State) (b : Bool) → after.accepted ≡ state.accepted + 1
+    → (cond b after state).accepted ≤ state.accepted + 1
 by_answer state after true more = omega arith
 by_answer state after false more = omega arith
 
 -- an item adds at most one to the events accepted
 pub counted_item : (state : State) (item : Option Item) → (state_after_item state item).accepted ≤ state.accepted + 1
 counted_item state None = omega arith
-counted_item state (Some (Event event)) = by_answer state (accepted state event) (is_accepted (answer_to state event)) (omega arith)
+counted_item state (Some (Event event)) =
+    by_answer state (accepted state event) (is_accepted (answer_to state event)) (omega arith)

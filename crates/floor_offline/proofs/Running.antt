@@ -11,8 +11,10 @@ use Rattle.floor_offline.specs.Endings.{fault_status}
 use Rattle.floor_offline.specs.Replay.{final_text, replay_text}
 use Rattle.floor_offline.specs.Promise.{whole_text, Keeps, Counts, GivesMore}
 
--- The whole text stays what it was, the bytes taken are counted, no count of faults has fallen, and each accepted event took a byte.
-pub record IsRunning (first_whole whole first_left left : Option (List ℕ)) (taken limit first_input input first_out out accepted ahead : ℕ) : Type 0 where
+-- The whole text stays what it was, the bytes taken are counted, no count of faults has fallen, and each accepted event
+-- took a byte.
+pub record IsRunning (first_whole whole first_left left : Option (List ℕ))
+    (taken limit first_input input first_out out accepted ahead : ℕ) : Type 0 where
   pub keeps : Keeps first_whole whole
   pub counts : Counts first_left left taken
   pub at_limit : limit ≡ INPUT_LIMIT
@@ -26,20 +28,24 @@ keeps_same (Some text) = refl
 
 pub keeps_on : (first second third : Option (List ℕ)) → Keeps first second → Keeps second third → Keeps first third
 keeps_on None second third here next = tt
-keeps_on (Some text) second third here next = let P : Option (List ℕ) → Type 0 = λ known. Keeps known third in subst P here next
+keeps_on (Some text) second third here next = let P : Option (List ℕ)
+    → Type 0 = λ known. Keeps known third in subst P here next
 
 pub counts_first : (left : Option (List ℕ)) → Counts left left 0
 counts_first None = tt
 counts_first (Some bytes) = omega arith
 
 -- a source that told at first tells still, so it is at its end
-pub ends : (first left rest : Option (List ℕ)) (taken : ℕ) → Counts first left taken → IfSome left (λ _. rest ≡ Some []) → IfSome first (λ _. rest ≡ Some [])
+pub ends : (first left rest : Option (List ℕ)) (taken : ℕ) → Counts first left taken
+    → IfSome left (λ _. rest ≡ Some []) → IfSome first (λ _. rest ≡ Some [])
 ends None left rest taken counts end = tt
 ends (Some bytes) None rest taken counts end = absurd counts
 ends (Some bytes) (Some more) rest taken counts end = end
 
 -- at the end as many bytes were taken as there were
-pub within_at_end : (first left rest : Option (List ℕ)) (taken taken_at_end limit : ℕ) → Counts first left taken → IfSome left (λ _. rest ≡ Some []) → Counts first rest taken_at_end → limit ≡ INPUT_LIMIT → taken_at_end ≤ limit → IfSome first (λ bytes. length bytes ≤ INPUT_LIMIT)
+pub within_at_end : (first left rest : Option (List ℕ)) (taken taken_at_end limit : ℕ) → Counts first left taken
+    → IfSome left (λ _. rest ≡ Some []) → Counts first rest taken_at_end → limit ≡ INPUT_LIMIT → taken_at_end ≤ limit
+    → IfSome first (λ bytes. length bytes ≤ INPUT_LIMIT)
 within_at_end None left rest taken taken_at_end limit counts end counted at_limit within = tt
 within_at_end (Some bytes) None rest taken taken_at_end limit counts end counted at_limit within = absurd counts
 within_at_end (Some bytes) (Some more) rest taken taken_at_end limit counts end counted at_limit within =
@@ -48,7 +54,8 @@ within_at_end (Some bytes) (Some more) rest taken taken_at_end limit counts end 
     omega (arith, all, at_limit, within)
 
 -- more bytes were taken than the limit
-pub gives_more : (first left : Option (List ℕ)) (taken limit : ℕ) → Counts first left taken → limit ≡ INPUT_LIMIT → limit < taken → GivesMore INPUT_LIMIT first left
+pub gives_more : (first left : Option (List ℕ)) (taken limit : ℕ) → Counts first left taken → limit ≡ INPUT_LIMIT
+    → limit < taken → GivesMore INPUT_LIMIT first left
 gives_more None left taken limit counts at_limit more = tt
 gives_more (Some bytes) None taken limit counts at_limit more = absurd counts
 gives_more (Some bytes) (Some rest) taken limit counts at_limit more = omega (arith, counts, at_limit, more)
@@ -71,7 +78,8 @@ text_at_end state (Some bytes) (Some before) rest None all keeps end report =
     let P : Option (List ℕ) → Type 0 = λ known. whole_text state [] known None ≡ Some (before ++ replay_text bytes) in
     let none = subst P end keeps in cc
 text_at_end state (Some bytes) (Some before) rest (Some text) all keeps end report =
-    let P : Option (List ℕ) → Type 0 = λ known. whole_text state [] known (Some text) ≡ Some (before ++ replay_text bytes) in
+    let P : Option (List ℕ) → Type 0 = λ known. whole_text state [] known (Some text)
+    ≡ Some (before ++ replay_text bytes) in
     report ∙ subst P end keeps
 
 -- what holds anyway holds at `Ok`, and so does what follows from what holds there
@@ -92,11 +100,13 @@ status_of_fault faults.NoMemory = (4, omega arith, refl)
 status_of_fault faults.InputTooLong = (5, omega arith, refl)
 
 -- a run that ended well, or for want of memory, needs no more
-pub ended : (status : ℕ) (left : Option (List ℕ)) → (status ≡ 0) ⊎ (status ≡ 5) → IfSome left (λ bytes. length bytes ≤ INPUT_LIMIT → (status ≡ 0) ⊎ (status ≡ 5))
+pub ended : (status : ℕ) (left : Option (List ℕ)) → (status ≡ 0) ⊎ (status ≡ 5)
+    → IfSome left (λ bytes. length bytes ≤ INPUT_LIMIT → (status ≡ 0) ⊎ (status ≡ 5))
 ended status None how = tt
 ended status (Some bytes) how = λ within. how
 
-too_long_alone : (left rest : Option (List ℕ)) (P : Type 0) → GivesMore INPUT_LIMIT left rest → IfSome left (λ bytes. length bytes ≤ INPUT_LIMIT → P)
+too_long_alone : (left rest : Option (List ℕ)) (P : Type 0) → GivesMore INPUT_LIMIT left rest
+    → IfSome left (λ bytes. length bytes ≤ INPUT_LIMIT → P)
 too_long_alone None rest P more = tt
 too_long_alone (Some bytes) None P more = absurd more
 too_long_alone (Some bytes) (Some left) P more = λ within. absurd (omega (arith, more, within))
@@ -109,6 +119,8 @@ pub memory_alone : (fault : Fault) (left rest : Option (List ℕ)) (read write :
     → IfSome left (λ bytes. length bytes ≤ INPUT_LIMIT → (fault_status fault ≡ 0) ⊎ (fault_status fault ≡ 5))
 memory_alone faults.Usage left rest read write usage reads writes more no_read no_write = absurd (usage refl)
 memory_alone faults.Read left rest read write usage reads writes more no_read no_write = absurd (no_read (reads refl))
-memory_alone faults.Write left rest read write usage reads writes more no_read no_write = absurd (no_write (writes refl))
+memory_alone faults.Write left rest read write usage reads writes more no_read no_write =
+    absurd (no_write (writes refl))
 memory_alone faults.NoMemory left rest read write usage reads writes more no_read no_write = ended 5 left (inr refl)
-memory_alone faults.InputTooLong left rest read write usage reads writes more no_read no_write = too_long_alone left rest _ (more refl)
+memory_alone faults.InputTooLong left rest read write usage reads writes more no_read no_write =
+    too_long_alone left rest _ (more refl)

@@ -10,12 +10,15 @@ use Rattle.tournament_rules.specs.States.{run, answers}
 use Rattle.floor_offline.specs.Replay.{answers_to_items, state_after_items, events_of, item_of_event}
 
 -- the state after items is the state after their events
-pub state_after_items_is_run : (state : State) (items : List (Option Item)) → state_after_items state items ≡ run state (events_of items)
+pub state_after_items_is_run : (state : State) (items : List (Option Item)) → state_after_items state items
+    ≡ run state (events_of items)
 state_after_items_is_run state [] = refl
 state_after_items_is_run state (None ∷ items) = state_after_items_is_run state items
 state_after_items_is_run state (Some (Event event) ∷ items) = state_after_items_is_run (state_after state event) items
 
 -- the answers to lines that all hold events are the answers to these
-pub answers_to_events : (state : State) (events : List EventOfLine) → answers_to_items state (map item_of_event events) ≡ answers state events
+pub answers_to_events : (state : State) (events : List EventOfLine)
+    → answers_to_items state (map item_of_event events) ≡ answers state events
 answers_to_events state [] = refl
-answers_to_events state (event ∷ events) = ap (λ more. answer_to state event ∷ more) (answers_to_events (state_after state event) events)
+answers_to_events state (event ∷ events) =
+    ap (λ more. answer_to state event ∷ more) (answers_to_events (state_after state event) events)

@@ -13,7 +13,8 @@ use Rattle.table_engine.specs.declared.start.StartSeat.{StartSeat}
 use Rattle.tournament_rules.specs.Players.{with_rest, pay_one}
 
 -- who comes before a place does not sit there
-before_not_in : (place : Place) (player : Seated) → comes_before player.place place ≡ true → sits_in place player ≡ false
+before_not_in : (place : Place) (player : Seated) → comes_before player.place place ≡ true → sits_in place player
+    ≡ false
 before_not_in place player before = grind (arith, nat_tests)
 
 -- who comes after a place does not sit there
@@ -25,31 +26,39 @@ sits_there : (player : Seated) → sits_in player.place player ≡ true
 sits_there player = grind (arith, nat_tests)
 
 -- nobody of a list sits in a place that comes before all of theirs
-none_in : (place : Place) (stack : ℕ) (players : List Seated) → list_all (comes_before place) (places_of players) ≡ true → with_stack place stack players ≡ players
+none_in : (place : Place) (stack : ℕ) (players : List Seated) → list_all (comes_before place) (places_of players)
+    ≡ true → with_stack place stack players ≡ players
 none_in place stack [] later = refl
 none_in place stack (player ∷ players) later =
     let parts = and_parts (comes_before place player.place) (list_all (comes_before place) (places_of players)) later in
     rw (after_not_in place player parts.0) (ap (◌∷◌ player) (none_in place stack players parts.1))
 
 -- nobody of a list has a number that none of them has
-none_numbered : (payee : StartSeat) (players : List Seated) → list_all (λ other. not (is_numbered payee.player other)) players ≡ true → pay_one players payee ≡ players
+none_numbered : (payee : StartSeat) (players : List Seated)
+    → list_all (λ other. not (is_numbered payee.player other)) players ≡ true → pay_one players payee ≡ players
 none_numbered payee [] others = refl
 none_numbered payee (player ∷ players) others =
-    let parts = and_parts (not (is_numbered payee.player player)) (list_all (λ other. not (is_numbered payee.player other)) players) others in
+    let parts = and_parts (not (is_numbered payee.player player))
+    (list_all (λ other. not (is_numbered payee.player other)) players) others in
     by_test (is_numbered payee.player player) refl parts.0 (none_numbered payee players parts.1)
   where
-    by_test : (b : Bool) → is_numbered payee.player player ≡ b → not (is_numbered payee.player player) ≡ true → pay_one players payee ≡ players → pay_one (player ∷ players) payee ≡ player ∷ players
+    by_test : (b : Bool) → is_numbered payee.player player ≡ b → not (is_numbered payee.player player) ≡ true
+        → pay_one players payee ≡ players → pay_one (player ∷ players) payee ≡ player ∷ players
     by_test true is other rest = let found : false ≡ true = rw is at other in absurd cc
     by_test false is other rest = rw is (ap (◌∷◌ player) rest)
 
 -- the place of a number is later than one that comes before all places
-place_later : (place found : Place) (number : ℕ) (players : List Seated) → list_all (comes_before place) (places_of players) ≡ true → place_of players number ≡ Some found → comes_before place found ≡ true
+place_later : (place found : Place) (number : ℕ) (players : List Seated)
+    → list_all (comes_before place) (places_of players) ≡ true → place_of players number ≡ Some found
+    → comes_before place found ≡ true
 place_later place found number [] later is = absurd cc
 place_later place found number (player ∷ players) later is =
     let parts = and_parts (comes_before place player.place) (list_all (comes_before place) (places_of players)) later in
-    by_test (is_numbered number player) refl parts.0 (λ (more : place_of players number ≡ Some found). place_later place found number players parts.1 more)
+    by_test (is_numbered number player) refl parts.0 (λ (more : place_of players number ≡ Some found). place_later
+    place found number players parts.1 more)
   where
-    by_test : (b : Bool) → is_numbered number player ≡ b → comes_before place player.place ≡ true → (place_of players number ≡ Some found → comes_before place found ≡ true) → comes_before place found ≡ true
+    by_test : (b : Bool) → is_numbered number player ≡ b → comes_before place player.place ≡ true
+        → (place_of players number ≡ Some found → comes_before place found ≡ true) → comes_before place found ≡ true
     by_test true his before rest =
         let here : player.place ≡ found = same_Some player.place found (rw his at is) in
         rw (← here) before
@@ -59,37 +68,52 @@ same_number : (one other : ℕ) → (one == other) ≡ true → one ≡ other
 same_number one other is = grind (arith, nat_tests)
 
 -- the first of a list is paid in his place
-first_paid : (player : Seated) (players : List Seated) (payee : StartSeat) → is_numbered payee.player player ≡ true → list_all (comes_before player.place) (places_of players) ≡ true → pay_one players payee ≡ players
+first_paid : (player : Seated) (players : List Seated) (payee : StartSeat) → is_numbered payee.player player ≡ true
+    → list_all (comes_before player.place) (places_of players) ≡ true → pay_one players payee ≡ players
     → with_stack player.place payee.stack (player ∷ players) ≡ pay_one (player ∷ players) payee
 first_paid player players payee his later nobody =
-    let tail : with_stack player.place payee.stack players ≡ pay_one players payee = none_in player.place payee.stack players later ∙ sym nobody in
+    let tail : with_stack player.place payee.stack players
+    ≡ pay_one players payee = none_in player.place payee.stack players later ∙ sym nobody in
     rw (sits_there player, his) (ap (◌∷◌ (with_rest player payee.stack)) tail)
 
 -- Where no two have one place or one number, who is found by his number is paid in his place.
-pub paid_in_place : (players : List Seated) (payee : StartSeat) (place : Place) → are_in_order players ≡ true → are_apart players ≡ true → place_of players payee.player ≡ Some place → with_stack place payee.stack players ≡ pay_one players payee
+pub paid_in_place : (players : List Seated) (payee : StartSeat) (place : Place) → are_in_order players ≡ true
+    → are_apart players ≡ true → place_of players payee.player ≡ Some place → with_stack place payee.stack players
+    ≡ pay_one players payee
 paid_in_place [] payee place ordered apart found = absurd cc
 paid_in_place (player ∷ players) payee place ordered apart found =
-    let order = and_parts (list_all (comes_before player.place) (places_of players)) (are_rising (places_of players)) ordered in
-    let others = and_parts (list_all (λ other. not (is_numbered player.player other)) players) (are_apart players) apart in
-    by_test (is_numbered payee.player player) refl order.0 others.0 (λ (more : place_of players payee.player ≡ Some place). paid_in_place players payee place order.1 others.1 more)
+    let order = and_parts (list_all (comes_before player.place) (places_of players)) (are_rising (places_of players))
+    ordered in
+    let others = and_parts (list_all (λ other. not (is_numbered player.player other)) players) (are_apart players)
+    apart in
+    by_test (is_numbered payee.player player) refl order.0 others.0
+    (λ (more : place_of players payee.player ≡ Some place). paid_in_place players payee place order.1 others.1 more)
   where
-    by_test : (b : Bool) → is_numbered payee.player player ≡ b → list_all (comes_before player.place) (places_of players) ≡ true → list_all (λ other. not (is_numbered player.player other)) players ≡ true
-        → (place_of players payee.player ≡ Some place → with_stack place payee.stack players ≡ pay_one players payee) → with_stack place payee.stack (player ∷ players) ≡ pay_one (player ∷ players) payee
+    by_test : (b : Bool) → is_numbered payee.player player ≡ b
+        → list_all (comes_before player.place) (places_of players) ≡ true
+        → list_all (λ other. not (is_numbered player.player other)) players ≡ true
+        → (place_of players payee.player ≡ Some place → with_stack place payee.stack players ≡ pay_one players payee)
+        → with_stack place payee.stack (player ∷ players) ≡ pay_one (player ∷ players) payee
     by_test true his later others rest =
         let here : player.place ≡ place = same_Some player.place place (rw his at found) in
         let number : player.player ≡ payee.player = same_number player.player payee.player his in
         let nobody = none_numbered payee players (rw number at others) in
-        subst (λ (place : Place). with_stack place payee.stack (player ∷ players) ≡ pay_one (player ∷ players) payee) here (first_paid player players payee his later nobody)
+        subst (λ (place : Place). with_stack place payee.stack (player ∷ players) ≡ pay_one (player ∷ players) payee)
+        here (first_paid player players payee his later nobody)
     by_test false his later others rest =
         let behind = place_later player.place place payee.player players later (rw his at found) in
         rw (before_not_in place player behind, his) (ap (◌∷◌ player) (rest (rw his at found)))
 
 -- Where nobody has the number, nobody is paid.
-pub paid_nobody : (players : List Seated) (payee : StartSeat) → place_of players payee.player ≡ None → pay_one players payee ≡ players
+pub paid_nobody : (players : List Seated) (payee : StartSeat) → place_of players payee.player ≡ None
+    → pay_one players payee ≡ players
 paid_nobody [] payee none = refl
 paid_nobody (player ∷ players) payee none =
-    by_test (is_numbered payee.player player) refl (λ (more : place_of players payee.player ≡ None). paid_nobody players payee more)
+    by_test (is_numbered payee.player player) refl (λ (more : place_of players payee.player ≡ None). paid_nobody
+    players payee more)
   where
-    by_test : (b : Bool) → is_numbered payee.player player ≡ b → (place_of players payee.player ≡ None → pay_one players payee ≡ players) → pay_one (player ∷ players) payee ≡ player ∷ players
+    by_test : (b : Bool) → is_numbered payee.player player ≡ b
+        → (place_of players payee.player ≡ None → pay_one players payee ≡ players) → pay_one (player ∷ players) payee
+        ≡ player ∷ players
     by_test true his rest = let found : Some player.place ≡ None = rw his at none in absurd cc
     by_test false his rest = rw his (ap (◌∷◌ player) (rest (rw his at none)))

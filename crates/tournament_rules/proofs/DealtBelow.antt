@@ -17,19 +17,23 @@ is_dealt_below table waiting seats player = is_dealt_in table waiting player && 
 
 -- the chips of those who are dealt in and sit in the first so many seats are in the hand
 abbrev pub dealt_below : ℕ → List Bool → ℕ → List Seated → List Seated
-dealt_below table waiting seats players = map (λ player. cond (is_dealt_below table waiting seats player) (with_rest player 0) player) players
+dealt_below table waiting seats players =
+    map (λ player. cond (is_dealt_below table waiting seats player) (with_rest player 0) player) players
 
 -- a seat of a table
 abbrev pub seat_of : ℕ → ℕ → Place
 seat_of table seat = record { table = table; seat = seat }
 
 -- a seat further, by plain tests: nobody is dealt in there
-passed_plain : (here : Bool) (waits : ℕ → Bool) (seat below : ℕ) → ((here && (seat == below + 1)) && not (waits (below + 1))) ≡ false
+passed_plain : (here : Bool) (waits : ℕ → Bool) (seat below : ℕ)
+    → ((here && (seat == below + 1)) && not (waits (below + 1))) ≡ false
     → ((here && not (waits seat)) && nat_le seat below) ≡ ((here && not (waits seat)) && nat_le seat (below + 1))
 passed_plain here waits seat below passed = elim (cases_Bool (seat == below + 1)) [
   | inl is ↦
       let same : seat ≡ below + 1 = grind (arith, nat_tests) in
-      subst (λ (seat : ℕ). ((here && not (waits seat)) && nat_le seat below) ≡ ((here && not (waits seat)) && nat_le seat (below + 1))) (sym same) (at_seat here (waits (below + 1)) (rw is at passed))
+      subst (λ (seat : ℕ). ((here && not (waits seat)) && nat_le seat below)
+      ≡ ((here && not (waits seat)) && nat_le seat (below + 1))) (sym same)
+      (at_seat here (waits (below + 1)) (rw is at passed))
   | inr other ↦
       let same : nat_le seat below ≡ nat_le seat (below + 1) = grind (arith, nat_tests) in
       ap (λ (b : Bool). (here && not (waits seat)) && b) same
@@ -39,12 +43,14 @@ passed_plain here waits seat below passed = elim (cases_Bool (seat == below + 1)
     nobody true waits none = none
     nobody false waits none = refl
 
-    at_seat : (here waits : Bool) → ((here && true) && not waits) ≡ false → ((here && not waits) && nat_le (below + 1) below) ≡ ((here && not waits) && nat_le (below + 1) (below + 1))
+    at_seat : (here waits : Bool) → ((here && true) && not waits) ≡ false
+        → ((here && not waits) && nat_le (below + 1) below) ≡ ((here && not waits) && nat_le (below + 1) (below + 1))
     at_seat here waits none = rw (nobody here waits none) refl
 
 -- a seat further, by plain tests: who sits there is dealt in
 dealt_plain : (here : Bool) (waits : ℕ → Bool) (seat below : ℕ) → waits (below + 1) ≡ false
-    → ((here && not (waits seat)) && nat_le seat (below + 1)) ≡ (((here && not (waits seat)) && nat_le seat below) || (here && (seat == below + 1)))
+    → ((here && not (waits seat)) && nat_le seat (below + 1))
+    ≡ (((here && not (waits seat)) && nat_le seat below) || (here && (seat == below + 1)))
 dealt_plain here waits seat below free = elim (cases_Bool (seat == below + 1)) [
   | inl is ↦
       let same : seat ≡ below + 1 = grind (arith, nat_tests) in
@@ -67,32 +73,43 @@ dealt_plain here waits seat below free = elim (cases_Bool (seat == below + 1)) [
     by_other false false = refl
 
 -- who sits where does not change
-same_place : (table seat : ℕ) (player : Seated) (b : Bool) → sits_in (seat_of table seat) (cond b (with_rest player 0) player) ≡ sits_in (seat_of table seat) player
+same_place : (table seat : ℕ) (player : Seated) (b : Bool)
+    → sits_in (seat_of table seat) (cond b (with_rest player 0) player) ≡ sits_in (seat_of table seat) player
 same_place table seat player true = refl
 same_place table seat player false = refl
 
 -- a player from whom the chips went at one of two tests
-both_tests : (player : Seated) (before here : Bool) → cond here (with_rest (cond before (with_rest player 0) player) 0) (cond before (with_rest player 0) player) ≡ cond (before || here) (with_rest player 0) player
+both_tests : (player : Seated) (before here : Bool)
+    → cond here (with_rest (cond before (with_rest player 0) player) 0) (cond before (with_rest player 0) player)
+    ≡ cond (before || here) (with_rest player 0) player
 both_tests player true true = refl
 both_tests player true false = refl
 both_tests player false true = refl
 both_tests player false false = refl
 
 -- Who sits in the next seat and does not wait is dealt in.
-pub dealt-seat : (table : ℕ) (waiting : List Bool) (below : ℕ) (players : List Seated) → has_seat waiting (below + 1) ≡ false
-    → with_stack (seat_of table (below + 1)) 0 (dealt_below table waiting below players) ≡ dealt_below table waiting (below + 1) players
+pub dealt-seat : (table : ℕ) (waiting : List Bool) (below : ℕ) (players : List Seated) → has_seat waiting (below + 1)
+    ≡ false
+    → with_stack (seat_of table (below + 1)) 0 (dealt_below table waiting below players)
+    ≡ dealt_below table waiting (below + 1) players
 dealt-seat table waiting below [] free = refl
 dealt-seat table waiting below (player ∷ players) free =
     let test = dealt_plain (player.place.table == table) (has_seat waiting) player.place.seat below free in
-    let one = both_tests player (is_dealt_below table waiting below player) (sits_in (seat_of table (below + 1)) player) in
+    let one = both_tests player (is_dealt_below table waiting below player)
+    (sits_in (seat_of table (below + 1)) player) in
     let rest = dealt-seat table waiting below players free in
-    rw (same_place table (below + 1) player (is_dealt_below table waiting below player)) (rw (one, ← test) (ap (◌∷◌ (cond (is_dealt_below table waiting (below + 1) player) (with_rest player 0) player)) rest))
+    rw (same_place table (below + 1) player (is_dealt_below table waiting below player))
+    (rw (one, ← test) (ap (◌∷◌
+    (cond (is_dealt_below table waiting (below + 1) player) (with_rest player 0) player)) rest))
 
 -- Where the next seat's player waits, nobody more is dealt in.
-pub dealt-waiting : (table : ℕ) (waiting : List Bool) (below : ℕ) (players : List Seated) → has_seat waiting (below + 1) ≡ true → dealt_below table waiting below players ≡ dealt_below table waiting (below + 1) players
+pub dealt-waiting : (table : ℕ) (waiting : List Bool) (below : ℕ) (players : List Seated)
+    → has_seat waiting (below + 1) ≡ true → dealt_below table waiting below players
+    ≡ dealt_below table waiting (below + 1) players
 dealt-waiting table waiting below [] waits = refl
 dealt-waiting table waiting below (player ∷ players) waits =
-    let test = passed_plain (player.place.table == table) (has_seat waiting) player.place.seat below (rw waits (never ((player.place.table == table) && (player.place.seat == below + 1)))) in
+    let test = passed_plain (player.place.table == table) (has_seat waiting) player.place.seat below
+    (rw waits (never ((player.place.table == table) && (player.place.seat == below + 1)))) in
     let rest = dealt-waiting table waiting below players waits in
     rw test (ap (◌∷◌ (cond (is_dealt_below table waiting (below + 1) player) (with_rest player 0) player)) rest)
   where
@@ -101,31 +118,45 @@ dealt-waiting table waiting below (player ∷ players) waits =
     never false = refl
 
 -- Where nobody sits in the next seat, nobody more is dealt in.
-pub dealt-empty : (table : ℕ) (waiting : List Bool) (below : ℕ) (players : List Seated) → player_at (dealt_below table waiting below players) (seat_of table (below + 1)) ≡ None
+pub dealt-empty : (table : ℕ) (waiting : List Bool) (below : ℕ) (players : List Seated)
+    → player_at (dealt_below table waiting below players) (seat_of table (below + 1)) ≡ None
     → dealt_below table waiting below players ≡ dealt_below table waiting (below + 1) players
 dealt-empty table waiting below [] empty = refl
 dealt-empty table waiting below (player ∷ players) empty =
-    by_test (sits_in (seat_of table (below + 1)) player) refl empty (λ (more : player_at (dealt_below table waiting below players) (seat_of table (below + 1)) ≡ None). dealt-empty table waiting below players more)
+    by_test (sits_in (seat_of table (below + 1)) player) refl empty
+    (λ (more : player_at (dealt_below table waiting below players) (seat_of table (below + 1)) ≡ None).
+    dealt-empty table waiting below players more)
   where
-    by_test : (h : Bool) → sits_in (seat_of table (below + 1)) player ≡ h → player_at (dealt_below table waiting below (player ∷ players)) (seat_of table (below + 1)) ≡ None
-        → (player_at (dealt_below table waiting below players) (seat_of table (below + 1)) ≡ None → dealt_below table waiting below players ≡ dealt_below table waiting (below + 1) players)
+    by_test : (h : Bool) → sits_in (seat_of table (below + 1)) player ≡ h
+        → player_at (dealt_below table waiting below (player ∷ players)) (seat_of table (below + 1)) ≡ None
+        → (player_at (dealt_below table waiting below players) (seat_of table (below + 1)) ≡ None
+        → dealt_below table waiting below players ≡ dealt_below table waiting (below + 1) players)
         → dealt_below table waiting below (player ∷ players) ≡ dealt_below table waiting (below + 1) (player ∷ players)
     by_test true his none rest =
-        let found : Some (cond (is_dealt_below table waiting below player) (with_rest player 0) player) ≡ None = rw (same_place table (below + 1) player (is_dealt_below table waiting below player), his) at none in absurd cc
+        let found : Some (cond (is_dealt_below table waiting below player) (with_rest player 0) player)
+        ≡ None = rw (same_place table (below + 1) player (is_dealt_below table waiting below player), his) at
+        none in absurd cc
     by_test false his none rest =
-        let more = rest (rw (same_place table (below + 1) player (is_dealt_below table waiting below player), his) at none) in
-        let test = passed_plain (player.place.table == table) (has_seat waiting) player.place.seat below (rw his refl) in
+        let more = rest (rw (same_place table (below + 1) player (is_dealt_below table waiting below player), his) at
+        none) in
+        let test = passed_plain (player.place.table == table) (has_seat waiting) player.place.seat below
+        (rw his refl) in
         rw test (ap (◌∷◌ (cond (is_dealt_below table waiting (below + 1) player) (with_rest player 0) player)) more)
 
 -- Once all seats of the table are passed, all who do not wait are dealt in.
-pub dealt-all : (tables seats table : ℕ) (waiting : List Bool) (players : List Seated) → list_all (sits_within tables seats) players ≡ true → dealt_below table waiting seats players ≡ dealt_in table waiting players
+pub dealt-all : (tables seats table : ℕ) (waiting : List Bool) (players : List Seated)
+    → list_all (sits_within tables seats) players ≡ true → dealt_below table waiting seats players
+    ≡ dealt_in table waiting players
 dealt-all tables seats table waiting [] within = refl
 dealt-all tables seats table waiting (player ∷ players) within =
     let parts = and_parts (sits_within tables seats player) (list_all (sits_within tables seats) players) within in
     let last : nat_le player.place.seat seats ≡ true = last_seat player.place.table player.place.seat parts.0 in
-    rw (last, whole (is_dealt_in table waiting player)) (ap (◌∷◌ (cond (is_dealt_in table waiting player) (with_rest player 0) player)) (dealt-all tables seats table waiting players parts.1))
+    rw (last, whole (is_dealt_in table waiting player)) (ap
+    (◌∷◌ (cond (is_dealt_in table waiting player) (with_rest player 0) player))
+    (dealt-all tables seats table waiting players parts.1))
   where
-    last_seat : (at seat : ℕ) → ((nat_le 1 at && nat_le at tables) && (nat_le 1 seat && nat_le seat seats)) ≡ true → nat_le seat seats ≡ true
+    last_seat : (at seat : ℕ) → ((nat_le 1 at && nat_le at tables) && (nat_le 1 seat && nat_le seat seats)) ≡ true
+        → nat_le seat seats ≡ true
     last_seat at seat there = grind (arith, nat_tests)
 
     whole : (b : Bool) → (b && true) ≡ b
@@ -133,14 +164,17 @@ dealt-all tables seats table waiting (player ∷ players) within =
     whole false = refl
 
 -- Before any seat nobody is dealt in.
-pub dealt-none : (tables seats table : ℕ) (waiting : List Bool) (players : List Seated) → list_all (sits_within tables seats) players ≡ true → dealt_below table waiting 0 players ≡ players
+pub dealt-none : (tables seats table : ℕ) (waiting : List Bool) (players : List Seated)
+    → list_all (sits_within tables seats) players ≡ true → dealt_below table waiting 0 players ≡ players
 dealt-none tables seats table waiting [] within = refl
 dealt-none tables seats table waiting (player ∷ players) within =
     let parts = and_parts (sits_within tables seats player) (list_all (sits_within tables seats) players) within in
     let first : nat_le player.place.seat 0 ≡ false = first_seat player.place.table player.place.seat parts.0 in
-    rw (first, nobody (is_dealt_in table waiting player)) (ap (◌∷◌ player) (dealt-none tables seats table waiting players parts.1))
+    rw (first, nobody (is_dealt_in table waiting player)) (ap (◌∷◌ player)
+    (dealt-none tables seats table waiting players parts.1))
   where
-    first_seat : (at seat : ℕ) → ((nat_le 1 at && nat_le at tables) && (nat_le 1 seat && nat_le seat seats)) ≡ true → nat_le seat 0 ≡ false
+    first_seat : (at seat : ℕ) → ((nat_le 1 at && nat_le at tables) && (nat_le 1 seat && nat_le seat seats)) ≡ true
+        → nat_le seat 0 ≡ false
     first_seat at seat there = grind (arith, nat_tests)
 
     nobody : (b : Bool) → (b && false) ≡ false

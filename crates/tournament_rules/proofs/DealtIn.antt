@@ -30,16 +30,21 @@ dealt-stacks table waiting = record { same = λ player. by_test (is_dealt_in tab
     by_test false player = refl
 
 rest-step : (table : ℕ) (waiting : List Bool) (player : Seated) (players : List Seated) (b : Bool)
-    → sum_by stack_of (dealt_in table waiting players) + chips_of (dealt_seats table waiting players) ≡ sum_by stack_of players
-    → sum_by stack_of (cond b (with_rest player 0) player ∷ dealt_in table waiting players) + chips_of (map start_seat (cond b (player ∷ filter (is_dealt_in table waiting) players) (filter (is_dealt_in table waiting) players))) ≡ sum_by stack_of (player ∷ players)
+    → sum_by stack_of (dealt_in table waiting players) + chips_of (dealt_seats table waiting players)
+    ≡ sum_by stack_of players
+    → sum_by stack_of (cond b (with_rest player 0) player ∷ dealt_in table waiting players) + chips_of
+    (map start_seat (cond b (player ∷ filter (is_dealt_in table waiting) players)
+    (filter (is_dealt_in table waiting) players))) ≡ sum_by stack_of (player ∷ players)
 rest-step table waiting player players true others = simp sum_by-cons (omega (arith, others))
 rest-step table waiting player players false others = simp sum_by-cons (omega (arith, others))
 
 -- The chips of those who are dealt in leave the stacks at rest.
 pub rest-dealt_in : (table : ℕ) (waiting : List Bool) (players : List Seated)
-    → sum_by stack_of (dealt_in table waiting players) + chips_of (dealt_seats table waiting players) ≡ sum_by stack_of players
+    → sum_by stack_of (dealt_in table waiting players) + chips_of (dealt_seats table waiting players)
+    ≡ sum_by stack_of players
 rest-dealt_in table waiting [] = refl
-rest-dealt_in table waiting (player ∷ players) = rest-step table waiting player players (is_dealt_in table waiting player) (rest-dealt_in table waiting players)
+rest-dealt_in table waiting (player ∷ players) =
+    rest-step table waiting player players (is_dealt_in table waiting player) (rest-dealt_in table waiting players)
 
 -- Where nothing passes for a list, its first does not and none of the others do.
 pub none_first : {A : Type 0} (test : A → Bool) (first : A) (others : List A) → filter test (first ∷ others) ≡ []
@@ -53,8 +58,11 @@ none_first test first others none = by_test (test first) refl none
 
 lent-step : (table : ℕ) (waiting : List Bool) (player : Seated) (players : List Seated) (b : Bool)
     → is_dealt_in table waiting player ≡ b → is_lent table player ≡ false
-    → map start_seat (filter (is_lent table) (dealt_in table waiting players)) ≡ map without_stack (dealt_seats table waiting players)
-    → map start_seat (filter (is_lent table) (cond b (with_rest player 0) player ∷ dealt_in table waiting players)) ≡ map without_stack (map start_seat (cond b (player ∷ filter (is_dealt_in table waiting) players) (filter (is_dealt_in table waiting) players)))
+    → map start_seat (filter (is_lent table) (dealt_in table waiting players))
+    ≡ map without_stack (dealt_seats table waiting players)
+    → map start_seat (filter (is_lent table) (cond b (with_rest player 0) player ∷ dealt_in table waiting players))
+    ≡ map without_stack (map start_seat (cond b (player ∷ filter (is_dealt_in table waiting) players)
+    (filter (is_dealt_in table waiting) players)))
 lent-step table waiting player players true is none rest =
     let sits = (and_parts (sits_at table player) (not (has_seat waiting player.place.seat)) is).0 in
     rw sits (ap (λ (others : List StartSeat). without_stack (start_seat player) ∷ others) rest)
@@ -62,17 +70,20 @@ lent-step table waiting player players false is none rest = rw none rest
 
 -- Where everyone at a table had something at rest, those who have nothing once a hand begins there are dealt in.
 pub lent-dealt_in : (table : ℕ) (waiting : List Bool) (players : List Seated) → filter (is_lent table) players ≡ []
-    → map start_seat (filter (is_lent table) (dealt_in table waiting players)) ≡ map without_stack (dealt_seats table waiting players)
+    → map start_seat (filter (is_lent table) (dealt_in table waiting players))
+    ≡ map without_stack (dealt_seats table waiting players)
 lent-dealt_in table waiting [] none = refl
 lent-dealt_in table waiting (player ∷ players) none =
     let parts = none_first (is_lent table) player players none in
-    lent-step table waiting player players (is_dealt_in table waiting player) refl parts.0 (lent-dealt_in table waiting players parts.1)
+    lent-step table waiting player players (is_dealt_in table waiting player) refl parts.0
+    (lent-dealt_in table waiting players parts.1)
 
 -- Those who have nothing at rest at another table are who they were.
 pub lent_elsewhere-dealt_in : (table other : ℕ) (waiting : List Bool) (players : List Seated) → (table == other) ≡ false
     → filter (is_lent other) (dealt_in table waiting players) ≡ filter (is_lent other) players
 lent_elsewhere-dealt_in table other waiting [] differ = refl
-lent_elsewhere-dealt_in table other waiting (player ∷ players) differ = by_test (is_dealt_in table waiting player) refl (lent_elsewhere-dealt_in table other waiting players differ)
+lent_elsewhere-dealt_in table other waiting (player ∷ players) differ =
+    by_test (is_dealt_in table waiting player) refl (lent_elsewhere-dealt_in table other waiting players differ)
   where
     sits_elsewhere : (sits table other : ℕ) → (table == other) ≡ false → (sits == table) ≡ true
         → (sits == other) ≡ false
@@ -80,7 +91,8 @@ lent_elsewhere-dealt_in table other waiting (player ∷ players) differ = by_tes
 
     by_test : (b : Bool) → is_dealt_in table waiting player ≡ b
         → filter (is_lent other) (dealt_in table waiting players) ≡ filter (is_lent other) players
-        → filter (is_lent other) (cond b (with_rest player 0) player ∷ dealt_in table waiting players) ≡ filter (is_lent other) (player ∷ players)
+        → filter (is_lent other) (cond b (with_rest player 0) player ∷ dealt_in table waiting players)
+        ≡ filter (is_lent other) (player ∷ players)
     by_test true is rest =
         let sits = (and_parts (sits_at table player) (not (has_seat waiting player.place.seat)) is).0 in
         let away = sits_elsewhere player.place.table table other differ sits in
@@ -98,7 +110,8 @@ pub whole-dealt_in : (unit table : ℕ) (waiting : List Bool) (players : List Se
 whole-dealt_in unit table waiting [] whole = refl
 whole-dealt_in unit table waiting (player ∷ players) whole =
     let parts = and_parts (player.stack % unit == 0) (list_all (λ player. player.stack % unit == 0) players) whole in
-    and_from _ _ (by_test (is_dealt_in table waiting player) parts.0) (whole-dealt_in unit table waiting players parts.1)
+    and_from _ _ (by_test (is_dealt_in table waiting player) parts.0)
+    (whole-dealt_in unit table waiting players parts.1)
   where
     by_test : (b : Bool) → (player.stack % unit == 0) ≡ true
         → ((cond b (with_rest player 0) player).stack % unit == 0) ≡ true
@@ -108,10 +121,13 @@ whole-dealt_in unit table waiting (player ∷ players) whole =
 playable-step : (unit table : ℕ) (waiting : List Bool) (player : Seated) (players : List Seated) (b : Bool)
     → is_dealt_in table waiting player ≡ b → is_lent table player ≡ false → (player.stack % unit == 0) ≡ true
     → have_playable_stacks unit (dealt_seats table waiting players) ≡ true
-    → have_playable_stacks unit (map start_seat (cond b (player ∷ filter (is_dealt_in table waiting) players) (filter (is_dealt_in table waiting) players))) ≡ true
+    → have_playable_stacks unit (map start_seat
+    (cond b (player ∷ filter (is_dealt_in table waiting) players) (filter (is_dealt_in table waiting) players)))
+    ≡ true
 playable-step unit table waiting player players true is none whole rest =
     let sits = (and_parts (sits_at table player) (not (has_seat waiting player.place.seat)) is).0 in
-    and_from (is_playable_stack unit player.stack) _ (above (sits_at table player) player.stack unit sits none whole) rest
+    and_from (is_playable_stack unit player.stack) _ (above (sits_at table player) player.stack unit sits none whole)
+    rest
   where
     above : (sits : Bool) (stack unit : ℕ) → sits ≡ true → (sits && stack == 0) ≡ false → (stack % unit == 0) ≡ true
         → is_playable_stack unit stack ≡ true
@@ -127,4 +143,5 @@ playable-dealt unit table waiting [] none whole = refl
 playable-dealt unit table waiting (player ∷ players) none whole =
     let lent = none_first (is_lent table) player players none in
     let parts = and_parts (player.stack % unit == 0) (list_all (λ player. player.stack % unit == 0) players) whole in
-    playable-step unit table waiting player players (is_dealt_in table waiting player) refl lent.0 parts.0 (playable-dealt unit table waiting players lent.1 parts.1)
+    playable-step unit table waiting player players (is_dealt_in table waiting player) refl lent.0 parts.0
+    (playable-dealt unit table waiting players lent.1 parts.1)

@@ -37,7 +37,8 @@ numbers_without (starter ∷ starters) = ap (λ (numbers : List ℕ). starter.pl
 
 -- A stack that can be played with is above 0 and a multiple of the unit.
 pub playable_parts : (unit : ℕ) (payees : List StartSeat) → have_playable_stacks unit payees ≡ true
-    → (list_all (λ payee. nat_lt 0 payee.stack) payees ≡ true) × (list_all (λ payee. payee.stack % unit == 0) payees ≡ true)
+    → (list_all (λ payee. nat_lt 0 payee.stack) payees ≡ true)
+    × (list_all (λ payee. payee.stack % unit == 0) payees ≡ true)
 playable_parts unit [] playable = (refl, refl)
 playable_parts unit (payee ∷ payees) playable =
     let parts = and_parts (is_playable_stack unit payee.stack) (have_playable_stacks unit payees) playable in
@@ -51,12 +52,16 @@ payees_lent : (book : BookState) (table : ℕ) (start : HandStart) (payees : Lis
     → ArePayees (is_lent table) book.seating.players payees
 payees_lent book table start payees valid is back = record {
   numbers =
-      let out : map start_seat (filter (is_lent table) book.seating.players) ≡ map without_stack start.seats = valid.hands.lent table ∙ ap (λ (start : Option HandStart). map without_stack (players_out start)) is in
-      sym (numbers_without payees) ∙ (ap numbers_of (back.same ∙ sym out) ∙ picked_numbers (filter (is_lent table) book.seating.players));
+      let out : map start_seat (filter (is_lent table) book.seating.players)
+      ≡ map without_stack start.seats = valid.hands.lent table
+      ∙ ap (λ (start : Option HandStart). map without_stack (players_out start)) is in
+      sym (numbers_without payees) ∙ (ap numbers_of (back.same ∙ sym out) ∙ picked_numbers
+      (filter (is_lent table) book.seating.players));
 }
 
 lent_nothing : (table : ℕ) (player : Seated) → is_lent table player ≡ true → player.stack ≡ 0
-lent_nothing table player lent = eqb-true player.stack 0 (and_parts (player.place.table == table) (player.stack == 0) lent).1
+lent_nothing table player lent =
+    eqb-true player.stack 0 (and_parts (player.place.table == table) (player.stack == 0) lent).1
 
 -- A book is valid once the hand at a table has ended and stacks of its start's sum went back to its players.
 pub valid_ended : (book : BookState) (table : ℕ) (start : HandStart) (payees : List StartSeat) → IsValid book
@@ -76,11 +81,14 @@ valid_ended book table start payees valid is back =
     record {
       plan = valid.plan;
       entries = entered_changed book.entries book.seating.players (paid payees) (paid-stacks payees) valid.entries;
-      tables = fitting_changed book.plan book.seating book.out table (at_rest (status_at book.seating.tables table)) None (paid payees) valid.tables there
+      tables = fitting_changed book.plan book.seating book.out table (at_rest (status_at book.seating.tables table))
+          None (paid payees) valid.tables there
           (record { marks = stands.marks; unit = stands.unit; race = stands.race }) refl (paid-stacks payees);
-      hands = out_changed book.plan book.level book.seating.players (put_back payees book.seating.players) book.out table None valid.hands within
+      hands = out_changed book.plan book.level book.seating.players (put_back payees book.seating.players) book.out
+          table None valid.hands within
           (λ start none. absurd cc)
-          (ap (λ (found : List Seated). map start_seat found) (none_lent table book.seating.players payees apart those parts.0))
+          (ap (λ (found : List Seated). map start_seat found)
+          (none_lent table book.seating.players payees apart those parts.0))
           (λ other differ. lent_elsewhere table other book.seating.players payees apart those differ);
       chips = record {
         kept =
@@ -90,10 +98,14 @@ valid_ended book table start payees valid is back =
             let his : chips_out (start_at book.out table) ≡ chips_of start.seats = ap chips_out is in
             let same = back.kept in
             omega (arith, kept, rest, play, his, same);
-        whole = all-put_back (λ stack. stack % unit_of_level book.plan.blinds book.level == 0) payees book.seating.players
-            (ap (λ (unit : ℕ). list_all (λ (payee : StartSeat). payee.stack % unit == 0) payees) (sym began.unit) ∙ parts.1)
+        whole = all-put_back (λ stack. stack % unit_of_level book.plan.blinds book.level == 0) payees
+            book.seating.players
+            (ap (λ (unit : ℕ). list_all (λ (payee : StartSeat). payee.stack % unit == 0) payees) (sym began.unit)
+            ∙ parts.1)
             valid.chips.whole;
-        units = λ other listed. each_status (λ number status. is_between 1 book.plan.tables number ≡ true → status.unit ≡ unit_of_level book.plan.blinds book.level) book.seating.tables table (at_rest (status_at book.seating.tables table)) range.0 (omega (arith, range.1, count, size))
+        units = λ other listed. each_status (λ number status. is_between 1 book.plan.tables number ≡ true →
+            status.unit ≡ unit_of_level book.plan.blinds book.level) book.seating.tables table
+            (at_rest (status_at book.seating.tables table)) range.0 (omega (arith, range.1, count, size))
             (valid.chips.units table) other (valid.chips.units other) listed;
       };
       counted = valid.counted;
@@ -112,9 +124,11 @@ valid_counted book accepted stopped valid enough = record {
 }
 
 after_without : (hand : HandTerms) (players : List StartSeat)
-    → map without_stack (map (λ player. with_stack player (stack_after_hand hand player)) players) ≡ map without_stack players
+    → map without_stack (map (λ player. with_stack player (stack_after_hand hand player)) players)
+    ≡ map without_stack players
 after_without hand [] = refl
-after_without hand (player ∷ players) = ap (λ (others : List StartSeat). without_stack player ∷ others) (after_without hand players)
+after_without hand (player ∷ players) =
+    ap (λ (others : List StartSeat). without_stack player ∷ others) (after_without hand players)
 
 -- A book is valid once a hand that is won by folds is settled.
 pub valid_settled : (book : BookState) (hand : HandTerms) → IsValid book
@@ -122,9 +136,15 @@ pub valid_settled : (book : BookState) (hand : HandTerms) → IsValid book
     → IsValid (settled book hand)
 valid_settled book hand valid is play won =
     let began = valid.hands.starts hand.start.table hand.start is in
-    let back : GoBackTo hand.start (players_after hand) = record { same = after_without hand hand.start.seats; playable = stacks-playable hand began.lawful play won; kept = chips-players hand won } in
+    let back : GoBackTo hand.start (players_after hand) = record {
+      same = after_without hand hand.start.seats;
+      playable = stacks-playable hand began.lawful play won;
+      kept =
+          chips-players hand won;
+    } in
     let counted = valid.counted in
-    valid_counted (ended book hand.start.table (players_after hand)) (book.accepted + 1) book.stopped (valid_ended book hand.start.table hand.start (players_after hand) valid is back) (omega (arith, counted))
+    valid_counted (ended book hand.start.table (players_after hand)) (book.accepted + 1) book.stopped
+    (valid_ended book hand.start.table hand.start (players_after hand) valid is back) (omega (arith, counted))
 
 -- A book is valid once the hand at a table is void.
 pub valid_void_at : (book : BookState) (table : ℕ) → IsValid book → IsValid (void_at book table)
@@ -135,12 +155,14 @@ valid_void_at book table valid = by_start (start_at book.out table) refl
     by_start None is = valid
     by_start (Some start) is =
         let began = valid.hands.starts table start is in
-        valid_ended book table start start.seats valid is (record { same = refl; playable = began.lawful.stacks; kept = refl })
+        valid_ended book table start start.seats valid is (record
+        { same = refl; playable = began.lawful.stacks; kept = refl })
 
 -- A book is valid once the hands at the first so many tables are void.
 pub valid_void_first : (book : BookState) (tables : ℕ) → IsValid book → IsValid (void_first book tables)
 valid_void_first book zero valid = valid
-valid_void_first book (suc tables) valid = valid_void_at (void_first book tables) (suc tables) (valid_void_first book tables valid)
+valid_void_first book (suc tables) valid =
+    valid_void_at (void_first book tables) (suc tables) (valid_void_first book tables valid)
 
 -- What the end of a hand leaves of a book as it is.
 pub record IsLeft {K : Type 0} (key : BookState → K) : Type 0 where
@@ -150,10 +172,12 @@ pub record IsLeft {K : Type 0} (key : BookState → K) : Type 0 where
 pub left-void_first : {K : Type 0} (key : BookState → K) → IsLeft key → (book : BookState) (tables : ℕ)
     → key (void_first book tables) ≡ key book
 left-void_first key leaves book zero = refl
-left-void_first key leaves book (suc tables) = by_start (start_at (void_first book tables).out (suc tables)) ∙ left-void_first key leaves book tables
+left-void_first key leaves book (suc tables) = by_start (start_at (void_first book tables).out (suc tables))
+    ∙ left-void_first key leaves book tables
   where
     by_start : (found : Option HandStart)
-        → key (option_map_or (λ start. ended (void_first book tables) (suc tables) start.seats) found (void_first book tables)) ≡ key (void_first book tables)
+        → key (option_map_or (λ start. ended (void_first book tables) (suc tables) start.seats) found
+        (void_first book tables)) ≡ key (void_first book tables)
     by_start None = refl
     by_start (Some start) = leaves.same (void_first book tables) (suc tables) start.seats
 
@@ -177,26 +201,32 @@ none_out-void_first book zero table first last = absurd (omega arith)
 none_out-void_first book (suc tables) table first last = elim (cases_lt tables table) [
   | inl here ↦
       let is : suc tables ≡ table = omega arith in
-      subst (λ (number : ℕ). start_at (void_first book (suc tables)).out number ≡ None) is (void_here (start_at (void_first book tables).out (suc tables)) refl)
-  | inr before ↦ void_kept (start_at (void_first book tables).out (suc tables)) (none_out-void_first book tables table first before)
+      subst (λ (number : ℕ). start_at (void_first book (suc tables)).out number ≡ None) is
+      (void_here (start_at (void_first book tables).out (suc tables)) refl)
+  | inr before ↦ void_kept (start_at (void_first book tables).out (suc tables))
+      (none_out-void_first book tables table first before)
 ]
   where
     void_here : (found : Option HandStart) → start_at (void_first book tables).out (suc tables) ≡ found
-        → start_at (option_map_or (λ start. ended (void_first book tables) (suc tables) start.seats) found (void_first book tables)).out (suc tables) ≡ None
+        → start_at (option_map_or (λ start. ended (void_first book tables) (suc tables) start.seats) found
+        (void_first book tables)).out (suc tables) ≡ None
     void_here None is = is
     void_here (Some start) is = set_none-here (void_first book tables).out (suc tables)
 
     void_kept : (found : Option HandStart) → start_at (void_first book tables).out table ≡ None
-        → start_at (option_map_or (λ start. ended (void_first book tables) (suc tables) start.seats) found (void_first book tables)).out table ≡ None
+        → start_at (option_map_or (λ start. ended (void_first book tables) (suc tables) start.seats) found
+        (void_first book tables)).out table ≡ None
     void_kept None none = none
     void_kept (Some start) none = set_none-kept (void_first book tables).out (suc tables) table none
 
 -- A book is valid once the tournament is stopped.
 pub valid_stopped : (book : BookState) → IsValid book → IsValid (stopped_book book)
 valid_stopped book valid =
-    let begun = left-void_first (λ book. book.begun) (record { same = λ book table payees. refl }) book book.plan.tables in
+    let begun = left-void_first (λ book. book.begun) (record { same = λ book table payees. refl }) book
+    book.plan.tables in
     let counted = valid.counted in
-    valid_counted (void_first book book.plan.tables) (book.accepted + 1) true (valid_void_first book book.plan.tables valid) (omega (arith, begun, counted))
+    valid_counted (void_first book book.plan.tables) (book.accepted + 1) true
+    (valid_void_first book book.plan.tables valid) (omega (arith, begun, counted))
 
 -- Once the tournament is stopped, no hand is out at any table.
 pub none_out-stopped : (book : BookState) (table : ℕ) → IsValid book → start_at (stopped_book book).out table ≡ None
@@ -204,7 +234,8 @@ none_out-stopped book zero valid = (valid_void_first book book.plan.tables valid
 none_out-stopped book (suc below) valid = elim (cases_lt below book.plan.tables) [
   | inl listed ↦ none_out-void_first book book.plan.tables (suc below) (omega arith) (omega arith)
   | inr past ↦
-      let tables = left-void_first (λ book. book.plan.tables) (record { same = λ book table payees. refl }) book book.plan.tables in
+      let tables = left-void_first (λ book. book.plan.tables) (record { same = λ book table payees. refl }) book
+      book.plan.tables in
       let room = (valid_void_first book book.plan.tables valid).tables.room in
       get_or_past (void_first book book.plan.tables).out (suc below) None (omega (arith, tables, room, past))
 ]

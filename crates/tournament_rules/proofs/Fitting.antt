@@ -55,7 +55,8 @@ pub each_status : (P : ℕ → TableStatus → Type 0) (tables : List TableStatu
 each_status P tables table status first last here other there = elim (cases_Bool (table == other)) [
   | inl same ↦
       let is = eqb-true table other same in
-      subst (λ (number : ℕ). P number (status_at (with_status tables table status) number)) is (subst (λ (s : TableStatus). P table s) (sym (status_here tables table status first last)) here)
+      subst (λ (number : ℕ). P number (status_at (with_status tables table status) number)) is
+      (subst (λ (s : TableStatus). P table s) (sym (status_here tables table status first last)) here)
   | inr differ ↦ subst (λ (s : TableStatus). P other s) (sym (status_elsewhere tables table other status differ)) there
 ]
 
@@ -67,34 +68,48 @@ pub each_start : (P : ℕ → Option HandStart → Type 0) (out : List (Option H
 each_start P out table start within here other there = elim (cases_Bool (table == other)) [
   | inl same ↦
       let is = eqb-true table other same in
-      subst (λ (number : ℕ). P number (start_at (slice_set out table start) number)) is (subst (λ (s : Option HandStart). P table s) (sym (get_or-set_same out table start None within)) here)
-  | inr differ ↦ subst (λ (s : Option HandStart). P other s) (sym (get_or-set_other out table other start None (other_number table other differ))) (there differ)
+      subst (λ (number : ℕ). P number (start_at (slice_set out table start) number)) is
+      (subst (λ (s : Option HandStart). P table s) (sym (get_or-set_same out table start None within)) here)
+  | inr differ ↦ subst (λ (s : Option HandStart). P other s) (sym
+      (get_or-set_other out table other start None (other_number table other differ))) (there differ)
 ]
 
 -- Who sits where and how the tables stand, once one table stands otherwise and stacks changed.
 pub seating_changed : (seating : Seating) (table : ℕ) (status : TableStatus) (change : Seated → Seated)
     → IsSeating seating → 1 ≤ table → table ≤ seating.table_count → IsStatusOf seating.seat_count status
     → ChangesStacks change
-    → IsSeating (record seating { players = map change seating.players; tables = with_status seating.tables table status })
+    → IsSeating (record seating {
+      players = map change seating.players;
+      tables = with_status seating.tables table
+          status;
+    })
 seating_changed seating table status change lawful first last stands stacks = record {
   some_tables = lawful.some_tables;
   most_tables = lawful.most_tables;
   some_seats = lawful.some_seats;
   most_seats = lawful.most_seats;
   tables = length-with_status seating.tables table status ∙ lawful.tables;
-  statuses = λ other. each_status (λ number status. IsStatusOf seating.seat_count status) seating.tables table status first (let size = lawful.tables in omega (arith, size, last)) stands other (lawful.statuses other);
-  within = all_changed (sits_within seating.table_count seating.seat_count) change (record { same = λ player stack. refl }) stacks seating.players ∙ lawful.within;
+  statuses = λ other. each_status (λ number status. IsStatusOf seating.seat_count status) seating.tables table status
+      first (let size = lawful.tables in omega (arith, size, last)) stands other (lawful.statuses other);
+  within = all_changed (sits_within seating.table_count seating.seat_count) change
+      (record { same = λ player stack. refl }) stacks seating.players ∙ lawful.within;
   ordered = order_changed change stacks seating.players ∙ lawful.ordered;
-  entries = all_changed is_entry change (record { same = λ player stack. refl }) stacks seating.players ∙ lawful.entries;
+  entries = all_changed is_entry change (record { same = λ player stack. refl }) stacks seating.players
+      ∙ lawful.entries;
   apart = apart_changed change stacks seating.players ∙ lawful.apart;
 }
 
--- The seating fits the plan once stacks changed and a table stands otherwise, which plays just where a start is out now.
+-- The seating fits the plan once stacks changed and a table stands otherwise, which plays just where a start is out
+-- now.
 pub fitting_changed : (plan : PlanTerms) (seating : Seating) (out : List (Option HandStart)) (table : ℕ)
     (status : TableStatus) (start : Option HandStart) (change : Seated → Seated)
     → IsFitting plan seating out → is_between 1 plan.tables table ≡ true → IsStatusOf seating.seat_count status
     → status.playing ≡ is_some start → ChangesStacks change
-    → IsFitting plan (record seating { players = map change seating.players; tables = with_status seating.tables table status }) (slice_set out table start)
+    → IsFitting plan (record seating {
+      players = map change seating.players;
+      tables = with_status seating.tables
+          table status;
+    }) (slice_set out table start)
 fitting_changed plan seating out table status start change fits there stands plays stacks =
     let range = table_range 1 plan.tables table there in
     let count = fits.tables in
@@ -102,15 +117,19 @@ fitting_changed plan seating out table status start change fits there stands pla
     let room = fits.room in
     let within : table < length out = omega (arith, range.1, room) in
     record {
-      lawful = seating_changed seating table status change fits.lawful range.0 (omega (arith, range.1, count)) stands stacks;
+      lawful = seating_changed seating table status change fits.lawful range.0 (omega (arith, range.1, count)) stands
+          stacks;
       tables = fits.tables;
       seats = fits.seats;
       room = length-set out table start ∙ fits.room;
       nobody = get_or-set_other out table 0 start None (λ same. omega (arith, range.0, same)) ∙ fits.nobody;
-      playing = λ other. each_start (λ number start. (status_at (with_status seating.tables table status) number).playing ≡ is_some start) out table start within
-          (ap (λ (s : TableStatus). s.playing) (status_here seating.tables table status range.0 (omega (arith, range.1, count, size))) ∙ plays)
+      playing = λ other. each_start (λ number start.
+          (status_at (with_status seating.tables table status) number).playing ≡ is_some start) out table start within
+          (ap (λ (s : TableStatus). s.playing) (status_here seating.tables table status range.0
+          (omega (arith, range.1, count, size))) ∙ plays)
           other
-          (λ differ. ap (λ (s : TableStatus). s.playing) (status_elsewhere seating.tables table other status differ) ∙ fits.playing other);
+          (λ differ. ap (λ (s : TableStatus). s.playing) (status_elsewhere seating.tables table other status differ)
+          ∙ fits.playing other);
     }
 
 -- A table at which a start is out is one of the plan's.
@@ -137,8 +156,10 @@ pub out_changed : (plan : PlanTerms) (level : ℕ) (players after : List Seated)
     → ((other : ℕ) → (table == other) ≡ false → filter (is_lent other) after ≡ filter (is_lent other) players)
     → AreOut plan level after (slice_set out table start)
 out_changed plan level players after out table start hands within lawful here elsewhere = record {
-  starts = λ other. each_start (λ number start. ForSome start (IsStartAt plan level number)) out table start within lawful other (λ differ. hands.starts other);
-  lent = λ other. each_start (λ number start. map start_seat (filter (is_lent number) after) ≡ map without_stack (players_out start)) out table start within here other
+  starts = λ other. each_start (λ number start. ForSome start (IsStartAt plan level number)) out table start
+      within lawful other (λ differ. hands.starts other);
+  lent = λ other. each_start (λ number start. map start_seat (filter (is_lent number) after) ≡ map without_stack
+      (players_out start)) out table start within here other
       (λ differ. ap (λ (found : List Seated). map start_seat found) (elsewhere other differ) ∙ hands.lent other);
 }
 
@@ -148,5 +169,6 @@ chips_out start = chips_of (players_out start)
 
 -- The chips in play, once another start, or none, is out at a table.
 pub play_changed : (out : List (Option HandStart)) (table : ℕ) (start : Option HandStart) → table < length out
-    → sum_by chips_out (slice_set out table start) + chips_out (start_at out table) ≡ sum_by chips_out out + chips_out start
+    → sum_by chips_out (slice_set out table start) + chips_out (start_at out table)
+    ≡ sum_by chips_out out + chips_out start
 play_changed out table start within = sum_by-set chips_out out table start None within

@@ -27,25 +27,29 @@ pub none_picked : (number : ℕ) (test : Seated → Bool) (players : List Seated
     → list_any (has_number number) (map start_seat (filter test players)) ≡ false
 none_picked number test [] none = refl
 none_picked number test (player ∷ players) none =
-    let parts = and_parts (not (is_numbered number player)) (list_all (λ other. not (is_numbered number other)) players) none in
+    let parts = and_parts (not (is_numbered number player)) (list_all (λ other. not (is_numbered number other))
+    players) none in
     by_test (test player) (not-true (is_numbered number player) parts.0) (none_picked number test players parts.1)
   where
     by_test : (b : Bool) → is_numbered number player ≡ false
         → list_any (has_number number) (map start_seat (filter test players)) ≡ false
-        → list_any (has_number number) (map start_seat (cond b (player ∷ filter test players) (filter test players))) ≡ false
+        → list_any (has_number number) (map start_seat (cond b (player ∷ filter test players) (filter test players)))
+        ≡ false
     by_test true here rest = rw (here, rest) refl
     by_test false here rest = rest
 
 head_dealt : (test : Seated → Bool) (player : Seated) (players : List Seated) (b : Bool)
     → list_any (has_number player.player) (map start_seat (filter test players)) ≡ false
     → is_one_of (map start_seat (cond b (player ∷ filter test players) (filter test players))) player ≡ b
-head_dealt test player players true none = or_left (player.player == player.player) _ (eq-eqb player.player player.player refl)
+head_dealt test player players true none =
+    or_left (player.player == player.player) _ (eq-eqb player.player player.player refl)
 head_dealt test player players false none = none
 
 tail_dealt : (test : Seated → Bool) (first : Seated) (found : List Seated) (player : Seated) (b : Bool)
     → not (is_numbered first.player player) ≡ true → is_one_of (map start_seat found) player ≡ test player
     → is_one_of (map start_seat (cond b (first ∷ found) found)) player ≡ test player
-tail_dealt test first found player true differs is = rw (eqb-swap first.player player.player, not-true (is_numbered first.player player) differs) is
+tail_dealt test first found player true differs is =
+    rw (eqb-swap first.player player.player, not-true (is_numbered first.player player) differs) is
 tail_dealt test first found player false differs is = is
 
 -- Where no two players have one number, a player is one of those whom a test picks just where it picks him.
@@ -53,27 +57,34 @@ pub is_one_of-dealt : (test : Seated → Bool) (players : List Seated) → are_a
     → All (λ player. is_one_of (map start_seat (filter test players)) player ≡ test player) players
 is_one_of-dealt test [] apart = All-nil (λ player. is_one_of [] player ≡ test player)
 is_one_of-dealt test (first ∷ players) apart =
-    let parts = and_parts (list_all (λ other. not (is_numbered first.player other)) players) (are_apart players) apart in
+    let parts = and_parts (list_all (λ other. not (is_numbered first.player other)) players) (are_apart players)
+    apart in
     let differ = AllPass-from_list_all (λ other. not (is_numbered first.player other)) players parts.0 in
     let rest = is_one_of-dealt test players parts.1 in
     All-cons (λ player. is_one_of (map start_seat (filter test (first ∷ players))) player ≡ test player) first players
     (head_dealt test first players (test first) (none_picked first.player test players parts.0))
-    (λ k d within. tail_dealt test first (filter test players) (get_or players k d) (test first) (differ k d within) (rest k d within))
+    (λ k d within. tail_dealt test first (filter test players) (get_or players k d) (test first) (differ k d within)
+    (rest k d within))
 
 -- Who has a number does not depend on his stack.
 pub any_without : (number : ℕ) (starters : List StartSeat)
     → list_any (has_number number) (map without_stack starters) ≡ list_any (has_number number) starters
 any_without number [] = refl
-any_without number (starter ∷ starters) = ap (λ (b : Bool). (starter.player == number) || b) (any_without number starters)
+any_without number (starter ∷ starters) =
+    ap (λ (b : Bool). (starter.player == number) || b) (any_without number starters)
 
 -- In a valid book those who are in a hand are those who have nothing at rest.
 pub in_hand-lent : (book : BookState) → IsValid book
     → All (λ player. is_in_hand book.out player ≡ is_lent player.place.table player) book.seating.players
-in_hand-lent book valid = λ k d within. here (get_or book.seating.players k d) (is_one_of-dealt (is_lent (get_or book.seating.players k d).place.table) book.seating.players valid.tables.lawful.apart k d within)
+in_hand-lent book valid = λ k d within. here (get_or book.seating.players k d)
+    (is_one_of-dealt (is_lent (get_or book.seating.players k d).place.table) book.seating.players
+    valid.tables.lawful.apart k d within)
   where
     here : (player : Seated)
-        → is_one_of (map start_seat (filter (is_lent player.place.table) book.seating.players)) player ≡ is_lent player.place.table player
+        → is_one_of (map start_seat (filter (is_lent player.place.table) book.seating.players)) player
+        ≡ is_lent player.place.table player
         → is_in_hand book.out player ≡ is_lent player.place.table player
     here player is =
         sym (any_without player.player (players_out (start_at book.out player.place.table)))
-        ∙ (ap (λ (starters : List StartSeat). list_any (has_number player.player) starters) (sym (valid.hands.lent player.place.table)) ∙ is)
+        ∙ (ap (λ (starters : List StartSeat). list_any (has_number player.player) starters)
+        (sym (valid.hands.lent player.place.table)) ∙ is)

@@ -20,7 +20,8 @@ walk_seat : (seats : ℕ) (step : ℕ → ℕ) (occupied : ℕ → Bool)
     → IsSeatOf seats fallback
     → IsSeatOf seats (unwrap_or (find occupied (walk step steps seat)) fallback)
 walk_seat seats step occupied each zero seat fallback here other = other
-walk_seat seats step occupied each (suc steps) seat fallback here other = by_test (occupied (step seat)) (walk_seat seats step occupied each steps (step seat) fallback (each seat here) other)
+walk_seat seats step occupied each (suc steps) seat fallback here other = by_test (occupied (step seat))
+    (walk_seat seats step occupied each steps (step seat) fallback (each seat here) other)
   where
     by_test : (b : Bool) → IsSeatOf seats (unwrap_or (find occupied (walk step steps (step seat))) fallback)
         → IsSeatOf seats (unwrap_or (cond b (Some (step seat)) (find occupied (walk step steps (step seat)))) fallback)
@@ -43,17 +44,22 @@ before_last seats seat first last = grind (arith, nat_tests)
 pub next_seat : (seats : ℕ) (occupied : ℕ → Bool) (seat : ℕ) → IsSeatOf seats seat
     → IsSeatOf seats (next_occupied_after seats occupied seat)
 next_seat seats occupied seat here =
-    walk_seat seats (seat_after seats) occupied (λ seat here. record { first = after_first seats seat here.first here.last; last = after_last seats seat here.first here.last }) seats seat seat here here
+    walk_seat seats (seat_after seats) occupied (λ seat here. record
+    { first = after_first seats seat here.first here.last; last = after_last seats seat here.first here.last })
+    seats seat seat here here
 
 -- The nearest occupied seat before one is a seat of the table.
 pub nearest_seat : (seats : ℕ) (occupied : ℕ → Bool) (seat : ℕ) → IsSeatOf seats seat
     → IsSeatOf seats (nearest_occupied_before seats occupied seat)
 nearest_seat seats occupied seat here =
-    walk_seat seats (seat_before seats) occupied (λ seat here. record { first = before_first seats seat here.first here.last; last = before_last seats seat here.first here.last }) seats seat seat here here
+    walk_seat seats (seat_before seats) occupied (λ seat here. record
+    { first = before_first seats seat here.first here.last; last = before_last seats seat here.first here.last })
+    seats seat seat here here
 
 marks_of : (seats : ℕ) (marks : Marks) → IsSeatOf seats marks.button → IsSeatOf seats marks.small
     → IsSeatOf seats marks.big → AreMarksOf seats marks
-marks_of seats marks button small big = record { button = (button.first, button.last); small = (small.first, small.last); big = (big.first, big.last) }
+marks_of seats marks button small big =
+    record { button = (button.first, button.last); small = (small.first, small.last); big = (big.first, big.last) }
 
 first_within : (occupied : List Bool) (seats : ℕ) → 1 ≤ seats → AreMarksOf seats (first_marks occupied seats)
 first_within occupied seats some = by_test (is_heads_up occupied)
@@ -63,18 +69,22 @@ first_within occupied seats some = by_test (is_heads_up occupied)
 
     by_test : (b : Bool) → AreMarksOf seats (record {
       button = lowest_occupied seats (has_seat occupied);
-      small = cond b (lowest_occupied seats (has_seat occupied)) (next_occupied_after seats (has_seat occupied) (lowest_occupied seats (has_seat occupied)));
-      big = next_occupied_after seats (has_seat occupied) (cond b (lowest_occupied seats (has_seat occupied)) (next_occupied_after seats (has_seat occupied) (lowest_occupied seats (has_seat occupied))));
+      small = cond b (lowest_occupied seats (has_seat occupied))
+          (next_occupied_after seats (has_seat occupied) (lowest_occupied seats (has_seat occupied)));
+      big = next_occupied_after seats (has_seat occupied) (cond b (lowest_occupied seats (has_seat occupied))
+          (next_occupied_after seats (has_seat occupied) (lowest_occupied seats (has_seat occupied))));
     })
     by_test true = marks_of seats _ lowest lowest (next_seat seats (has_seat occupied) _ lowest)
-    by_test false = marks_of seats _ lowest (next_seat seats (has_seat occupied) _ lowest) (next_seat seats (has_seat occupied) _ (next_seat seats (has_seat occupied) _ lowest))
+    by_test false = marks_of seats _ lowest (next_seat seats (has_seat occupied) _ lowest)
+        (next_seat seats (has_seat occupied) _ (next_seat seats (has_seat occupied) _ lowest))
 
 moved_within : (old : Marks) (occupied : List Bool) (seats big : ℕ) → AreMarksOf seats old → IsSeatOf seats big
     → AreMarksOf seats (moved_marks old occupied seats big).marks
-moved_within old occupied seats big marks at = elim (cases_Bool (leaves_fewer_than_three occupied (waiting_between occupied seats old.small old.big))) [
-  | inl few ↦ rw few (marks_of seats _ (nearest_seat seats (has_seat occupied) old.big small) small at)
-  | inr many ↦ rw many (marks_of seats _ (record { first = marks.small.0; last = marks.small.1 }) small at)
-]
+moved_within old occupied seats big marks at =
+    elim (cases_Bool (leaves_fewer_than_three occupied (waiting_between occupied seats old.small old.big))) [
+      | inl few ↦ rw few (marks_of seats _ (nearest_seat seats (has_seat occupied) old.big small) small at)
+      | inr many ↦ rw many (marks_of seats _ (record { first = marks.small.0; last = marks.small.1 }) small at)
+    ]
   where
     small : IsSeatOf seats old.big
     small = record { first = marks.big.0; last = marks.big.1 }
@@ -86,9 +96,16 @@ marks-within None occupied seats some before = first_within occupied seats some
 marks-within (Some old) occupied seats some before = by_test (is_heads_up occupied)
   where
     big : IsSeatOf seats (next_occupied_after seats (has_seat occupied) old.big)
-    big = next_seat seats (has_seat occupied) old.big (let marks = before old refl in record { first = marks.big.0; last = marks.big.1 })
+    big = next_seat seats (has_seat occupied) old.big (let marks = before old refl in record
+        { first = marks.big.0; last = marks.big.1 })
 
     by_test : (b : Bool)
-        → AreMarksOf seats (cond b (record { marks = heads_up_marks occupied seats (next_occupied_after seats (has_seat occupied) old.big); waiting = no_seats }) (moved_marks old occupied seats (next_occupied_after seats (has_seat occupied) old.big))).marks
-    by_test true = marks_of seats _ (next_seat seats (has_seat occupied) _ big) (next_seat seats (has_seat occupied) _ big) big
+        → AreMarksOf seats (cond b (record {
+          marks = heads_up_marks occupied seats (next_occupied_after seats (has_seat occupied) old.big);
+          waiting
+              = no_seats;
+        }) (moved_marks old occupied seats
+        (next_occupied_after seats (has_seat occupied) old.big))).marks
+    by_test true = marks_of seats _ (next_seat seats (has_seat occupied) _ big)
+        (next_seat seats (has_seat occupied) _ big) big
     by_test false = moved_within old occupied seats _ (before old refl) big

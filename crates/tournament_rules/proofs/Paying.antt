@@ -33,7 +33,8 @@ pub paid-stacks : (payees : List StartSeat) → ChangesStacks (paid payees)
 paid-stacks payees = record { same = λ player. by_find (find (λ payee. payee.player == player.player) payees) player }
   where
     by_find : (found : Option StartSeat) (player : Seated)
-        → option_map_or (λ payee. with_rest player payee.stack) found player ≡ with_rest player (option_map_or (λ payee. with_rest player payee.stack) found player).stack
+        → option_map_or (λ payee. with_rest player payee.stack) found player
+        ≡ with_rest player (option_map_or (λ payee. with_rest player payee.stack) found player).stack
     by_find None player = refl
     by_find (Some payee) player = refl
 
@@ -49,11 +50,13 @@ first_paid (payee ∷ payees) player = with_rest player payee.stack
 -- the players whom a test picks get the payees' stacks one after another
 abbrev pub paid_in_turn : (Seated → Bool) → List StartSeat → List Seated → List Seated
 paid_in_turn test payees [] = []
-paid_in_turn test payees (player ∷ players) = cond (test player) (first_paid payees player ∷ paid_in_turn test (drop 1 payees) players) (player ∷ paid_in_turn test payees players)
+paid_in_turn test payees (player ∷ players) = cond (test player)
+    (first_paid payees player ∷ paid_in_turn test (drop 1 payees) players) (player ∷ paid_in_turn test payees players)
 
 not_his : (payee : StartSeat) (payees : List StartSeat) (player : Seated) → not (is_numbered payee.player player) ≡ true
     → paid (payee ∷ payees) player ≡ paid payees player
-not_his payee payees player differs = rw (eqb-swap payee.player player.player, not-true (is_numbered payee.player player) differs) refl
+not_his payee payees player differs =
+    rw (eqb-swap payee.player player.player, not-true (is_numbered payee.player player) differs) refl
 
 -- Who has none of the players' numbers is of no matter to them.
 put_back-later : (payee : StartSeat) (payees : List StartSeat) (players : List Seated)
@@ -61,7 +64,8 @@ put_back-later : (payee : StartSeat) (payees : List StartSeat) (players : List S
     → put_back (payee ∷ payees) players ≡ put_back payees players
 put_back-later payee payees [] none = refl
 put_back-later payee payees (player ∷ players) none =
-    let parts = and_parts (not (is_numbered payee.player player)) (list_all (λ other. not (is_numbered payee.player other)) players) none in
+    let parts = and_parts (not (is_numbered payee.player player))
+    (list_all (λ other. not (is_numbered payee.player other)) players) none in
     let here = not_his payee payees player parts.0 in
     let rest = put_back-later payee payees players parts.1 in
     cc
@@ -90,7 +94,8 @@ none_is_payee : (number : ℕ) (test : Seated → Bool) (players : List Seated) 
     → list_all (λ other. not (is_numbered number other)) players ≡ true → list_any (has_number number) payees ≡ false
 none_is_payee number test players payees same none =
     any_number number payees
-    ∙ (ap (λ (numbers : List ℕ). list_any (λ other. other == number) numbers) (same ∙ sym (picked_numbers (filter test players)))
+    ∙ (ap (λ (numbers : List ℕ). list_any (λ other. other == number) numbers)
+    (same ∙ sym (picked_numbers (filter test players)))
     ∙ (sym (any_number number (map start_seat (filter test players))) ∙ none_picked number test players none))
 
 his_own : (payee : StartSeat) (payees : List StartSeat) (player : Seated) → payee.player ≡ player.player
@@ -100,8 +105,10 @@ his_own payee payees player same = rw (eq-eqb payee.player player.player same) r
 in_turn-step : (test : Seated → Bool) (player : Seated) (players : List Seated) (payees : List StartSeat) (b : Bool)
     → list_all (λ other. not (is_numbered player.player other)) players ≡ true
     → numbers_of payees ≡ numbers_in (cond b (player ∷ filter test players) (filter test players))
-    → ((payees : List StartSeat) → numbers_of payees ≡ numbers_in (filter test players) → put_back payees players ≡ paid_in_turn test payees players)
-    → put_back payees (player ∷ players) ≡ cond b (first_paid payees player ∷ paid_in_turn test (drop 1 payees) players) (player ∷ paid_in_turn test payees players)
+    → ((payees : List StartSeat) → numbers_of payees ≡ numbers_in (filter test players) → put_back payees players
+    ≡ paid_in_turn test payees players)
+    → put_back payees (player ∷ players) ≡ cond b (first_paid payees player ∷ paid_in_turn test (drop 1 payees)
+    players) (player ∷ paid_in_turn test payees players)
 in_turn-step test player players [] true none same rest = absurd cc
 in_turn-step test player players (payee ∷ payees) true none same rest =
     let his : payee.player ≡ player.player = cc in
@@ -126,14 +133,18 @@ put_back-in_turn test players payees apart those = by_list players payees apart 
         → put_back payees players ≡ paid_in_turn test payees players
     by_list [] payees apart same = refl
     by_list (player ∷ players) payees apart same =
-        let parts = and_parts (list_all (λ other. not (is_numbered player.player other)) players) (are_apart players) apart in
-        in_turn-step test player players payees (test player) parts.0 same (λ payees same. by_list players payees parts.1 same)
+        let parts = and_parts (list_all (λ other. not (is_numbered player.player other)) players) (are_apart players)
+        apart in
+        in_turn-step test player players payees (test player) parts.0 same
+        (λ payees same. by_list players payees parts.1 same)
 
 rest-step : (test : Seated → Bool) (player : Seated) (players : List Seated) (payees : List StartSeat) (b : Bool)
     → test player ≡ b → ((player : Seated) → test player ≡ true → player.stack ≡ 0)
     → numbers_of payees ≡ numbers_in (cond b (player ∷ filter test players) (filter test players))
-    → ((payees : List StartSeat) → numbers_of payees ≡ numbers_in (filter test players) → sum_by stack_of (paid_in_turn test payees players) ≡ sum_by stack_of players + chips_of payees)
-    → sum_by stack_of (cond b (first_paid payees player ∷ paid_in_turn test (drop 1 payees) players) (player ∷ paid_in_turn test payees players)) ≡ sum_by stack_of (player ∷ players) + chips_of payees
+    → ((payees : List StartSeat) → numbers_of payees ≡ numbers_in (filter test players)
+    → sum_by stack_of (paid_in_turn test payees players) ≡ sum_by stack_of players + chips_of payees)
+    → sum_by stack_of (cond b (first_paid payees player ∷ paid_in_turn test (drop 1 payees) players)
+    (player ∷ paid_in_turn test payees players)) ≡ sum_by stack_of (player ∷ players) + chips_of payees
 rest-step test player players [] true is nothing same rest = absurd cc
 rest-step test player players (payee ∷ payees) true is nothing same rest =
     let more : numbers_of payees ≡ numbers_in (filter test players) = cc in
@@ -151,20 +162,25 @@ rest_in_turn : (test : Seated → Bool) (players : List Seated) (payees : List S
 rest_in_turn test [] [] nothing same = refl
 rest_in_turn test [] (payee ∷ payees) nothing same = absurd cc
 rest_in_turn test (player ∷ players) payees nothing same =
-    rest-step test player players payees (test player) refl nothing same (λ payees same. rest_in_turn test players payees nothing same)
+    rest-step test player players payees (test player) refl nothing same
+    (λ payees same. rest_in_turn test players payees nothing same)
 
 -- Where the payees had nothing at rest, the stacks at rest grow by theirs.
 pub rest-put_back : (test : Seated → Bool) (players : List Seated) (payees : List StartSeat) → are_apart players ≡ true
     → ArePayees test players payees → ((player : Seated) → test player ≡ true → player.stack ≡ 0)
     → sum_by stack_of (put_back payees players) ≡ sum_by stack_of players + chips_of payees
-rest-put_back test players payees apart those nothing = rw (put_back-in_turn test players payees apart those) (rest_in_turn test players payees nothing those.numbers)
+rest-put_back test players payees apart those nothing =
+    rw (put_back-in_turn test players payees apart those) (rest_in_turn test players payees nothing those.numbers)
 
 none_lent-step : (table : ℕ) (player : Seated) (players : List Seated) (payees : List StartSeat) (b : Bool)
     → is_lent table player ≡ b → list_all (λ payee. nat_lt 0 payee.stack) payees ≡ true
     → numbers_of payees ≡ numbers_in (cond b (player ∷ filter (is_lent table) players) (filter (is_lent table) players))
-    → ((payees : List StartSeat) → list_all (λ payee. nat_lt 0 payee.stack) payees ≡ true → numbers_of payees ≡ numbers_in (filter (is_lent table) players)
+    → ((payees : List StartSeat) → list_all (λ payee. nat_lt 0 payee.stack) payees ≡ true → numbers_of payees
+    ≡ numbers_in (filter (is_lent table) players)
     → filter (is_lent table) (paid_in_turn (is_lent table) payees players) ≡ [])
-    → filter (is_lent table) (cond b (first_paid payees player ∷ paid_in_turn (is_lent table) (drop 1 payees) players) (player ∷ paid_in_turn (is_lent table) payees players)) ≡ []
+    → filter (is_lent table) (cond b
+    (first_paid payees player ∷ paid_in_turn (is_lent table) (drop 1 payees) players)
+    (player ∷ paid_in_turn (is_lent table) payees players)) ≡ []
 none_lent-step table player players [] true is above same rest = absurd cc
 none_lent-step table player players (payee ∷ payees) true is above same rest =
     let more : numbers_of payees ≡ numbers_in (filter (is_lent table) players) = cc in
@@ -182,20 +198,26 @@ none_lent-in_turn : (table : ℕ) (players : List Seated) (payees : List StartSe
     → filter (is_lent table) (paid_in_turn (is_lent table) payees players) ≡ []
 none_lent-in_turn table [] payees above same = refl
 none_lent-in_turn table (player ∷ players) payees above same =
-    none_lent-step table player players payees (is_lent table player) refl above same (λ payees above same. none_lent-in_turn table players payees above same)
+    none_lent-step table player players payees (is_lent table player) refl above same
+    (λ payees above same. none_lent-in_turn table players payees above same)
 
 -- Once stacks above 0 went back to all who had nothing at rest at a table, nobody has nothing at rest there.
 pub none_lent : (table : ℕ) (players : List Seated) (payees : List StartSeat) → are_apart players ≡ true
     → ArePayees (is_lent table) players payees → list_all (λ payee. nat_lt 0 payee.stack) payees ≡ true
     → filter (is_lent table) (put_back payees players) ≡ []
-none_lent table players payees apart those above = rw (put_back-in_turn (is_lent table) players payees apart those) (none_lent-in_turn table players payees above those.numbers)
+none_lent table players payees apart those above = rw (put_back-in_turn (is_lent table) players payees apart those)
+    (none_lent-in_turn table players payees above those.numbers)
 
 lent_elsewhere-step : (table other : ℕ) (player : Seated) (players : List Seated) (payees : List StartSeat) (b : Bool)
     → is_lent table player ≡ b → (table == other) ≡ false
-    → ((payees : List StartSeat) → filter (is_lent other) (paid_in_turn (is_lent table) payees players) ≡ filter (is_lent other) players)
-    → filter (is_lent other) (cond b (first_paid payees player ∷ paid_in_turn (is_lent table) (drop 1 payees) players) (player ∷ paid_in_turn (is_lent table) payees players)) ≡ filter (is_lent other) (player ∷ players)
+    → ((payees : List StartSeat) → filter (is_lent other) (paid_in_turn (is_lent table) payees players)
+    ≡ filter (is_lent other) players)
+    → filter (is_lent other) (cond b
+    (first_paid payees player ∷ paid_in_turn (is_lent table) (drop 1 payees) players)
+    (player ∷ paid_in_turn (is_lent table) payees players)) ≡ filter (is_lent other) (player ∷ players)
 lent_elsewhere-step table other player players payees true is differ rest =
-    let away = sits_elsewhere player.place.table table other differ (and_parts (sits_at table player) (player.stack == 0) is).0 in
+    let away = sits_elsewhere player.place.table table other differ
+    (and_parts (sits_at table player) (player.stack == 0) is).0 in
     rw (not_lent payees, not_there away player.stack) (rest (drop 1 payees))
   where
     sits_elsewhere : (sits table other : ℕ) → (table == other) ≡ false → (sits == table) ≡ true
@@ -206,21 +228,28 @@ lent_elsewhere-step table other player players payees true is differ rest =
     not_there away stack = rw away refl
 
     not_lent : (payees : List StartSeat) → is_lent other (first_paid payees player) ≡ false
-    not_lent [] = not_there (sits_elsewhere player.place.table table other differ (and_parts (sits_at table player) (player.stack == 0) is).0) player.stack
-    not_lent (payee ∷ payees) = not_there (sits_elsewhere player.place.table table other differ (and_parts (sits_at table player) (player.stack == 0) is).0) payee.stack
-lent_elsewhere-step table other player players payees false is differ rest = ap (λ (found : List Seated). cond (is_lent other player) (player ∷ found) found) (rest payees)
+    not_lent [] = not_there (sits_elsewhere player.place.table table other differ
+        (and_parts (sits_at table player) (player.stack == 0) is).0) player.stack
+    not_lent (payee ∷ payees) = not_there (sits_elsewhere player.place.table table other differ
+        (and_parts (sits_at table player) (player.stack == 0) is).0) payee.stack
+lent_elsewhere-step table other player players payees false is differ rest =
+    ap (λ (found : List Seated). cond (is_lent other player) (player ∷ found) found) (rest payees)
 
 lent_elsewhere-in_turn : (table other : ℕ) (players : List Seated) (payees : List StartSeat) → (table == other) ≡ false
     → filter (is_lent other) (paid_in_turn (is_lent table) payees players) ≡ filter (is_lent other) players
 lent_elsewhere-in_turn table other [] payees differ = refl
 lent_elsewhere-in_turn table other (player ∷ players) payees differ =
-    lent_elsewhere-step table other player players payees (is_lent table player) refl differ (λ payees. lent_elsewhere-in_turn table other players payees differ)
+    lent_elsewhere-step table other player players payees (is_lent table player) refl differ
+    (λ payees. lent_elsewhere-in_turn table other players payees differ)
 
--- Once stacks went back to those who had nothing at rest at a table, those who have nothing at another are who they were.
+-- Once stacks went back to those who had nothing at rest at a table, those who have nothing at another are who they
+-- were.
 pub lent_elsewhere : (table other : ℕ) (players : List Seated) (payees : List StartSeat) → are_apart players ≡ true
     → ArePayees (is_lent table) players payees → (table == other) ≡ false
     → filter (is_lent other) (put_back payees players) ≡ filter (is_lent other) players
-lent_elsewhere table other players payees apart those differ = rw (put_back-in_turn (is_lent table) players payees apart those) (lent_elsewhere-in_turn table other players payees differ)
+lent_elsewhere table other players payees apart those differ = rw
+    (put_back-in_turn (is_lent table) players payees apart those)
+    (lent_elsewhere-in_turn table other players payees differ)
 
 -- A test of all stacks at rest passes once stacks that pass it went back.
 pub all-put_back : (test : ℕ → Bool) (payees : List StartSeat) (players : List Seated)
@@ -233,7 +262,8 @@ all-put_back test payees (player ∷ players) whole all =
   where
     by_test : (b : Bool) (payee : StartSeat) (payees : List StartSeat) (player : Seated) → test payee.stack ≡ true
         → test (paid payees player).stack ≡ true
-        → test (option_map_or (λ payee. with_rest player payee.stack) (cond b (Some payee) (find (λ payee. payee.player == player.player) payees)) player).stack ≡ true
+        → test (option_map_or (λ payee. with_rest player payee.stack)
+        (cond b (Some payee) (find (λ payee. payee.player == player.player) payees)) player).stack ≡ true
     by_test true payee payees player his others = his
     by_test false payee payees player his others = others
 
@@ -271,7 +301,8 @@ none_later : (number : ℕ) (payees : List StartSeat)
     → list_any (has_number number) payees ≡ false
 none_later number [] differ = refl
 none_later number (payee ∷ payees) differ =
-    let parts = and_parts (not (number == payee.player)) (list_all (λ other. not (number == other)) (numbers_of payees)) differ in
+    let parts = and_parts (not (number == payee.player)) (list_all (λ other. not (number == other))
+    (numbers_of payees)) differ in
     rw (eqb-swap payee.player number, not-true (number == payee.player) parts.0) (none_later number payees parts.1)
 
 -- Payees with distinct numbers who are paid one after another are all paid.
@@ -280,5 +311,7 @@ pub paid-one_by_one : (payees : List StartSeat) (players : List Seated)
     → fold pay_one players payees ≡ put_back payees players
 paid-one_by_one [] players distinct = sym (put_back-none players)
 paid-one_by_one (payee ∷ payees) players distinct =
-    let parts = and_parts (list_all (λ other. not (payee.player == other)) (numbers_of payees)) (are_distinct (λ one other. one == other) (numbers_of payees)) distinct in
-    paid-one_by_one payees (pay_one players payee) parts.1 ∙ others_then_first payee payees players (none_later payee.player payees parts.0)
+    let parts = and_parts (list_all (λ other. not (payee.player == other)) (numbers_of payees))
+    (are_distinct (λ one other. one == other) (numbers_of payees)) distinct in
+    paid-one_by_one payees (pay_one players payee) parts.1
+    ∙ others_then_first payee payees players (none_later payee.player payees parts.0)

@@ -29,13 +29,15 @@ key_changed key change keeps stacks player = ap key (stacks.same player) ∙ kee
 pub keys_changed : {K : Type 0} (key : Seated → K) (change : Seated → Seated) → IsKey key → ChangesStacks change
     → (players : List Seated) → map key (map change players) ≡ map key players
 keys_changed key change keeps stacks [] = refl
-keys_changed key change keeps stacks (player ∷ players) = rw (key_changed key change keeps stacks player, keys_changed key change keeps stacks players) refl
+keys_changed key change keeps stacks (player ∷ players) =
+    rw (key_changed key change keeps stacks player, keys_changed key change keeps stacks players) refl
 
 -- A test that does not look at stacks passes for all of the players where it did.
 pub all_changed : (test : Seated → Bool) (change : Seated → Seated) → IsKey test → ChangesStacks change
     → (players : List Seated) → list_all test (map change players) ≡ list_all test players
 all_changed test change keeps stacks [] = refl
-all_changed test change keeps stacks (player ∷ players) = rw (key_changed test change keeps stacks player, all_changed test change keeps stacks players) refl
+all_changed test change keeps stacks (player ∷ players) =
+    rw (key_changed test change keeps stacks player, all_changed test change keeps stacks players) refl
 
 -- It passes for as many.
 pub count_changed : (test : Seated → Bool) (change : Seated → Seated) → IsKey test → ChangesStacks change
@@ -43,20 +45,24 @@ pub count_changed : (test : Seated → Bool) (change : Seated → Seated) → Is
 count_changed test change keeps stacks [] = refl
 count_changed test change keeps stacks (player ∷ players) =
     sum_by-cons (λ x. cond (test x) 1 0) (change player) (map change players)
-    ∙ (rw (key_changed test change keeps stacks player, count_changed test change keeps stacks players) (sym (sum_by-cons (λ x. cond (test x) 1 0) player players)))
+    ∙ (rw (key_changed test change keeps stacks player, count_changed test change keeps stacks players)
+    (sym (sum_by-cons (λ x. cond (test x) 1 0) player players)))
 
 -- The players sit where they sat.
 pub order_changed : (change : Seated → Seated) → ChangesStacks change → (players : List Seated)
     → are_in_order (map change players) ≡ are_in_order players
-order_changed change stacks players = ap are_rising (keys_changed (λ player. player.place) change (record { same = λ player stack. refl }) stacks players)
+order_changed change stacks players =
+    ap are_rising (keys_changed (λ player. player.place) change (record { same = λ player stack. refl }) stacks players)
 
 -- No two have one number where no two had.
 pub apart_changed : (change : Seated → Seated) → ChangesStacks change → (players : List Seated)
     → are_apart (map change players) ≡ are_apart players
 apart_changed change stacks [] = refl
 apart_changed change stacks (player ∷ players) =
-    let number = key_changed (λ (player : Seated). player.player) change (record { same = λ player stack. refl }) stacks player in
-    let others = all_changed (λ other. not (is_numbered player.player other)) change (record { same = λ player stack. refl }) stacks players in
+    let number = key_changed (λ (player : Seated). player.player) change (record { same = λ player stack. refl })
+    stacks player in
+    let others = all_changed (λ other. not (is_numbered player.player other)) change
+    (record { same = λ player stack. refl }) stacks players in
     let rest = apart_changed change stacks players in
     rw (number, others, rest) refl
 
@@ -65,11 +71,15 @@ pub entered_changed : (entries : List (List ℕ)) (players : List Seated) (chang
     → ChangesStacks change → AreEntered entries players → AreEntered entries (map change players)
 entered_changed entries players change stacks entered = record {
   few = entered.few;
-  seated = λ number. count_changed (is_numbered number) change (record { same = λ player stack. refl }) stacks players ∙ entered.seated number;
-  named = All-map (λ player. slice_get entries player.player ≡ Some player.name) change players (λ k d within. named_one (get_or players k d) (entered.named k d within));
-  apart = ap (are_distinct bytes_eq) (keys_changed (λ player. player.name) change (record { same = λ player stack. refl }) stacks players) ∙ entered.apart;
+  seated = λ number. count_changed (is_numbered number) change (record { same = λ player stack. refl }) stacks
+      players ∙ entered.seated number;
+  named = All-map (λ player. slice_get entries player.player ≡ Some player.name) change players
+      (λ k d within. named_one (get_or players k d) (entered.named k d within));
+  apart = ap (are_distinct bytes_eq) (keys_changed (λ player. player.name) change
+      (record { same = λ player stack. refl }) stacks players) ∙ entered.apart;
 }
   where
     named_one : (player : Seated) → slice_get entries player.player ≡ Some player.name
         → slice_get entries (change player).player ≡ Some (change player).name
-    named_one player named = subst (λ (p : Seated). slice_get entries p.player ≡ Some p.name) (sym (stacks.same player)) named
+    named_one player named =
+        subst (λ (p : Seated). slice_get entries p.player ≡ Some p.name) (sym (stacks.same player)) named

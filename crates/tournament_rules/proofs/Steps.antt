@@ -42,7 +42,8 @@ some_so P item so = λ found is. subst P (same_Some item found is) so
 
 -- An accepted line of a plan is not wrong.
 line_right : (wrong late : Bool) (item : PlanItem)
-    → is_accepted (unwrap_or (if wrong then Some (PlanWrong item) else if late then Some (No NotBuilt) else None) Ok) ≡ true
+    → is_accepted (unwrap_or (if wrong then Some (PlanWrong item) else if late then Some (No NotBuilt) else None) Ok)
+    ≡ true
     → wrong ≡ false
 line_right true late item accepted = cc
 line_right false late item accepted = refl

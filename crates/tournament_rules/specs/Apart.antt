@@ -67,8 +67,10 @@ abbrev pub hands_effect : Apart → Event → List (Option HandTerms)
 hands_effect apart (events.Plan line) = apart.hands
 hands_effect apart events.Go = apart.hands
 hands_effect apart (events.Enter name table seat) = apart.hands
-hands_effect apart (events.Begin table row) = slice_set apart.hands table (Some (record { start = next_start apart.book table row.cards; acts = [] }))
-hands_effect apart (events.Act table name act) = slice_set apart.hands table (option_map (λ hand. hand_after hand name act false) (hand_in apart.hands table))
+hands_effect apart (events.Begin table row) =
+    slice_set apart.hands table (Some (record { start = next_start apart.book table row.cards; acts = [] }))
+hands_effect apart (events.Act table name act) =
+    slice_set apart.hands table (option_map (λ hand. hand_after hand name act false) (hand_in apart.hands table))
 hands_effect apart (events.Settle table) = slice_set apart.hands table None
 hands_effect apart events.Stop = replicate (length apart.hands) None
 
@@ -82,4 +84,5 @@ after_apart apart event =
 -- the answer to each event of a list
 abbrev pub answers_apart : Apart → List Event → List Answer
 answers_apart apart [] = []
-answers_apart apart (event ∷ events) = answered (refusal_apart apart event) ∷ answers_apart (after_apart apart event) events
+answers_apart apart (event ∷ events) = answered (refusal_apart apart event)
+    ∷ answers_apart (after_apart apart event) events

@@ -71,7 +71,8 @@ room_checks entries = (ListFull, is_full entries) ∷ []
 
 -- all checks of an entry before that of the list's room
 abbrev pub enter_checks : BookState → List ℕ → ℕ → ℕ → List Check
-enter_checks book name table seat = going_checks book ++ newcomer_checks book name ++ seat_checks book table seat ++ entry_checks book
+enter_checks book name table seat = going_checks book ++ newcomer_checks book name ++ seat_checks book table seat
+    ++ entry_checks book
 
 -- a hand may begin at that table
 abbrev pub table_checks : BookState → ℕ → List Check

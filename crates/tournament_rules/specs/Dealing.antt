@@ -11,7 +11,8 @@ use Rattle.tournament_rules.specs.Players.{dealt_seats}
 
 -- the marks of the next hand at a table, and who waits
 abbrev pub next_at : BookState → ℕ → NextMarks
-next_at book table = marks_after (status_at book.seating.tables table).marks (taken_seats book.seating.players table) book.plan.seats
+next_at book table =
+    marks_after (status_at book.seating.tables table).marks (taken_seats book.seating.players table) book.plan.seats
 
 -- The start of the next hand at a table: the next serial, the marks, the players who are dealt in, and the current
 -- level's blinds and unit.

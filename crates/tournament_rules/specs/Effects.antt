@@ -24,7 +24,8 @@ first_status plan = record fresh_status { unit = unit_of_level plan.blinds 1 }
 
 -- nobody sits at the tables of a plan
 abbrev pub first_seating : PlanTerms → Seating
-first_seating plan = record (empty_seating plan.tables plan.seats) { tables = replicate plan.tables (first_status plan) }
+first_seating plan =
+    record (empty_seating plan.tables plan.seats) { tables = replicate plan.tables (first_status plan) }
 
 -- the book before any entry
 abbrev pub first_book : PlanTerms → BookState
@@ -66,7 +67,8 @@ at_rest status = record status { playing = false }
 
 -- who sits where and how the tables stand, with another status of a table
 abbrev pub with_table : Seating → ℕ → (TableStatus → TableStatus) → Seating
-with_table seating table change = record seating { tables = with_status seating.tables table (change (status_at seating.tables table)) }
+with_table seating table change =
+    record seating { tables = with_status seating.tables table (change (status_at seating.tables table)) }
 
 -- the book once a hand has begun: the chips of those who are dealt in are in the hand, and its start is out
 abbrev pub begun_book : BookState → ℕ → List Card → BookState

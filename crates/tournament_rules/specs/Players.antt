@@ -23,7 +23,12 @@ is_dealt_in table waiting player = sits_at table player && not (has_seat waiting
 
 -- a player as he starts a hand, with his stack
 abbrev pub start_seat : Seated → StartSeat
-start_seat player = record { seat = player.place.seat; player = player.player; name = player.name; stack = player.stack }
+start_seat player = record {
+  seat = player.place.seat;
+  player = player.player;
+  name = player.name;
+  stack = player.stack;
+}
 
 -- the players who are dealt in, in rising seat
 abbrev pub dealt_seats : ℕ → List Bool → List Seated → List StartSeat
@@ -40,7 +45,8 @@ dealt_in table waiting players =
 
 -- a player once stacks went back: the stack that is named for his number, if one is, else the one that he has
 abbrev pub paid : List StartSeat → Seated → Seated
-paid payees player = option_map_or (λ payee. with_rest player payee.stack) (find (λ payee. payee.player == player.player) payees) player
+paid payees player =
+    option_map_or (λ payee. with_rest player payee.stack) (find (λ payee. payee.player == player.player) payees) player
 
 -- stacks go back to those to whom they belong, by their numbers; all others stay as they are
 abbrev pub put_back : List StartSeat → List Seated → List Seated
@@ -48,4 +54,5 @@ put_back payees players = map (paid payees) players
 
 -- one stack goes back to the player to whom it belongs, by his number
 abbrev pub pay_one : List Seated → StartSeat → List Seated
-pay_one players payee = map (λ player. if is_numbered payee.player player then with_rest player payee.stack else player) players
+pay_one players payee =
+    map (λ player. if is_numbered payee.player player then with_rest player payee.stack else player) players

@@ -5,6 +5,7 @@ use Rattle.rulebook.specs.Checks.{first_that_holds}
 use Rattle.floor_text.specs.declared.refusal.Refusal.{Refusal}
 use Rattle.floor_text.specs.declared.refusal.Refusal.TheVariants.{NoPlan, NotBuilt}
 use Rattle.card_set.specs.declared.game.Game.TheVariants.{Holdem, Omaha, Hilo}
+use Rattle.level_plan.specs.declared.bounds.TheConstants.{MOST_TABLES}
 use Rattle.level_plan.specs.declared.line.PlanLine.{PlanLine}
 use Rattle.level_plan.specs.declared.line.PlanLine.TheVariants as lines
 use Rattle.level_plan.specs.Items.{is_between}
@@ -53,7 +54,8 @@ acts_at acts table = slice_index_or acts table []
 
 -- the hand that is out at a table, if one is: its start, and its acts
 abbrev pub hand_at : PlayState → ℕ → Option HandTerms
-hand_at play table = option_map (λ start. record { start = start; acts = acts_at play.acts table }) (start_at play.book.out table)
+hand_at play table =
+    option_map (λ start. record { start = start; acts = acts_at play.acts table }) (start_at play.book.out table)
 
 -- the hand that an event is about, if there is one
 abbrev pub hand_of : PlayState → Event → Option HandTerms
@@ -68,14 +70,15 @@ hand_of play events.Stop = None
 -- why an event is refused once there is a plan, if it is: the checks of the book come first, and then those of the hand
 unfoldable pub refusal_of : PlayState → Event → Option Refusal
 refusal_of play event =
-    first_that_holds (book_checks play.book event ++ option_map_or (λ hand. hand_checks hand event) (hand_of play event) [])
+    first_that_holds
+    (book_checks play.book event ++ option_map_or (λ hand. hand_checks hand event) (hand_of play event) [])
 
 -- games other than hold'em and more tables than one are not carried out yet
 abbrev pub is_not_built : PlanLine → Bool
 is_not_built (lines.Game Holdem) = false
 is_not_built (lines.Game Omaha) = true
 is_not_built (lines.Game Hilo) = true
-is_not_built (lines.Tables n) = is_between 2 64 n
+is_not_built (lines.Tables n) = is_between 2 MOST_TABLES n
 is_not_built (lines.Seats n) = false
 is_not_built (lines.Stack n) = false
 is_not_built (lines.Buyin n) = false
@@ -106,7 +109,8 @@ answered (Some refusal) = No refusal
 
 -- what an event is answered
 abbrev pub answer_to : State → Event → Answer
-answer_to state event = option_map_or (λ play. answered (refusal_of play event)) state.play (planning_answer state.draft event)
+answer_to state event =
+    option_map_or (λ play. answered (refusal_of play event)) state.play (planning_answer state.draft event)
 
 -- what an accepted event makes of the acts
 abbrev pub acts_effect : List (List ActOf) → Event → List (List ActOf)
@@ -114,13 +118,15 @@ acts_effect acts (events.Plan line) = acts
 acts_effect acts events.Go = acts
 acts_effect acts (events.Enter name table seat) = acts
 acts_effect acts (events.Begin table row) = slice_set acts table []
-acts_effect acts (events.Act table name act) = slice_set acts table (acts_at acts table ++ (record { name = name; act = act; by_time = false }) ∷ [])
+acts_effect acts (events.Act table name act) =
+    slice_set acts table (acts_at acts table ++ (record { name = name; act = act; by_time = false }) ∷ [])
 acts_effect acts (events.Settle table) = slice_set acts table []
 acts_effect acts events.Stop = replicate (length acts) []
 
 -- what an accepted event makes of a tournament whose plan is whole
 abbrev pub play_effect : PlayState → Event → PlayState
-play_effect play event = record { book = book_effect play.book (hand_of play event) event; acts = acts_effect play.acts event }
+play_effect play event =
+    record { book = book_effect play.book (hand_of play event) event; acts = acts_effect play.acts event }
 
 -- what an accepted event makes of a plan's draft, and of the tournament at `go`
 abbrev pub planning_effect : State → Event → State
@@ -134,7 +140,8 @@ planning_effect state events.Stop = state
 
 -- what an accepted event makes of the state, but for the count of accepted events
 abbrev pub effect : State → Event → State
-effect state event = option_map_or (λ play. record state { play = Some (play_effect play event) }) state.play (planning_effect state event)
+effect state event = option_map_or (λ play. record state { play = Some (play_effect play event) }) state.play
+    (planning_effect state event)
 
 -- whether an answer accepts its event
 abbrev pub is_accepted : Answer → Bool
@@ -166,7 +173,8 @@ play_after play event = if is_none (refusal_of play event) then play_effect play
 -- the answer to each event of a list, once the plan is whole
 abbrev pub answers_in_play : PlayState → List Event → List Answer
 answers_in_play play [] = []
-answers_in_play play (event ∷ events) = answered (refusal_of play event) ∷ answers_in_play (play_after play event) events
+answers_in_play play (event ∷ events) = answered (refusal_of play event)
+    ∷ answers_in_play (play_after play event) events
 
 -- the answer to each event of a list
 abbrev pub answers : State → List Event → List Answer

@@ -7,6 +7,7 @@ use Rattle.rulebook.specs.Pairs.{are_distinct}
 use Rattle.level_plan.specs.Items.{is_between}
 use Rattle.level_plan.specs.Plans.{PlanTerms, is_right, unit_of_level}
 use Rattle.level_plan.specs.Drafts.{IsLawful}
+use Rattle.entry_list.specs.declared.entries.TheConstants.{MOST_ENTRIES}
 use Rattle.seat_book.specs.declared.seated.Seated.{Seated}
 use Rattle.seat_book.specs.Players.{sits_at, is_numbered}
 use Rattle.seat_book.specs.Tables.{status_at}
@@ -33,7 +34,7 @@ seats_owed entries number = if nat_lt number (length entries) then 1 else 0
 -- The entries and the players who sit agree.
 pub record AreEntered (entries : List (List ℕ)) (players : List Seated) : Type 0 where
   -- the entry list is not overfull
-  pub few : length entries ≤ 640
+  pub few : length entries ≤ MOST_ENTRIES
   -- each entered player has exactly one seat, and nobody else has one
   pub seated : (number : ℕ) → count_by (is_numbered number) players ≡ seats_owed entries number
   -- everyone sits under the name with which they entered
@@ -59,7 +60,8 @@ is_lent table player = sits_at table player && player.stack == 0
 abbrev pub without_stack : StartSeat → StartSeat
 without_stack player = record player { stack = 0 }
 
--- What is so of a start that is out at a table: it is that table's, lawful, and of the plan's seats and the level's unit.
+-- What is so of a start that is out at a table: it is that table's, lawful, and of the plan's seats and the level's
+-- unit.
 pub record IsStartAt (plan : PlanTerms) (level table : ℕ) (start : HandStart) : Type 0 where
   pub here : start.table ≡ table
   pub lawful : IsLawfulStart start
@@ -70,14 +72,17 @@ pub record IsStartAt (plan : PlanTerms) (level table : ℕ) (start : HandStart) 
 pub record AreOut (plan : PlanTerms) (level : ℕ) (players : List Seated) (out : List (Option HandStart)) : Type 0 where
   pub starts : (table : ℕ) → ForSome (start_at out table) (IsStartAt plan level table)
   -- those who have nothing at rest are, in number, name and seat, the players of the start that is out at their table
-  pub lent : (table : ℕ) → map start_seat (filter (is_lent table) players) ≡ map without_stack (players_out (start_at out table))
+  pub lent : (table : ℕ) → map start_seat (filter (is_lent table) players)
+      ≡ map without_stack (players_out (start_at out table))
 
 -- Chips are neither made nor lost, and every stack at rest is a multiple of the unit.
 pub record AreChips (book : BookState) : Type 0 where
   pub kept : sold_by book ≡ rest_in book + play_of book
-  pub whole : list_all (λ player. player.stack % unit_of_level book.plan.blinds book.level == 0) book.seating.players ≡ true
+  pub whole : list_all (λ player. player.stack % unit_of_level book.plan.blinds book.level == 0) book.seating.players
+      ≡ true
   -- the tables' unit is that of the level
-  pub units : (table : ℕ) → is_between 1 book.plan.tables table ≡ true → (status_at book.seating.tables table).unit ≡ unit_of_level book.plan.blinds book.level
+  pub units : (table : ℕ) → is_between 1 book.plan.tables table ≡ true → (status_at book.seating.tables table).unit
+      ≡ unit_of_level book.plan.blinds book.level
 
 -- What holds of a book at every moment.
 pub record IsValid (book : BookState) : Type 0 where

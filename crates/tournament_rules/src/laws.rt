@@ -70,7 +70,8 @@ pub fn hands_are_lawful_plays()
 /// After any list of events, a hand that begins starts lawfully.
 pub fn starts_are_lawful()
     ensures { (events : List Event) (table : ℕ) (row : CardRow) → ForSome (run first_state events).play (λ play.
-        answer_to (run first_state events) (Begin table row) ≡ Ok → IsLawfulStart (next_start play.book table row.cards)) }
+        answer_to (run first_state events) (Begin table row) ≡ Ok
+        → IsLawfulStart (next_start play.book table row.cards)) }
 {}
 
 /// A book and the hands that are out, each by itself, run over any list of events, answer as the tournament does: as

@@ -6,10 +6,13 @@ use Rattle.floor_core.proofs.InSlots.{passes_at, dealt_more}
 use Rattle.floor_core.proofs.begin.dealt_seats.Goals as goal
 
 pub push_dealt-requires : goal.push_dealt-requires
-push_dealt-requires c = passes_at has_lawful_seat c.args.slots.now c.loop-slot.slot-index c.slot-item.result c.requires c.loop-slot-test.true c.slot-item.is
+push_dealt-requires c = passes_at has_lawful_seat c.args.slots.now c.loop-slot.slot-index c.slot-item.result
+    c.requires c.loop-slot-test.true c.slot-item.is
 
 pub loop-slot-preserved : goal.loop-slot-preserved
 loop-slot-preserved c =
     c.in_ok-push_dealt.ensures
-    ∙ (ap (λ (seats : List StartSeat). seats ++ dealt_of c.args.waiting (players_in (c.slot-item.result ∷ []))) c.loop-slot.invariant
-    ∙ sym (dealt_more c.args.waiting c.args.slots.now c.loop-slot.slot-index c.slot-item.result c.loop-slot-test.true c.slot-item.is))
+    ∙ (ap (λ (seats : List StartSeat). seats ++ dealt_of c.args.waiting (players_in (c.slot-item.result ∷ [])))
+    c.loop-slot.invariant
+    ∙ sym (dealt_more c.args.waiting c.args.slots.now c.loop-slot.slot-index c.slot-item.result c.loop-slot-test.true
+    c.slot-item.is))

@@ -7,5 +7,6 @@ use Rattle.floor_core.proofs.report.play_of.Goals as goal
 
 pub overflow_add-chips : goal.overflow_add-chips
 overflow_add-chips c =
-    let here = sum_by_more_le (λ start. chips_of (players_out start)) c.args.out.now c.loop-start.start-index None c.loop-start-test.true in
+    let here = sum_by_more_le (λ start. chips_of (players_out start)) c.args.out.now c.loop-start.start-index None
+    c.loop-start-test.true in
     grind (arith, common_steps, here)

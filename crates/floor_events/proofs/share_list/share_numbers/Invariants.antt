@@ -5,7 +5,8 @@ use Rattle.floor_events.proofs.Shares.{with_front}
 use Rattle.floor_events.proofs.share_list.share_numbers.Given as goal
 
 abbrev pub invariant-loop-word : goal.invariant-loop-word
-invariant-loop-word l = (l.count ≤ MOST_SHARES) × (length l.shares ≡ MOST_SHARES) × (with_front (take l.count l.shares) (numbers_of l.line) ≡ numbers_of l.fn.line)
+invariant-loop-word l = (l.count ≤ MOST_SHARES) × (length l.shares ≡ MOST_SHARES)
+    × (with_front (take l.count l.shares) (numbers_of l.line) ≡ numbers_of l.fn.line)
 
 abbrev pub decreases-loop-word : goal.decreases-loop-word
 decreases-loop-word l = length l.line

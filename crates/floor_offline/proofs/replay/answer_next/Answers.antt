@@ -12,7 +12,8 @@ use Rattle.floor_offline.proofs.replay.answer_next.Goals.{in-TooLong, in-Line+in
 pub returns-in-End-clause-keeps : goal.returns-in-End-clause-keeps
 returns-in-End-clause-keeps g c =
     keeps_lines c.args.tournament.now c.args.tournament.now c.args.reader.now c.next_line.new.self
-    (g.I.Source.left c.args.input.now) (g.I.Source.left c.next_line.new.source) (g.O.Sink.written c.args.out.now) (g.O.Sink.written c.args.out.now)
+    (g.I.Source.left c.args.input.now) (g.I.Source.left c.next_line.new.source) (g.O.Sink.written c.args.out.now)
+    (g.O.Sink.written c.args.out.now)
     [] []
     (rw c.in-End.is at c.in_ok-next_line.ensures.reads)
     (says_nothing (g.O.Sink.written c.args.out.now))
@@ -23,7 +24,8 @@ returns-clause-keeps g c = elim c.match-branch-2.branch [
   | in-TooLong w ↦
       rw w.tournament-is
       (keeps_lines c.args.tournament.now c.args.tournament.now c.args.reader.now c.next_line.new.self
-      (g.I.Source.left c.args.input.now) (g.I.Source.left c.next_line.new.source) (g.O.Sink.written c.args.out.now) (g.O.Sink.written c.put_answer.new.out)
+      (g.I.Source.left c.args.input.now) (g.I.Source.left c.next_line.new.source) (g.O.Sink.written c.args.out.now)
+      (g.O.Sink.written c.put_answer.new.out)
       (None ∷ []) (answer_text (No Syntax))
       (rw w.in-TooLong.is at c.in_ok-next_line.ensures.reads)
       (rw w.answer-is at c.in_ok-put_answer.ensures.ok)
@@ -31,12 +33,16 @@ returns-clause-keeps g c = elim c.match-branch-2.branch [
   | in-Line+in_ok-answer-in-Line w ↦
       let line = c.next_line.new.self.line in
       let answer : c.match-branch-2.answer ≡ answer_to_item c.args.tournament.now (item_of_bytes line) =
-      w.answer-is ∙ w.in_ok-answer-in-Line.ensures.answer ∙ ap (λ bytes. answer_to_item c.args.tournament.now (item_of_bytes bytes)) w.line.ensures in
+      w.answer-is ∙ w.in_ok-answer-in-Line.ensures.answer
+      ∙ ap (λ bytes. answer_to_item c.args.tournament.now (item_of_bytes bytes)) w.line.ensures in
       let state : c.match-branch-2.tournament ≡ state_after_item c.args.tournament.now (item_of_bytes line) =
-      w.tournament-is ∙ w.in_ok-answer-in-Line.ensures.state ∙ ap (λ bytes. state_after_item c.args.tournament.now (item_of_bytes bytes)) w.line.ensures in
+      w.tournament-is ∙ w.in_ok-answer-in-Line.ensures.state
+      ∙ ap (λ bytes. state_after_item c.args.tournament.now (item_of_bytes bytes)) w.line.ensures in
       rw state
-      (keeps_lines c.args.tournament.now (state_after_item c.args.tournament.now (item_of_bytes line)) c.args.reader.now c.next_line.new.self
-      (g.I.Source.left c.args.input.now) (g.I.Source.left c.next_line.new.source) (g.O.Sink.written c.args.out.now) (g.O.Sink.written c.put_answer.new.out)
+      (keeps_lines c.args.tournament.now (state_after_item c.args.tournament.now (item_of_bytes line))
+      c.args.reader.now c.next_line.new.self
+      (g.I.Source.left c.args.input.now) (g.I.Source.left c.next_line.new.source) (g.O.Sink.written c.args.out.now)
+      (g.O.Sink.written c.put_answer.new.out)
       (Some line ∷ []) (answer_text (answer_to_item c.args.tournament.now (item_of_bytes line)))
       (rw w.in-Line.is at c.in_ok-next_line.ensures.reads)
       (rw answer at c.in_ok-put_answer.ensures.ok)

@@ -11,9 +11,11 @@ one_of (y ∷ z ∷ more) x one first = absurd (omega arith)
 
 pub returns-in-len1 : goal.returns-in-len1
 returns-in-len1 c =
-    let words : c.args.words.now ≡ c.word-item.result ∷ [] = one_of c.args.words.now c.word-item.result (omega arith) c.word-item.is in
+    let words : c.args.words.now ≡ c.word-item.result
+    ∷ [] = one_of c.args.words.now c.word-item.result (omega arith) c.word-item.is in
     let decides = bytes_eq-Decides c.as_str.result.now (codes "replay") in
     rw words (
       (λ equal. ap (λ word. word ∷ []) (sym c.as_str.ensures.value ∙ decides.0 (sym c.eq.ensures ∙ equal))),
-      (λ same. let word : string_bytes c.word-item.result ≡ codes "replay" = cc in c.eq.ensures ∙ decides.1 (c.as_str.ensures.value ∙ word)),
+      (λ same. let word : string_bytes c.word-item.result ≡ codes "replay" = cc in c.eq.ensures
+          ∙ decides.1 (c.as_str.ensures.value ∙ word)),
     )

@@ -4,4 +4,5 @@ use Rattle.tournament_rules.specs.States.{first_state, run}
 use Rattle.tournament_rules.proofs.laws.starts_are_lawful.Goals as goal
 
 pub returns : goal.returns
-returns c = λ events table row play is accepted. start_lawful (run first_state events) play table row is ((valid_events events).play play is) accepted
+returns c = λ events table row play is accepted. start_lawful (run first_state events) play table row is
+    ((valid_events events).play play is) accepted

@@ -16,19 +16,28 @@ pub invariant_of-self : goal.invariant_of-self
 invariant_of-self c =
     let book = book_of c.self.inside in
     let hand = hand_of c.args.done.now in
-    let payees : with_stacks c.items.result.now c.items-2.result.now ≡ players_after hand = rw (c.items.ensures, c.items-2.ensures) (players-of_record c.args.done.now c.requires.play) in
+    let payees : with_stacks c.items.result.now c.items-2.result.now
+    ≡ players_after hand =
+    rw (c.items.ensures, c.items-2.ensures) (players-of_record c.args.done.now c.requires.play) in
     let none : Option HandStart = None in
     let out = ap (λ (index : ℕ). slice_set c.self.inside.out.items index none) c.from.ensures in
-    let state = settled_state book hand (with_stacks c.items.result.now c.items-2.result.now) c.pay_stacks.new.seats c.rest_table.new.seats (slice_set c.self.inside.out.items c.from.result None) payees c.pay_stacks.ensures.paid c.rest_table.ensures out in
-    let is : start_at book.out hand.start.table ≡ Some hand.start = ap (λ (book : BookState). start_at book.out hand.start.table) c.self.view_is ∙ c.requires.out in
+    let state = settled_state book hand (with_stacks c.items.result.now c.items-2.result.now) c.pay_stacks.new.seats
+    c.rest_table.new.seats (slice_set c.self.inside.out.items c.from.result None) payees
+    c.pay_stacks.ensures.paid c.rest_table.ensures out in
+    let is : start_at book.out hand.start.table ≡ Some hand.start =
+    ap (λ (book : BookState). start_at book.out hand.start.table) c.self.view_is ∙ c.requires.out in
     subst IsValid (sym state) (valid_settled book hand c.self.invariant is c.requires.play.play c.requires.play.won)
 
 pub returns : goal.returns
 returns c =
     let book = book_of c.self.inside in
     let hand = hand_of c.args.done.now in
-    let payees : with_stacks c.items.result.now c.items-2.result.now ≡ players_after hand = rw (c.items.ensures, c.items-2.ensures) (players-of_record c.args.done.now c.requires.play) in
+    let payees : with_stacks c.items.result.now c.items-2.result.now
+    ≡ players_after hand =
+    rw (c.items.ensures, c.items-2.ensures) (players-of_record c.args.done.now c.requires.play) in
     let none : Option HandStart = None in
     let out = ap (λ (index : ℕ). slice_set c.self.inside.out.items index none) c.from.ensures in
-    let state = settled_state book hand (with_stacks c.items.result.now c.items-2.result.now) c.pay_stacks.new.seats c.rest_table.new.seats (slice_set c.self.inside.out.items c.from.result None) payees c.pay_stacks.ensures.paid c.rest_table.ensures out in
+    let state = settled_state book hand (with_stacks c.items.result.now c.items-2.result.now) c.pay_stacks.new.seats
+    c.rest_table.new.seats (slice_set c.self.inside.out.items c.from.result None) payees
+    c.pay_stacks.ensures.paid c.rest_table.ensures out in
     state ∙ ap (λ (book : BookState). settled book hand) c.self.view_is

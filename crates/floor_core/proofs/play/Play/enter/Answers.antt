@@ -11,4 +11,5 @@ returns-clause-answer c =
     let event = Enter c.args.name c.args.table c.args.seat in
     let alone = by_book_alone book c.self.inside.hands.items event c.self.invariant refl in
     let same = sym (ap (λ (play : PlayState). refusal_of play event) c.self.view_is) ∙ alone in
-    answer_of_same (book_refusal book event) (refusal_of c.args.self.now event) c.carry_out.result same c.carry_out.ensures.answer
+    answer_of_same (book_refusal book event) (refusal_of c.args.self.now event) c.carry_out.result same
+    c.carry_out.ensures.answer

@@ -15,7 +15,8 @@ use Rattle.floor_core.proofs.Parts.{by_hand, settle_refusal}
 use Rattle.floor_core.proofs.play.Play.settle.Goals as goal
 
 -- Where a hand is out, it refuses its settle by what its checks found.
-refused_end : (hand : Option HandTerms) (table : ℕ) (found : Refusal) → is_some (start_of hand) ≡ true → ((played : HandTerms) → hand ≡ Some played → first_that_holds (end_checks played) ≡ Some found)
+refused_end : (hand : Option HandTerms) (table : ℕ) (found : Refusal) → is_some (start_of hand) ≡ true
+    → ((played : HandTerms) → hand ≡ Some played → first_that_holds (end_checks played) ≡ Some found)
     → option_and_then (hand_refusal (Settle table)) hand ≡ Some found
 refused_end None table found there checked = absurd cc
 refused_end (Some hand) table found there checked = checked hand refl
@@ -25,10 +26,17 @@ returns-in_err-check_end-clause-answer c =
     let book = c.self.inside.book in
     let hands = c.self.inside.hands.items in
     let event = Settle c.args.table in
-    let hand = by_hand book hands event c.self.invariant (settle_refusal book c.args.table ∙ c.in_ok-table.ensures.checked) in
+    let hand = by_hand book hands event c.self.invariant (settle_refusal book c.args.table ∙
+    c.in_ok-table.ensures.checked) in
     let same = sym (ap (λ (play : PlayState). refusal_of play event) c.self.view_is) ∙ hand in
     let found = c.in_err-check_end.field-0.0 in
-    let there : is_some (start_of (hand_in hands c.args.table)) ≡ true = sym (ap is_some (start_read book hands c.args.table c.self.invariant)) ∙ (sym (ap (λ (number : ℕ). is_some (start_at book.out number)) c.in_ok-table.ensures.same) ∙ c.in_ok-table.ensures.out) in
-    let at_index : hand_in c.deref.result.now c.from-index.result ≡ hand_in hands c.args.table = cc (c.deref.ensures.value, c.from-index.ensures, c.in_ok-table.ensures.same) in
-    let refused = refused_end (hand_in hands c.args.table) c.args.table found there (λ played is. c.in_err-check_end.ensures.checked played (at_index ∙ is)) in
-    answered_no (refusal_of c.args.self.now event) found c.from_residual-in_err-check_end.result (same ∙ refused) c.from_residual-in_err-check_end.ensures.0 c.from_residual-in_err-check_end.ensures.1
+    let there : is_some (start_of (hand_in hands c.args.table))
+    ≡ true = sym (ap is_some (start_read book hands c.args.table c.self.invariant))
+    ∙ (sym (ap (λ (number : ℕ). is_some (start_at book.out number)) c.in_ok-table.ensures.same)
+    ∙ c.in_ok-table.ensures.out) in
+    let at_index : hand_in c.deref.result.now c.from-index.result
+    ≡ hand_in hands c.args.table = cc (c.deref.ensures.value, c.from-index.ensures, c.in_ok-table.ensures.same) in
+    let refused = refused_end (hand_in hands c.args.table) c.args.table found there
+    (λ played is. c.in_err-check_end.ensures.checked played (at_index ∙ is)) in
+    answered_no (refusal_of c.args.self.now event) found c.from_residual-in_err-check_end.result (same ∙ refused)
+    c.from_residual-in_err-check_end.ensures.0 c.from_residual-in_err-check_end.ensures.1

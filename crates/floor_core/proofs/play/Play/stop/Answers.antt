@@ -15,12 +15,14 @@ returns-in_err-carry_out-clause-answer c =
     let alone = by_book_alone book c.self.inside.hands.items Stop c.self.invariant refl in
     let same = sym (ap (λ (play : PlayState). refusal_of play Stop) c.self.view_is) ∙ alone in
     answer_of_same (book_refusal book Stop) (refusal_of c.args.self.now Stop) c.from_residual.result same
-    (answered_on Unit (book_refusal book Stop) c.in_err-carry_out.field-0.0 c.from_residual.result c.in_err-carry_out.ensures.answer c.from_residual.ensures.0 c.from_residual.ensures.1)
+    (answered_on Unit (book_refusal book Stop) c.in_err-carry_out.field-0.0 c.from_residual.result
+    c.in_err-carry_out.ensures.answer c.from_residual.ensures.0 c.from_residual.ensures.1)
 
 pub invariant_of-self-2 : goal.invariant_of-self-2
 invariant_of-self-2 c =
     let none = stopped_hands c.self.inside.book c.self.inside.hands.items c.seats.ensures.lawful c.self.invariant in
-    ap (map start_of) c.clear.ensures ∙ (none ∙ sym (ap (λ (book : BookState). book.out) c.in_ok-carry_out.ensures.state))
+    ap (map start_of) c.clear.ensures ∙ (none ∙ sym
+    (ap (λ (book : BookState). book.out) c.in_ok-carry_out.ensures.state))
 
 pub returns-clause-answer : goal.returns-clause-answer
 returns-clause-answer c =

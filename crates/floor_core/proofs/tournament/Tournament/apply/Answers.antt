@@ -16,9 +16,11 @@ use Rattle.tournament_rules.proofs.Steps.{accepted_none}
 use Rattle.floor_core.proofs.tournament.Tournament.apply.Goals as goal
 
 -- A begin that is accepted starts its hand lawfully, since the book is lawful.
-starts_lawfully : (state : State) (event : Event) (table : ℕ) (row : CardRow) (result : Result Answer AllocError) → event ≡ Begin table row → ForSome state.play (λ play. IsValid play.book)
+starts_lawfully : (state : State) (event : Event) (table : ℕ) (row : CardRow) (result : Result Answer AllocError)
+    → event ≡ Begin table row → ForSome state.play (λ play. IsValid play.book)
     → IfOk result (λ answer. answer ≡ answer_to state event)
-    → IfOk result (λ answer. answer ≡ answers.Ok → ForSome state.play (λ play. IsLawfulStart (next_start play.book table row.cards)))
+    → IfOk result (λ answer. answer ≡ answers.Ok → ForSome state.play
+    (λ play. IsLawfulStart (next_start play.book table row.cards)))
 starts_lawfully state event table row (Err error) same valid is = tt
 starts_lawfully state event table row (Ok answer) same valid is = λ accepted play playing.
     let given : answer_to state (Begin table row) ≡ answers.Ok = sym (is ∙ ap (answer_to state) same) ∙ accepted in
@@ -27,4 +29,5 @@ starts_lawfully state event table row (Ok answer) same valid is = λ accepted pl
     (passed-parts play (Begin table row) (accepted_none (refusal_of play (Begin table row)) (ap is_accepted none))).0
 
 pub returns-then-is_some-clause-start : goal.returns-then-is_some-clause-start
-returns-then-is_some-clause-start c = λ table row is. starts_lawfully c.args.self.now c.args.event.now table row c.play.result is c.play.ensures.valid c.play.ensures.answer
+returns-then-is_some-clause-start c = λ table row is. starts_lawfully c.args.self.now c.args.event.now table row
+    c.play.result is c.play.ensures.valid c.play.ensures.answer
