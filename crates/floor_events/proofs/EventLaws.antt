@@ -52,7 +52,8 @@ own_rows =
     (λ a b c p q r. record { spelling = refl; parts = (p, q, r) }) ▸
     row2 (codes "begin") number_field row_field events.Begin (λ a b p q. record { spelling = refl; parts = p }) ▸
     row2_rest (codes "act") number_field name_field act_rest events.Act
-    (λ a b c p q r. record { spelling = refl; parts = (q, p) }) ▸
+    (λ a b c p q r. record { spelling = refl; parts = (q, p, r) }) ▸
+    row1 (codes "time") number_field events.Time (λ a p. record { spelling = refl; parts = p }) ▸
     row1 (codes "settle") number_field events.Settle (λ a p. record { spelling = refl; parts = p }) ▸
     row0 (codes "stop") events.Stop (record { spelling = refl; parts = tt }) ▸
     tt
@@ -74,7 +75,8 @@ again (events.Enter name table seat) parts =
     fields3_again name_field number_field number_field events.Enter name table seat parts.0 parts.1 parts.2
 again (events.Begin table row) parts = fields2_again number_field row_field events.Begin table row parts tt
 again (events.Act table name act) parts =
-    rest2_again number_field name_field act_rest events.Act table name act parts.1 parts.0 tt
+    rest2_again number_field name_field act_rest events.Act table name act parts.1 parts.0 parts.2
+again (events.Time table) parts = fields1_again number_field events.Time table parts
 again (events.Settle table) parts = fields1_again number_field events.Settle table parts
 again events.Stop parts = fields0_again events.Stop
 
@@ -99,17 +101,16 @@ words_of_text (events.Plan (lines.Shares shares)) parts =
     words_again (codes "shares") _ (shares_rest.spaceless shares parts)
 words_of_text events.Go parts = words_again (codes "go") [] refl
 words_of_text (events.Enter name table seat) parts =
-    words_again (codes "enter") _ (rw (
-      name_field.spaceless name parts.0,
-      number_field.spaceless table parts.1,
-      number_field.spaceless seat
-          parts.2,
-    ) refl)
+    words_again (codes "enter") _ (rw
+    (name_field.spaceless name parts.0, number_field.spaceless table parts.1, number_field.spaceless seat parts.2)
+    refl)
 words_of_text (events.Begin table row) parts =
     words_again (codes "begin") _ (rw (number_field.spaceless table parts, row_field.spaceless row tt) refl)
 words_of_text (events.Act table name act) parts =
     words_again (codes "act") _ (rw
-    (number_field.spaceless table parts.1, name_field.spaceless name parts.0, act_rest.spaceless act tt) refl)
+    (number_field.spaceless table parts.1, name_field.spaceless name parts.0, act_rest.spaceless act parts.2) refl)
+words_of_text (events.Time table) parts =
+    words_again (codes "time") _ (rw (number_field.spaceless table parts) refl)
 words_of_text (events.Settle table) parts =
     words_again (codes "settle") _ (rw (number_field.spaceless table parts) refl)
 words_of_text events.Stop parts = words_again (codes "stop") [] refl

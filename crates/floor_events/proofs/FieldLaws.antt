@@ -1,6 +1,5 @@
 -- A field that is read is spelled so, and a field that is spelled so is read.
 use Rattle.std.proofs.Common.{◌≡◌, ℕ, ◌≤◌, Bool, true, false, ◌&&◌, cond, leb, List, [], ◌∷◌, map, length, Option, Some, None, option_map, IsTrue, refl, sym, ap, ◌∙◌, subst, arith}
-use Rattle.std.specs.Prelude.{codes}
 use Rattle.std.specs.Fmt.{decimal}
 use Rattle.std.specs.List.{list_all, AllByRecursion}
 use Rattle.std.specs.Str.{bytes_eq}
@@ -17,9 +16,9 @@ use Rattle.card_set.specs.Cards.{row_text, row_of}
 use Rattle.card_set.proofs.RowReading.{row_found, row_again}
 use Rattle.level_plan.specs.declared.bounds.TheConstants.{MOST_SHARES}
 use Rattle.betting_round.specs.declared.act.Act.{Act}
-use Rattle.betting_round.specs.declared.act.Act.TheVariants.{Fold}
-use Rattle.floor_events.specs.Spelling.{game_word, act_words, AreLineShares}
-use Rattle.floor_events.specs.Fields.{◌>>=◌, meaning, game_list, game_of, act_list, act_of, name_of, numbers_of, shares_of, next_by}
+use Rattle.betting_round.specs.declared.act.Act.TheVariants.{Fold, Check, Call, AllIn, Bet, Raise}
+use Rattle.floor_events.specs.Spelling.{game_word, act_words, HasLineAmount, AreLineShares}
+use Rattle.floor_events.specs.Fields.{◌>>=◌, meaning, game_list, game_of, act_list, amount_list, act_of, name_of, numbers_of, shares_of, next_by}
 use Rattle.floor_events.proofs.Spaces.{and_parts, has_no_space, decimal_spaceless, decimals_spaceless, name_spaceless, row_spaceless}
 
 -- the value of a step that found something
@@ -72,20 +71,21 @@ name_again name right = rw right refl
 pub name_field : IsField name_of (λ name. name) (λ name. IsTrue (is_name name))
 name_field = record { found = name_found; again = name_again; spaceless = name_spaceless }
 
-meaning_here : {A : Type 0} (spelling : A → List ℕ) (b : Bool) (entry : List ℕ × A) (others : Option A)
-    (word : List ℕ) (a : A) → (b ≡ true → word ≡ entry.0) → entry.0 ≡ spelling entry.1
-    → (others ≡ Some a → word ≡ spelling a) → cond b (Some entry.1) others ≡ Some a → word ≡ spelling a
-meaning_here spelling true entry others word a same spelled later h = same refl ∙ spelled
-    ∙ ap spelling (same_Some entry.1 a h)
-meaning_here spelling false entry others word a same spelled later h = later h
+meaning_here : {A : Type 0} (Spelled : List ℕ → A → Type 0) (b : Bool) (entry : List ℕ × A) (others : Option A)
+    (word : List ℕ) (a : A) → (b ≡ true → word ≡ entry.0) → Spelled entry.0 entry.1
+    → (others ≡ Some a → Spelled word a) → cond b (Some entry.1) others ≡ Some a → Spelled word a
+meaning_here Spelled true entry others word a same spelled later h =
+    subst (λ (word : List ℕ). Spelled word a) (sym (same refl))
+    (subst (Spelled entry.0) (same_Some entry.1 a h) spelled)
+meaning_here Spelled false entry others word a same spelled later h = later h
 
 -- a word that was looked up is the spelling of what it stands for
-meaning_found : {A : Type 0} (spelling : A → List ℕ) (entries : List (List ℕ × A)) (word : List ℕ) (a : A)
-    → AllByRecursion (λ entry. entry.0 ≡ spelling entry.1) entries → meaning entries word ≡ Some a → word ≡ spelling a
-meaning_found spelling [] word a spelled h = absurd cc
-meaning_found spelling (entry ∷ entries) word a spelled h =
-    meaning_here spelling (bytes_eq word entry.0) entry (meaning entries word) word a
-    (bytes_eq-Decides word entry.0).0 spelled.0 (meaning_found spelling entries word a spelled.1) h
+meaning_found : {A : Type 0} (Spelled : List ℕ → A → Type 0) (entries : List (List ℕ × A)) (word : List ℕ) (a : A)
+    → AllByRecursion (λ entry. Spelled entry.0 entry.1) entries → meaning entries word ≡ Some a → Spelled word a
+meaning_found Spelled [] word a spelled h = absurd cc
+meaning_found Spelled (entry ∷ entries) word a spelled h =
+    meaning_here Spelled (bytes_eq word entry.0) entry (meaning entries word) word a
+    (bytes_eq-Decides word entry.0).0 spelled.0 (meaning_found Spelled entries word a spelled.1) h
 
 game_again : (game : Game) → Unit {0} → game_of (game_word game) ≡ Some game
 game_again Holdem fits = refl
@@ -100,7 +100,8 @@ game_spaceless Hilo fits = refl
 -- a game
 pub game_field : IsField game_of game_word (λ game. Unit {0})
 game_field = record {
-  found = λ word game h. (meaning_found game_word game_list word game (refl, (refl, (refl, tt))) h, tt);
+  found = λ word game h.
+      (meaning_found (λ word game. word ≡ game_word game) game_list word game (refl, (refl, (refl, tt))) h, tt);
   again = game_again;
   spaceless = game_spaceless;
 }
@@ -113,25 +114,48 @@ row_field = record {
   spaceless = λ row fits. row_spaceless row.cards;
 }
 
-abbrev act_word : Act → List ℕ
-act_word Fold = codes "fold"
+-- words are the spelling of an act
+abbrev SpellsAct : List (List ℕ) → Act → Type 0
+SpellsAct words act = (words ≡ act_words act) × HasLineAmount act
 
-act_found : (words : List (List ℕ)) (act : Act) → act_of words ≡ Some act → (words ≡ act_words act) × Unit {0}
+-- a word with an amount behind it
+with_amount : (word amount : List ℕ) (n : ℕ) (act : Act) → number_of amount ≡ Some n
+    → meaning (amount_list n) word ≡ Some act → SpellsAct (word ∷ amount ∷ []) act
+with_amount word amount n act read h =
+    let number = number_found amount n read in
+    subst (λ (amount : List ℕ). SpellsAct (word ∷ amount ∷ []) act) (sym number.1)
+    (meaning_found (λ word act. SpellsAct (word ∷ decimal n ∷ []) act) (amount_list n) word act
+    ((refl, number.0), ((refl, number.0), tt)) h)
+
+act_found : (words : List (List ℕ)) (act : Act) → act_of words ≡ Some act → SpellsAct words act
 unfolding act_of
 act_found [] act h = absurd cc
-act_found (word ∷ []) Fold h =
-    (ap (λ (w : List ℕ). w ∷ []) (meaning_found act_word act_list word Fold (refl, tt) h), tt)
-act_found (word ∷ second ∷ words) act h = absurd cc
+act_found (word ∷ []) act h = meaning_found (λ word act. SpellsAct (word ∷ []) act) act_list word act
+    ((refl, tt), ((refl, tt), ((refl, tt), ((refl, tt), tt)))) h
+act_found (word ∷ amount ∷ []) act h =
+    let read = bind_found (number_of amount) (λ n. meaning (amount_list n) word) act h in
+    with_amount word amount read.0 act read.1 read.2
+act_found (word ∷ amount ∷ more ∷ words) act h = absurd cc
 
-act_again : (act : Act) → Unit {0} → act_of (act_words act) ≡ Some act
+act_again : (act : Act) → HasLineAmount act → act_of (act_words act) ≡ Some act
 unfolding act_of
 act_again Fold fits = refl
+act_again Check fits = refl
+act_again Call fits = refl
+act_again AllIn fits = refl
+act_again (Bet n) fits = rw (number_of-decimal n fits) refl
+act_again (Raise n) fits = rw (number_of-decimal n fits) refl
 
-act_spaceless : (act : Act) → Unit {0} → list_all has_no_space (act_words act) ≡ true
+act_spaceless : (act : Act) → HasLineAmount act → list_all has_no_space (act_words act) ≡ true
 act_spaceless Fold fits = refl
+act_spaceless Check fits = refl
+act_spaceless Call fits = refl
+act_spaceless AllIn fits = refl
+act_spaceless (Bet n) fits = rw (decimal_spaceless n fits) refl
+act_spaceless (Raise n) fits = rw (decimal_spaceless n fits) refl
 
 -- an act
-pub act_rest : IsRest act_of act_words (λ act. Unit {0})
+pub act_rest : IsRest act_of act_words HasLineAmount
 act_rest = record { found = act_found; again = act_again; spaceless = act_spaceless }
 
 numbers_found : (fields : List (List ℕ)) (numbers : List ℕ) → numbers_of fields ≡ Some numbers

@@ -8,7 +8,7 @@ use Rattle.card_set.specs.declared.game.Game.{Game}
 use Rattle.card_set.specs.declared.game.Game.TheVariants.{Holdem, Omaha, Hilo}
 use Rattle.level_plan.specs.declared.bounds.TheConstants.{MOST_SHARES}
 use Rattle.betting_round.specs.declared.act.Act.{Act}
-use Rattle.betting_round.specs.declared.act.Act.TheVariants.{Fold}
+use Rattle.betting_round.specs.declared.act.Act.TheVariants.{Fold, Check, Call, AllIn, Bet, Raise}
 
 -- a step, and what follows where it found something
 infixl 10 ◌>>=◌
@@ -37,15 +37,20 @@ unfoldable pub next_by : {A : Type 0} → (List ℕ → Option A) → List (List
 next_by read [] = None
 next_by read (word ∷ words) = option_map (λ value. (value, words)) (read word)
 
--- the words of the acts: so far folding is the only one
+-- the words of the acts without an amount
 abbrev pub act_list : List (List ℕ × Act)
-act_list = (codes "fold", Fold) ∷ []
+act_list = (codes "fold", Fold) ∷ (codes "check", Check) ∷ (codes "call", Call) ∷ (codes "allin", AllIn) ∷ []
 
--- the act that the words left name
+-- the words of the acts with this amount behind them
+abbrev pub amount_list : ℕ → List (List ℕ × Act)
+amount_list n = (codes "bet", Bet n) ∷ (codes "raise", Raise n) ∷ []
+
+-- the act that the words left name: one word, or one word and an amount
 unfoldable pub act_of : List (List ℕ) → Option Act
 act_of [] = None
 act_of (word ∷ []) = meaning act_list word
-act_of (word ∷ second ∷ words) = None
+act_of (word ∷ amount ∷ []) = option_and_then (λ n. meaning (amount_list n) word) (number_of amount)
+act_of (word ∷ amount ∷ more ∷ words) = None
 
 -- the numbers of all words that are left, where each is a number
 abbrev pub numbers_of : List (List ℕ) → Option (List ℕ)

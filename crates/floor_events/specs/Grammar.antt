@@ -71,6 +71,7 @@ plain_rows =
     (codes "enter", fields3 name_of number_of number_of events.Enter) ∷
     (codes "begin", fields2 number_of row_of events.Begin) ∷
     (codes "act", rest2 number_of name_of act_of events.Act) ∷
+    (codes "time", fields1 number_of events.Time) ∷
     (codes "settle", fields1 number_of events.Settle) ∷
     (codes "stop", fields0 events.Stop) ∷ []
 

@@ -61,6 +61,11 @@ plan_words (lines.Shares shares) = codes "shares" ∷ map decimal shares
 -- the words of an act
 abbrev pub act_words : Act → List (List ℕ)
 act_words acts.Fold = codes "fold" ∷ []
+act_words acts.Check = codes "check" ∷ []
+act_words acts.Call = codes "call" ∷ []
+act_words acts.AllIn = codes "allin" ∷ []
+act_words (acts.Bet n) = codes "bet" ∷ decimal n ∷ []
+act_words (acts.Raise n) = codes "raise" ∷ decimal n ∷ []
 
 -- the words of an event
 abbrev pub event_words : Event → List (List ℕ)
@@ -69,6 +74,7 @@ event_words events.Go = codes "go" ∷ []
 event_words (events.Enter name table seat) = codes "enter" ∷ name ∷ decimal table ∷ decimal seat ∷ []
 event_words (events.Begin table row) = codes "begin" ∷ decimal table ∷ row_text row.cards ∷ []
 event_words (events.Act table name act) = codes "act" ∷ decimal table ∷ name ∷ act_words act
+event_words (events.Time table) = codes "time" ∷ decimal table ∷ []
 event_words (events.Settle table) = codes "settle" ∷ decimal table ∷ []
 event_words events.Stop = codes "stop" ∷ []
 
@@ -95,13 +101,23 @@ HasLineNumbers (lines.Late n) = IsLineNumber n
 HasLineNumbers (lines.Blinds small big unit) = IsLineNumber small × IsLineNumber big × IsLineNumber unit
 HasLineNumbers (lines.Shares shares) = AreLineShares shares
 
+-- the amount of an act is a number of a line
+abbrev pub HasLineAmount : Act → Type 0
+HasLineAmount acts.Fold = Unit {0}
+HasLineAmount acts.Check = Unit {0}
+HasLineAmount acts.Call = Unit {0}
+HasLineAmount acts.AllIn = Unit {0}
+HasLineAmount (acts.Bet n) = IsLineNumber n
+HasLineAmount (acts.Raise n) = IsLineNumber n
+
 -- the parts of an event are such as a line may hold
 abbrev pub HasLineParts : Event → Type 0
 HasLineParts (events.Plan line) = HasLineNumbers line
 HasLineParts events.Go = Unit {0}
 HasLineParts (events.Enter name table seat) = IsTrue (is_name name) × IsLineNumber table × IsLineNumber seat
 HasLineParts (events.Begin table row) = IsLineNumber table
-HasLineParts (events.Act table name act) = IsTrue (is_name name) × IsLineNumber table
+HasLineParts (events.Act table name act) = IsTrue (is_name name) × IsLineNumber table × HasLineAmount act
+HasLineParts (events.Time table) = IsLineNumber table
 HasLineParts (events.Settle table) = IsLineNumber table
 HasLineParts events.Stop = Unit {0}
 

@@ -37,6 +37,11 @@ pub enum Event {
         /// What he does.
         act: Act,
     },
+    /// Time is called on the player who is due in a hand.
+    Time {
+        /// The number of the table. Any number of the grammar may stand here.
+        table: u64,
+    },
     /// A hand that is over is settled.
     Settle {
         /// The number of the table. Any number of the grammar may stand here.

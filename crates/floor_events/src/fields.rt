@@ -1,7 +1,7 @@
 //! Words of a line are read as fields.
 
 ghost use Rattle.std.specs.Prelude.{◌≡◌};
-ghost use Rattle.floor_events.specs.Fields.{name_of, game_of, meaning, act_list};
+ghost use Rattle.floor_events.specs.Fields.{name_of, game_of, meaning, act_list, amount_list};
 
 use betting_round::Act;
 use card_set::Game;
@@ -26,12 +26,26 @@ pub fn read_game(word: &[u8]) -> Option<Game>
     }
 }
 
-/// Reads an act of one word. `None` exactly where the word names none.
+/// Reads an act without an amount. `None` exactly where the word names none.
 pub fn read_act(word: &[u8]) -> Option<Act>
     ensures { result ≡ meaning act_list word.now }
 {
     match word {
         b"fold" => Some(Act::Fold),
+        b"check" => Some(Act::Check),
+        b"call" => Some(Act::Call),
+        b"allin" => Some(Act::AllIn),
+        _ => None,
+    }
+}
+
+/// Reads an act with an amount, in chips. `None` exactly where the word names none.
+pub fn read_act_with(word: &[u8], amount: u64) -> Option<Act>
+    ensures { result ≡ meaning (amount_list amount) word.now }
+{
+    match word {
+        b"bet" => Some(Act::Bet(amount)),
+        b"raise" => Some(Act::Raise(amount)),
         _ => None,
     }
 }

@@ -54,6 +54,9 @@ fn read_fields(word: &[u8], line: &mut Words<'_>) -> Option<Event>
             name: line.name()?,
             act: line.act()?,
         }),
+        _ if is(word, b"time") => Some(Event::Time {
+            table: line.number()?,
+        }),
         _ if is(word, b"settle") => Some(Event::Settle {
             table: line.number()?,
         }),

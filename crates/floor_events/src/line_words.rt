@@ -7,7 +7,7 @@ ghost use Rattle.card_set.specs.Cards.{row_of};
 ghost use Rattle.floor_events.specs.Words.{words_of_line, no_word};
 ghost use Rattle.floor_events.specs.Fields.{name_of, game_of, act_of, next_by};
 
-use crate::fields::{read_act, read_game, read_name};
+use crate::fields::{read_act, read_act_with, read_game, read_name};
 use betting_round::Act;
 use card_set::{CardRow, Game, read_row};
 use floor_text::{Name, read_number};
@@ -111,7 +111,11 @@ impl<'a> Words<'a> {
     pub fn act(&mut self) -> Option<Act>
         ensures { MatchOption result (act_of self.old ≡ None) (λ act. (act_of self.old ≡ Some act) × (self.new ≡ [])) }
     {
-        let act = read_act(self.next_word()?)?;
+        let word = self.next_word()?;
+        let Some(amount) = self.next_word() else {
+            return read_act(word);
+        };
+        let act = read_act_with(word, read_number(amount)?)?;
         if self.is_done() { Some(act) } else { None }
     }
 }

@@ -7,7 +7,7 @@ use seat_book::Place;
 use std::test::Fail;
 
 /// Lines that are not in the grammar.
-static OUTSIDE: [&[u8]; 52] = [
+static OUTSIDE: [&[u8]; 64] = [
     b"",
     b" ",
     b"*",
@@ -50,16 +50,28 @@ static OUTSIDE: [&[u8]; 52] = [
     b"enter abcdefghijklmnopq 1 2",
     b"begin 1",
     b"begin 1 2c",
-    b"act 1 ann check",
-    b"act 1 ann call",
-    b"act 1 ann bet 400",
+    b"act 1 ann",
     b"act 1 floor fold",
     b"act ann 1 fold",
     b"act 1 ann fold ",
+    b"act 1 ann fold 0",
+    b"act 1 ann Check",
+    b"act 1 ann checks",
+    b"act 1 ann call 100",
+    b"act 1 ann all-in",
+    b"act 1 ann bet",
+    b"act 1 ann bet 0400",
+    b"act 1 ann bet 400 ",
+    b"act 1 ann raise",
+    b"act 1 ann raise to 400",
+    b"act 1 ann raise 400 1",
+    b"act 1 ann raise 9007199254740992",
     b"settle",
     b"settle 01",
     b"settle 1 1",
-    b"time 1",
+    b"time",
+    b"time 01",
+    b"time 1 ann",
 ];
 
 #[test]
@@ -151,23 +163,45 @@ fn hands_begin_with_a_row(rt: HostRuntime) -> Result<(), Fail> {
     Ok(())
 }
 
-#[test]
-fn acts_and_settlements_are_read(rt: HostRuntime) -> Result<(), Fail> {
-    let alloc = rt.alloc();
-    let item = read_item(alloc, b"act 12 ann fold")?;
-    let right = match &item {
-        Some(
-            Item::Event(
-                Event::Act {
-                    table,
-                    name,
-                    act: Act::Fold,
-                },
-            ),
-        ) => { *table == 12 && name.bytes() == b"ann".as_slice() }
+/// Lines of acts of ann at table 12, and what she does.
+static ACTS: [(&[u8], Act); 8] = [
+    (b"act 12 ann fold", Act::Fold),
+    (b"act 12 ann check", Act::Check),
+    (b"act 12 ann call", Act::Call),
+    (b"act 12 ann allin", Act::AllIn),
+    (b"act 12 ann bet 0", Act::Bet(0)),
+    (b"act 12 ann bet 400", Act::Bet(400)),
+    (b"act 12 ann raise 600", Act::Raise(600)),
+    (
+        b"act 12 ann raise 9007199254740991",
+        Act::Raise(9_007_199_254_740_991),
+    ),
+];
+
+/// Whether a line is an act of ann at table 12, and this one.
+fn is_act_of_ann(line: &[u8], right: Act, alloc: std::alloc::Global) -> Result<bool, Fail> {
+    let item = read_item(alloc, line)?;
+    Ok(match &item {
+        Some(Item::Event(Event::Act { table, name, act })) => {
+            *table == 12 && name.bytes() == b"ann".as_slice() && *act == right
+        }
         _ => false,
-    };
-    assert!(rt; right);
+    })
+}
+
+#[test]
+fn acts_are_read(rt: HostRuntime) -> Result<(), Fail> {
+    for (line, right) in &ACTS {
+        assert!(rt; is_act_of_ann(line, *right, rt.alloc())?, "{line:?}");
+    }
+    Ok(())
+}
+
+#[test]
+fn called_times_and_settlements_are_read(rt: HostRuntime) -> Result<(), Fail> {
+    let alloc = rt.alloc();
+    let item = read_item(alloc, b"time 5")?;
+    assert!(rt; matches!(item, Some(Item::Event(Event::Time { table: 5 }))));
     let item = read_item(alloc, b"settle 3")?;
     assert!(rt; matches!(item, Some(Item::Event(Event::Settle { table: 3 }))));
     Ok(())
