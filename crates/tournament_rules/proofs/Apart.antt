@@ -11,7 +11,7 @@ use Rattle.level_plan.specs.Plans.{PlanTerms, is_right}
 use Rattle.table_engine.specs.declared.start.HandStart.{HandStart}
 use Rattle.table_engine.specs.declared.record.ActOf.{ActOf}
 use Rattle.table_engine.specs.Hands.{HandTerms}
-use Rattle.table_engine.specs.Acts.{hand_after}
+use Rattle.table_engine.specs.Acts.{hand_after, hand_after_time}
 use Rattle.floor_events.specs.declared.event.Event.{Event}
 use Rattle.floor_events.specs.declared.event.Event.TheVariants as events
 use Rattle.tournament_rules.specs.Books.{BookState, start_at}
@@ -20,11 +20,11 @@ use Rattle.tournament_rules.specs.Dealing.{next_start}
 use Rattle.tournament_rules.specs.Effects.{first_book, book_effect, settled, void_first, stopped_book}
 use Rattle.level_plan.specs.Drafts.{Draft, plan_of, go_fault}
 use Rattle.floor_events.specs.declared.answer.Answer.TheVariants.{Ok}
-use Rattle.tournament_rules.specs.States.{State, first_state, answer_to, answers, accepted, is_accepted, state_after, run, PlayState, first_play, acts_at, answered, refusal_of, acts_effect, play_effect, play_after, answers_in_play}
+use Rattle.tournament_rules.specs.States.{State, first_state, answer_to, answers, accepted, is_accepted, state_after, run, PlayState, first_play, answered, refusal_of, acts_effect, play_effect, play_after, answers_in_play}
 use Rattle.tournament_rules.specs.Valid.{IsValidPlay}
 use Rattle.tournament_rules.specs.Apart.{Apart, first_apart, hand_in, hand_for, hand_refusal, refusal_apart, hands_effect, after_apart, answers_apart, start_of, acts_of, seen_of}
 use Rattle.tournament_rules.proofs.Ends.{left-void_first, valid_stopped, none_out-stopped}
-use Rattle.tournament_rules.proofs.Passed.{refusal-parts, passed-parts, act_passed, settle_passed, plan_late, go_late, some_there}
+use Rattle.tournament_rules.proofs.Passed.{refusal-parts, passed-parts, act_passed, time_passed, settle_passed, plan_late, go_late, some_there}
 use Rattle.tournament_rules.proofs.Drafts.{right_plan}
 use Rattle.tournament_rules.proofs.Steps.{go_right, valid_events}
 use Rattle.tournament_rules.proofs.Plays.{play_keeps, valid_first_play}
@@ -65,7 +65,8 @@ all_empty (start ∷ out) none = cc (none 0, all_empty out (λ table. none (suc 
 -- An accepted event makes the same of the hands as of the starts and the acts.
 pub record IsAlike (apart : Apart) (event : Event) : Type 0 where
   pub tied : map start_of (hands_effect apart event) ≡ (book_effect apart.book (hand_for apart.hands event) event).out
-  pub acts : map acts_of (hands_effect apart event) ≡ acts_effect (map acts_of apart.hands) event
+  pub acts : map acts_of (hands_effect apart event)
+      ≡ acts_effect (map acts_of apart.hands) (hand_for apart.hands event) event
 
 begin_alike : (apart : Apart) (table : ℕ) (row : CardRow) → AreTied apart → IsAlike apart (events.Begin table row)
 begin_alike apart table row ties =
@@ -83,6 +84,22 @@ act_alike apart table name act ties playing =
     let start = ap start_of (sym found.1) in
     let before = acts_read apart.hands table ∙ ap acts_of found.1 in
     let acts = ap (λ (acts : List ActOf). set (map acts_of apart.hands) table (acts ++ new ∷ [])) before in
+    record {
+      tied = ap (λ (hand : Option HandTerms). map start_of (set apart.hands table hand)) same
+          ∙ (map-set_same start_of apart.hands table (Some after) None start ∙ ties.tied);
+      acts = ap (λ (hand : Option HandTerms). map acts_of (set apart.hands table hand)) same
+          ∙ (map-set acts_of apart.hands table (Some after) ∙ sym acts);
+    }
+
+time_alike : (apart : Apart) (table : ℕ) → AreTied apart → is_playing apart.book table ≡ true
+    → IsAlike apart (events.Time table)
+time_alike apart table ties playing =
+    let found = hand_there apart table ties playing in
+    let after = hand_after_time found.0 in
+    let same = ap (option_map hand_after_time) found.1 in
+    let start = ap start_of (sym found.1) in
+    let acts = ap (λ (hand : Option HandTerms). set (map acts_of apart.hands) table
+    (option_map_or (λ hand. (hand_after_time hand).acts) hand [])) found.1 in
     record {
       tied = ap (λ (hand : Option HandTerms). map start_of (set apart.hands table hand)) same
           ∙ (map-set_same start_of apart.hands table (Some after) None start ∙ ties.tied);
@@ -132,6 +149,9 @@ alike apart (events.Begin table row) ties none = begin_alike apart table row tie
 alike apart (events.Act table name act) ties none =
     let free = (passed-parts (seen_of apart) (events.Act table name act) none).0 in
     act_alike apart table name act ties (act_passed apart.book table name act free).playing
+alike apart (events.Time table) ties none =
+    let free = (passed-parts (seen_of apart) (events.Time table) none).0 in
+    time_alike apart table ties (time_passed apart.book table free).playing
 alike apart (events.Settle table) ties none =
     let free = (passed-parts (seen_of apart) (events.Settle table) none).0 in
     settle_alike apart table ties (settle_passed apart.book table free).playing

@@ -139,8 +139,7 @@ valid_settled book hand valid is play won =
     let back : GoBackTo hand.start (players_after hand) = record {
       same = after_without hand hand.start.seats;
       playable = stacks-playable hand began.lawful play won;
-      kept =
-          chips-players hand won;
+      kept = chips-players hand began.lawful play won;
     } in
     let counted = valid.counted in
     valid_counted (ended book hand.start.table (players_after hand)) (book.accepted + 1) book.stopped

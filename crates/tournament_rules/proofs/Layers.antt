@@ -41,6 +41,7 @@ hand_for-read book hands events.Go tied = refl
 hand_for-read book hands (events.Enter name table seat) tied = refl
 hand_for-read book hands (events.Begin table row) tied = refl
 hand_for-read book hands (events.Act table name act) tied = hand_read book hands table tied
+hand_for-read book hands (events.Time table) tied = hand_read book hands table tied
 hand_for-read book hands (events.Settle table) tied = hand_read book hands table tied
 hand_for-read book hands events.Stop tied = refl
 

@@ -21,3 +21,4 @@ pub mod Steps
 pub mod Holds
 pub mod Layers
 pub mod Apart
+pub mod Elsewhere

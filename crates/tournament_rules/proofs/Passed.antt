@@ -15,9 +15,9 @@ use Rattle.betting_round.specs.declared.act.Act.{Act}
 use Rattle.table_engine.specs.Hands.{HandTerms, is_over}
 use Rattle.table_engine.specs.Results.{is_won_by_folds}
 use Rattle.floor_events.specs.declared.event.Event.{Event}
-use Rattle.floor_events.specs.declared.event.Event.TheVariants.{Plan, Go, Enter, Act as Acts, Settle}
+use Rattle.floor_events.specs.declared.event.Event.TheVariants.{Plan, Go, Enter, Act as Acts, Time, Settle}
 use Rattle.tournament_rules.specs.Books.{BookState, has_table, has_seat_number}
-use Rattle.tournament_rules.specs.Checks.{book_checks, hand_checks, end_checks, book_refusal, is_late, is_playing}
+use Rattle.tournament_rules.specs.Checks.{book_checks, hand_checks, before_hand_checks, end_checks, book_refusal, is_late, is_playing}
 use Rattle.tournament_rules.specs.States.{PlayState, hand_of, refusal_of}
 use Rattle.tournament_rules.specs.Apart.{hand_refusal}
 
@@ -110,6 +110,15 @@ pub record MayGoOn (book : BookState) (table : ℕ) : Type 0 where
   pub there : has_table book table ≡ true
   pub playing : is_playing book table ≡ true
 
+goes_on : (book : BookState) (table : ℕ) → first_that_holds (before_hand_checks book table) ≡ None
+    → MayGoOn book table
+goes_on book table none =
+    let all = none_holds (before_hand_checks book table) none in
+    let going = and_parts _ _ all in
+    let there = and_parts _ _ going.1 in
+    let playing = and_parts _ _ there.1 in
+    record { there = is_so _ there.0; playing = is_so _ playing.0 }
+
 pub act_passed : (book : BookState) (table : ℕ) (name : List ℕ) (act : Act)
     → book_refusal book (Acts table name act) ≡ None → MayGoOn book table
 unfolding book_refusal
@@ -121,14 +130,13 @@ act_passed book table name act none =
     let playing = and_parts _ _ there.1 in
     record { there = is_so _ there.0; playing = is_so _ playing.0 }
 
+pub time_passed : (book : BookState) (table : ℕ) → book_refusal book (Time table) ≡ None → MayGoOn book table
+unfolding book_refusal
+time_passed book table none = goes_on book table none
+
 pub settle_passed : (book : BookState) (table : ℕ) → book_refusal book (Settle table) ≡ None → MayGoOn book table
 unfolding book_refusal
-settle_passed book table none =
-    let all = none_holds (book_checks book (Settle table)) none in
-    let going = and_parts _ _ all in
-    let there = and_parts _ _ going.1 in
-    let playing = and_parts _ _ there.1 in
-    record { there = is_so _ there.0; playing = is_so _ playing.0 }
+settle_passed book table none = goes_on book table none
 
 -- A hand that may be settled is over and won by folds.
 pub end_passed : (hand : HandTerms) → first_that_holds (end_checks hand) ≡ None

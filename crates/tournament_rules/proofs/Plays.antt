@@ -13,9 +13,11 @@ use Rattle.level_plan.specs.Plans.{PlanTerms, is_right}
 use Rattle.table_engine.specs.declared.start.HandStart.{HandStart}
 use Rattle.table_engine.specs.declared.record.ActOf.{ActOf}
 use Rattle.table_engine.specs.Hands.{HandTerms}
+use Rattle.table_engine.specs.Acts.{hand_after_time}
 use Rattle.table_engine.specs.Plays.{IsLawfulPlay}
 use Rattle.table_engine.specs.Results.{is_won_by_folds}
 use Rattle.table_engine.proofs.Plays.{lawful_play-none, lawful_play-more}
+use Rattle.table_engine.proofs.TurnLaws.{lawful_play-time}
 use Rattle.floor_events.specs.declared.event.Event.{Event}
 use Rattle.floor_events.specs.declared.event.Event.TheVariants as events
 use Rattle.tournament_rules.specs.Books.{start_at}
@@ -23,11 +25,11 @@ use Rattle.tournament_rules.specs.Checks.{book_refusal}
 use Rattle.tournament_rules.specs.Dealing.{next_start}
 use Rattle.tournament_rules.specs.Effects.{settled, stopped_book}
 use Rattle.tournament_rules.specs.States.{PlayState, first_play, acts_at, hand_at, refusal_of, play_effect, play_after}
-use Rattle.tournament_rules.specs.Valid.{IsValidPlay}
+use Rattle.tournament_rules.specs.Valid.{IsValidPlay, IsStartAt}
 use Rattle.tournament_rules.specs.Apart.{hand_refusal}
 use Rattle.tournament_rules.proofs.Fitting.{table_range, other_number, table_out}
 use Rattle.tournament_rules.proofs.Ends.{left-void_first, valid_settled, valid_stopped, none_out-stopped}
-use Rattle.tournament_rules.proofs.Passed.{passed-parts, act_passed, settle_passed, end_passed, plan_late, go_late, some_there}
+use Rattle.tournament_rules.proofs.Passed.{passed-parts, act_passed, time_passed, settle_passed, end_passed, plan_late, go_late, some_there}
 use Rattle.tournament_rules.proofs.Entries.{valid_first, valid_entered, start_none}
 use Rattle.tournament_rules.proofs.Begins.{may_begin, valid_begun}
 
@@ -116,6 +118,36 @@ play_acted play table name act valid none free =
         some_lawful _
         (lawful_play-more hand (record { name = name; act = act; by_time = false }) (lawful hand refl) free)
 
+-- the acts of a hand once time is called, where one is out
+abbrev acts_in_time : Option HandTerms → List ActOf
+acts_in_time hand = option_map_or (λ hand. (hand_after_time hand).acts) hand []
+
+-- After a called time.
+play_timed : (play : PlayState) (table : ℕ) → IsValidPlay play → book_refusal play.book (events.Time table) ≡ None
+    → option_and_then (hand_refusal (events.Time table)) (hand_at play table) ≡ None
+    → IsValidPlay (play_effect play (events.Time table))
+play_timed play table valid none free =
+    let range = table_range 1 play.book.plan.tables table (time_passed play.book table none).there in
+    let room = valid.room in
+    record {
+      book = valid.book;
+      room = length-set play.acts table (acts_in_time (hand_at play table)) ∙ valid.room;
+      plays = acts_changed play.book.out play.acts table (acts_in_time (hand_at play table))
+          (omega (arith, range.1, room)) valid.plays
+          (by_start (start_at play.book.out table) (acts_at play.acts table) (valid.book.hands.starts table) free
+          (valid.plays table));
+    }
+  where
+    by_start : (start : Option HandStart) (acts : List ActOf)
+        → ForSome start (IsStartAt play.book.plan play.book.level table)
+        → option_and_then (hand_refusal (events.Time table)) (hand_from start acts) ≡ None
+        → ForSome (hand_from start acts) IsLawfulPlay
+        → ForSome (hand_from start (acts_in_time (hand_from start acts))) IsLawfulPlay
+    by_start None acts out free lawful = λ hand is. absurd cc
+    by_start (Some start) acts out free lawful =
+        let hand : HandTerms = record { start = start; acts = acts } in
+        some_lawful (hand_after_time hand) (lawful_play-time hand (out start refl).lawful (lawful hand refl) free)
+
 -- the tournament once a hand at a table is settled
 abbrev settled_at : PlayState → ℕ → HandTerms → PlayState
 settled_at play table hand = record { book = settled play.book hand; acts = slice_set play.acts table [] }
@@ -191,6 +223,9 @@ play_keeps play (events.Begin table row) valid none =
 play_keeps play (events.Act table name act) valid none =
     let parts = passed-parts play (events.Act table name act) none in
     play_acted play table name act valid parts.0 parts.1
+play_keeps play (events.Time table) valid none =
+    let parts = passed-parts play (events.Time table) none in
+    play_timed play table valid parts.0 parts.1
 play_keeps play (events.Settle table) valid none =
     let parts = passed-parts play (events.Settle table) none in
     play_settled play table valid parts.0 parts.1

@@ -29,6 +29,7 @@ accepted_more play events.Go = omega arith
 accepted_more play (events.Enter name table seat) = omega arith
 accepted_more play (events.Begin table row) = omega arith
 accepted_more play (events.Act table name act) = omega arith
+accepted_more play (events.Time table) = omega arith
 accepted_more play (events.Settle table) = by_hand (hand_at play table)
   where
     by_hand : (hand : Option HandTerms)
@@ -73,6 +74,7 @@ valid_accepted draft None count events.Go lawful valid counted accepted = record
 valid_accepted draft None count (events.Enter name table seat) lawful valid counted accepted = absurd cc
 valid_accepted draft None count (events.Begin table row) lawful valid counted accepted = absurd cc
 valid_accepted draft None count (events.Act table name act) lawful valid counted accepted = absurd cc
+valid_accepted draft None count (events.Time table) lawful valid counted accepted = absurd cc
 valid_accepted draft None count (events.Settle table) lawful valid counted accepted = absurd cc
 valid_accepted draft None count events.Stop lawful valid counted accepted = absurd cc
 valid_accepted draft (Some play) count event lawful valid counted accepted = record {

@@ -8,7 +8,7 @@ use Rattle.level_plan.specs.Plans.{PlanTerms}
 use Rattle.table_engine.specs.declared.start.HandStart.{HandStart}
 use Rattle.table_engine.specs.declared.record.ActOf.{ActOf}
 use Rattle.table_engine.specs.Hands.{HandTerms}
-use Rattle.table_engine.specs.Acts.{hand_after}
+use Rattle.table_engine.specs.Acts.{hand_after, hand_after_time}
 use Rattle.floor_events.specs.declared.answer.Answer.{Answer}
 use Rattle.floor_events.specs.declared.event.Event.{Event}
 use Rattle.floor_events.specs.declared.event.Event.TheVariants as events
@@ -50,6 +50,7 @@ hand_for hands events.Go = None
 hand_for hands (events.Enter name table seat) = None
 hand_for hands (events.Begin table row) = None
 hand_for hands (events.Act table name act) = hand_in hands table
+hand_for hands (events.Time table) = hand_in hands table
 hand_for hands (events.Settle table) = hand_in hands table
 hand_for hands events.Stop = None
 
@@ -71,6 +72,8 @@ hands_effect apart (events.Begin table row) =
     slice_set apart.hands table (Some (record { start = next_start apart.book table row.cards; acts = [] }))
 hands_effect apart (events.Act table name act) =
     slice_set apart.hands table (option_map (λ hand. hand_after hand name act false) (hand_in apart.hands table))
+hands_effect apart (events.Time table) =
+    slice_set apart.hands table (option_map hand_after_time (hand_in apart.hands table))
 hands_effect apart (events.Settle table) = slice_set apart.hands table None
 hands_effect apart events.Stop = replicate (length apart.hands) None
 

@@ -10,7 +10,7 @@ use Rattle.seat_book.specs.Counts.{count_at}
 use Rattle.seat_book.specs.Players.{player_at}
 use Rattle.seat_book.specs.Tables.{status_at}
 use Rattle.table_engine.specs.Hands.{HandTerms, is_over}
-use Rattle.table_engine.specs.Acts.{act_checks}
+use Rattle.table_engine.specs.Acts.{act_checks, time_checks}
 use Rattle.table_engine.specs.Results.{is_won_by_folds}
 use Rattle.floor_events.specs.declared.event.Event.{Event}
 use Rattle.floor_events.specs.declared.event.Event.TheVariants as events
@@ -103,9 +103,9 @@ playing_checks book table =
 abbrev pub before_act_checks : BookState → ℕ → List ℕ → List Check
 before_act_checks book table name = going_checks book ++ known_checks book name ++ playing_checks book table
 
--- all checks of a settle before those of the hand
-abbrev pub before_settle_checks : BookState → ℕ → List Check
-before_settle_checks book table = going_checks book ++ playing_checks book table
+-- all checks of a called time and of a settle before those of the hand
+abbrev pub before_hand_checks : BookState → ℕ → List Check
+before_hand_checks book table = going_checks book ++ playing_checks book table
 
 -- The hand may be settled. One that is over and not won by folds is not settled yet.
 abbrev pub end_checks : HandTerms → List Check
@@ -121,7 +121,8 @@ book_checks book events.Go = (PlanLate, true) ∷ []
 book_checks book (events.Enter name table seat) = enter_checks book name table seat ++ room_checks book.entries
 book_checks book (events.Begin table row) = begin_checks book table row
 book_checks book (events.Act table name act) = before_act_checks book table name
-book_checks book (events.Settle table) = before_settle_checks book table
+book_checks book (events.Time table) = before_hand_checks book table
+book_checks book (events.Settle table) = before_hand_checks book table
 book_checks book events.Stop = going_checks book
 
 -- The checks that a hand makes of an event at its table, after those of the book.
@@ -130,7 +131,8 @@ hand_checks hand (events.Plan line) = []
 hand_checks hand events.Go = []
 hand_checks hand (events.Enter name table seat) = []
 hand_checks hand (events.Begin table row) = []
-hand_checks hand (events.Act table name act) = act_checks hand name
+hand_checks hand (events.Act table name act) = act_checks hand name act
+hand_checks hand (events.Time table) = time_checks hand
 hand_checks hand (events.Settle table) = end_checks hand
 hand_checks hand events.Stop = []
 

@@ -112,5 +112,6 @@ book_effect book hand events.Go = book
 book_effect book hand (events.Enter name table seat) = entered book name table seat
 book_effect book hand (events.Begin table row) = begun_book book table row.cards
 book_effect book hand (events.Act table name act) = book
+book_effect book hand (events.Time table) = book
 book_effect book hand (events.Settle table) = option_map_or (settled book) hand book
 book_effect book hand events.Stop = stopped_book book

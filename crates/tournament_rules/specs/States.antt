@@ -14,6 +14,7 @@ use Rattle.level_plan.specs.Drafts.{Draft, empty_draft, is_wrong_line, item_of_l
 use Rattle.seat_book.specs.declared.seated.Seated.{Seated}
 use Rattle.table_engine.specs.declared.record.ActOf.{ActOf}
 use Rattle.table_engine.specs.Hands.{HandTerms}
+use Rattle.table_engine.specs.Acts.{hand_after_time}
 use Rattle.floor_events.specs.declared.answer.Answer.{Answer}
 use Rattle.floor_events.specs.declared.answer.Answer.TheVariants.{Ok, No, PlanWrong}
 use Rattle.floor_events.specs.declared.event.Event.{Event}
@@ -64,8 +65,20 @@ hand_of play events.Go = None
 hand_of play (events.Enter name table seat) = None
 hand_of play (events.Begin table row) = None
 hand_of play (events.Act table name act) = hand_at play table
+hand_of play (events.Time table) = hand_at play table
 hand_of play (events.Settle table) = hand_at play table
 hand_of play events.Stop = None
+
+-- the table of an event that is an act of a player or a called time, if it is one
+abbrev pub act_table : Event → Option ℕ
+act_table (events.Plan line) = None
+act_table events.Go = None
+act_table (events.Enter name table seat) = None
+act_table (events.Begin table row) = None
+act_table (events.Act table name act) = Some table
+act_table (events.Time table) = Some table
+act_table (events.Settle table) = None
+act_table events.Stop = None
 
 -- why an event is refused once there is a plan, if it is: the checks of the book come first, and then those of the hand
 unfoldable pub refusal_of : PlayState → Event → Option Refusal
@@ -99,6 +112,7 @@ planning_answer draft events.Go = option_map_or PlanWrong (go_fault draft) Ok
 planning_answer draft (events.Enter name table seat) = No NoPlan
 planning_answer draft (events.Begin table row) = No NoPlan
 planning_answer draft (events.Act table name act) = No NoPlan
+planning_answer draft (events.Time table) = No NoPlan
 planning_answer draft (events.Settle table) = No NoPlan
 planning_answer draft events.Stop = No NoPlan
 
@@ -112,21 +126,24 @@ abbrev pub answer_to : State → Event → Answer
 answer_to state event =
     option_map_or (λ play. answered (refusal_of play event)) state.play (planning_answer state.draft event)
 
--- what an accepted event makes of the acts
-abbrev pub acts_effect : List (List ActOf) → Event → List (List ActOf)
-acts_effect acts (events.Plan line) = acts
-acts_effect acts events.Go = acts
-acts_effect acts (events.Enter name table seat) = acts
-acts_effect acts (events.Begin table row) = slice_set acts table []
-acts_effect acts (events.Act table name act) =
+-- what an accepted event makes of the acts, with the hand that it is about, if there is one
+abbrev pub acts_effect : List (List ActOf) → Option HandTerms → Event → List (List ActOf)
+acts_effect acts hand (events.Plan line) = acts
+acts_effect acts hand events.Go = acts
+acts_effect acts hand (events.Enter name table seat) = acts
+acts_effect acts hand (events.Begin table row) = slice_set acts table []
+acts_effect acts hand (events.Act table name act) =
     slice_set acts table (acts_at acts table ++ (record { name = name; act = act; by_time = false }) ∷ [])
-acts_effect acts (events.Settle table) = slice_set acts table []
-acts_effect acts events.Stop = replicate (length acts) []
+acts_effect acts hand (events.Time table) =
+    slice_set acts table (option_map_or (λ hand. (hand_after_time hand).acts) hand [])
+acts_effect acts hand (events.Settle table) = slice_set acts table []
+acts_effect acts hand events.Stop = replicate (length acts) []
 
 -- what an accepted event makes of a tournament whose plan is whole
 abbrev pub play_effect : PlayState → Event → PlayState
 play_effect play event =
-    record { book = book_effect play.book (hand_of play event) event; acts = acts_effect play.acts event }
+    let hand = hand_of play event in
+    record { book = book_effect play.book hand event; acts = acts_effect play.acts hand event }
 
 -- what an accepted event makes of a plan's draft, and of the tournament at `go`
 abbrev pub planning_effect : State → Event → State
@@ -135,6 +152,7 @@ planning_effect state events.Go = record state { play = Some (first_play (plan_o
 planning_effect state (events.Enter name table seat) = state
 planning_effect state (events.Begin table row) = state
 planning_effect state (events.Act table name act) = state
+planning_effect state (events.Time table) = state
 planning_effect state (events.Settle table) = state
 planning_effect state events.Stop = state
 

@@ -1,6 +1,6 @@
 //! Laws of the tournament, over every list of events, lawful or not.
 
-ghost use Rattle.std.specs.Prelude.{◌≡◌, ◌+◌, ◌<◌, ◌≤◌, ◌%◌, ℕ, List, true, false, Some, None, length, map, filter, count_by, slice_get};
+ghost use Rattle.std.specs.Prelude.{◌≡◌, ◌≢◌, ◌+◌, ◌<◌, ◌≤◌, ◌%◌, ℕ, List, true, false, Some, None, length, map, filter, count_by, slice_get};
 ghost use Rattle.std.specs.List.{All};
 ghost use Rattle.std.specs.Option.{ForSome};
 ghost use Rattle.level_plan.specs.Plans.{PlanTerms, is_right};
@@ -16,7 +16,7 @@ ghost use Rattle.table_engine.specs.Plays.{IsLawfulPlay};
 ghost use Rattle.tournament_rules.specs.Books.{start_at, players_out};
 ghost use Rattle.tournament_rules.specs.Players.{is_in_hand, start_seat};
 ghost use Rattle.tournament_rules.specs.Dealing.{next_start};
-ghost use Rattle.tournament_rules.specs.States.{first_state, first_play, hand_at, answer_to, answers, answers_in_play, state_after, run, players_of};
+ghost use Rattle.tournament_rules.specs.States.{PlayState, first_state, first_play, hand_at, act_table, play_after, answer_to, answers, answers_in_play, state_after, run, players_of};
 ghost use Rattle.tournament_rules.specs.Chips.{sold, rest, play};
 ghost use Rattle.tournament_rules.specs.Valid.{without_stack};
 ghost use Rattle.tournament_rules.specs.Apart.{first_apart, answers_apart};
@@ -65,6 +65,15 @@ pub fn hands_are_lawful_plays()
         ForSome (hand_at play table) (λ hand. IsLawfulStart hand.start)) }
     ensures play { (events : List Event) (table : ℕ) → ForSome (run first_state events).play (λ play.
         ForSome (hand_at play table) IsLawfulPlay) }
+{}
+
+/// An act of a player and a called time change the acts of their own table's hand and nothing else: the book stays as
+/// it is, and so does each hand at another table.
+pub fn acts_stay_at_their_table()
+    ensures book { (play : PlayState) (event : Event) (table : ℕ) → act_table event ≡ Some table
+        → (play_after play event).book ≡ play.book }
+    ensures others { (play : PlayState) (event : Event) (table other : ℕ) → act_table event ≡ Some table
+        → other ≢ table → hand_at (play_after play event) other ≡ hand_at play other }
 {}
 
 /// After any list of events, a hand that begins starts lawfully.
