@@ -11,7 +11,7 @@ use Rattle.table_engine.specs.Hands.{HandTerms}
 use Rattle.floor_events.specs.declared.event.Event.{Event}
 use Rattle.floor_events.specs.declared.event.Event.TheVariants.{Act as Acts, Settle}
 use Rattle.tournament_rules.specs.Books.{BookState}
-use Rattle.tournament_rules.specs.Checks.{book_refusal, before_act_checks, before_settle_checks}
+use Rattle.tournament_rules.specs.Checks.{book_refusal, before_act_checks, before_hand_checks}
 use Rattle.tournament_rules.specs.States.{PlayState, refusal_of}
 use Rattle.tournament_rules.specs.Apart.{start_of, seen_of, hand_for, hand_refusal}
 use Rattle.tournament_rules.proofs.Layers.{hand_for-read}
@@ -59,7 +59,7 @@ act_refusal book table name act = refl
 
 -- The book's refusal of a settle is that of its checks.
 pub settle_refusal : (book : BookState) (table : ℕ) → book_refusal book (Settle table)
-    ≡ first_that_holds (before_settle_checks book table)
+    ≡ first_that_holds (before_hand_checks book table)
 unfolding book_refusal
 settle_refusal book table = refl
 

@@ -13,6 +13,7 @@ is_order events.Go = false
 is_order (events.Enter name table seat) = true
 is_order (events.Begin table row) = false
 is_order (events.Act table name act) = false
+is_order (events.Time table) = false
 is_order (events.Settle table) = false
 is_order events.Stop = true
 

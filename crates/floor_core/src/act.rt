@@ -1,10 +1,10 @@
-//! What the book says of an act and of a settle, before the hand is asked.
+//! What the book says of an act, of a called time and of a settle, before the hand is asked.
 
 ghost use Rattle.std.specs.Prelude.{◌≡◌, ◌<◌, length, Some, IfOk, IsSome};
 ghost use Rattle.table_engine.specs.declared.start.HandStart.{HandStart};
 ghost use Rattle.rulebook.specs.Checks.{IsChecked};
 ghost use Rattle.tournament_rules.specs.Books.{start_at};
-ghost use Rattle.tournament_rules.specs.Checks.{known_checks, before_act_checks, before_settle_checks};
+ghost use Rattle.tournament_rules.specs.Checks.{known_checks, before_act_checks, before_hand_checks};
 
 use crate::book::Book;
 use floor_text::{Name, Refusal};
@@ -32,9 +32,9 @@ impl Book {
         self.check_playing(table)
     }
 
-    /// Makes the checks of a settle before those of the hand, and gives the table's number.
-    pub(crate) fn check_settle(&self, table: u64) -> Result<u8, Refusal>
-        ensures checked { IsChecked (before_settle_checks self.now table) result }
+    /// Makes the checks of a called time and of a settle before those of the hand, and gives the table's number.
+    pub(crate) fn check_hand(&self, table: u64) -> Result<u8, Refusal>
+        ensures checked { IsChecked (before_hand_checks self.now table) result }
         ensures same { IfOk result (λ number. number ≡ table) }
         ensures within { IfOk result (λ number. number < length self.now.out) }
         ensures out { IfOk result (λ number. IsSome (start_at self.now.out number)) }

@@ -4,7 +4,7 @@ ghost use Rattle.std.specs.Prelude.{◌≡◌, ◌<◌, ◌^◌, length, slice_s
 ghost use Rattle.std.specs.Option.{option_map_or, option_and_then};
 ghost use Rattle.table_engine.specs.Hands.{HandTerms, is_over};
 ghost use Rattle.table_engine.specs.Results.{is_won_by_folds};
-ghost use Rattle.table_engine.specs.Acts.{IsAnswer, refusal_of_act, hand_after};
+ghost use Rattle.table_engine.specs.Acts.{IsAnswer, refusal_of_act, refusal_of_time, hand_after, hand_after_time};
 ghost use Rattle.table_engine.specs.Plays.{IsCompletePlay, hand_of};
 ghost use Rattle.rulebook.specs.Checks.{IsChecked};
 ghost use Rattle.floor_events.specs.declared.event.Event.TheVariants as events;
@@ -80,6 +80,17 @@ impl Play {
         act_at(&mut self.hands, usize::from(table), name, act)
     }
 
+    /// Time is called on the player who is due in the hand at a table.
+    #[tactic(auto, using(tournament_rules::proofs::Layers::layers), unfolding(tournament_rules::specs::States::refusal_of))]
+    fn time(&mut self, table: u64) -> Result<(), BookFault>
+        ensures answer { IsAnswer (refusal_of self.old (events.Time table)) result }
+        ensures state { OnOk result (self.new ≡ play_effect self.old (events.Time table)) }
+        ensures err { OnErr result (self.new ≡ self.old) }
+    {
+        let table = self.book.check_hand(table)?;
+        time_at(&mut self.hands, usize::from(table))
+    }
+
     /// The hand at a table is settled.
     #[tactic(auto, using(tournament_rules::proofs::Layers::layers), unfolding(tournament_rules::specs::States::refusal_of))]
     fn settle(&mut self, table: u64) -> Result<(), BookFault>
@@ -88,7 +99,7 @@ impl Play {
         ensures state { OnOk result (self.new ≡ play_effect self.old (events.Settle table)) }
         ensures err { OnErr result (self.new ≡ self.old) }
     {
-        let table = self.book.check_settle(table)?;
+        let table = self.book.check_hand(table)?;
         let index = usize::from(table);
         check_end(&self.hands, index)?;
         let done = finish_at(&mut self.hands, index);
@@ -137,6 +148,7 @@ impl Play {
             Event::Enter { name, table, seat } => self.enter(*name, *table, *seat),
             Event::Begin { table, row } => self.begin(*table, row),
             Event::Act { table, name, act } => self.act(*table, *name, *act),
+            Event::Time { table } => self.time(*table),
             Event::Settle { table } => self.settle(*table),
             Event::Stop => self.stop(),
         }
@@ -153,12 +165,25 @@ fn act_at(
     requires within { index < length hands.old.items }
     requires played { IsSome (hand_in hands.old.items index) }
     ensures answer { IsAnswer
-        (option_and_then (λ hand. refusal_of_act hand name) (hand_in hands.old.items index)) result }
+        (option_and_then (λ hand. refusal_of_act hand name act) (hand_in hands.old.items index)) result }
     ensures state { OnOk result (hands.new.items ≡ slice_set hands.old.items index
         (option_map (λ hand. hand_after hand name act false) (hand_in hands.old.items index))) }
     ensures err { OnErr result (hands.new.items ≡ hands.old.items) }
 {
     hands[index].as_mut().unwrap().act(name, act)?;
+    Ok(())
+}
+
+/// Calls time on the player who is due in the hand at a table. An error leaves the hands as they were.
+fn time_at(hands: &mut Vec<Option<Hand>>, index: usize) -> Result<(), BookFault>
+    requires within { index < length hands.old.items }
+    requires played { IsSome (hand_in hands.old.items index) }
+    ensures answer { IsAnswer (option_and_then refusal_of_time (hand_in hands.old.items index)) result }
+    ensures state { OnOk result (hands.new.items
+        ≡ slice_set hands.old.items index (option_map hand_after_time (hand_in hands.old.items index))) }
+    ensures err { OnErr result (hands.new.items ≡ hands.old.items) }
+{
+    hands[index].as_mut().unwrap().time()?;
     Ok(())
 }
 
