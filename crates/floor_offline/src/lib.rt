@@ -16,3 +16,5 @@ pub use run::run_offline;
 mod scripts;
 #[cfg(test)]
 mod tests;
+#[cfg(test)]
+mod transcripts;

@@ -2,6 +2,7 @@
 
 use super::*;
 use crate::scripts::{PLAN, SCRIPTS, Script, Step};
+use crate::transcripts::{TRANSCRIPTS, Transcript};
 use floor_text::{MemSink, MemSource};
 use std::alloc::{AllocError, Global};
 use std::process::Abort;
@@ -12,6 +13,10 @@ const SORTED: &str =
 
 const TWICE: &str =
     "2c2c2h2s3c3d3h3s4c4d4h4s5c5d5h5s6c6d6h6s7c7d7h7s8c8d8h8s9c9d9h9sTcTdThTsJcJdJhJsQcQdQhQsKcKdKhKsAcAdAhAs";
+
+/// The sorted deck, where the cards at the places 1 and 50 are exchanged, and those at the places 3 and 51.
+const ACES: &str =
+    "2cAh2hAs3c3d3h3s4c4d4h4s5c5d5h5s6c6d6h6s7c7d7h7s8c8d8h8s9c9d9h9sTcTdThTsJcJdJhJsQcQdQhQsKcKdKhKsAcAd2d2s";
 
 const USAGE: &str = "usage: replay / view NAME / simulate N / serve PORT DESKS\n";
 
@@ -26,17 +31,24 @@ struct Ran {
     err: MemSink,
 }
 
+/// The words that stand for rows, and the rows.
+const ROWS: [(&str, &str); 3] = [("SORTED", SORTED), ("TWICE", TWICE), ("ACES", ACES)];
+
+/// Takes a line apart: what stands before the word for a row, and the row.
+fn with_row(line: &str) -> (&str, &str) {
+    for (word, row) in ROWS {
+        if let Some(front) = line.strip_suffix(word) {
+            return (front, row);
+        }
+    }
+    (line, "")
+}
+
 /// Adds a line, with the row that its last word stands for.
 fn add_line(input: &mut Vec<u8>, line: &str) -> Result<(), AllocError> {
-    if let Some(front) = line.strip_suffix("SORTED") {
-        input.extend_from_slice(front.as_bytes())?;
-        input.extend_from_slice(SORTED.as_bytes())?;
-    } else if let Some(front) = line.strip_suffix("TWICE") {
-        input.extend_from_slice(front.as_bytes())?;
-        input.extend_from_slice(TWICE.as_bytes())?;
-    } else {
-        input.extend_from_slice(line.as_bytes())?;
-    }
+    let (front, row) = with_row(line);
+    input.extend_from_slice(front.as_bytes())?;
+    input.extend_from_slice(row.as_bytes())?;
     input.push(b'\n')?;
     Ok(())
 }
@@ -112,6 +124,52 @@ fn play(rt: &impl Abort, alloc: Global, script: &Script) -> Result<(), AllocErro
 fn scripts_are_answered(rt: HostRuntime) -> Result<(), Fail> {
     for script in SCRIPTS {
         play(&rt, rt.alloc(), script)?;
+    }
+    Ok(())
+}
+
+/// A line of a transcript, and what it is answered.
+fn with_answer(line: &str) -> (&str, &str) {
+    line.split_once(" : ").unwrap_or((line, "ok"))
+}
+
+/// The input of a transcript: its lines but those of the report.
+fn input_of(alloc: Global, transcript: &Transcript) -> Result<Vec<u8>, AllocError> {
+    let mut input = Vec::new(alloc);
+    for part in transcript.parts {
+        for line in part.lines() {
+            if !line.starts_with('*') {
+                add_line(&mut input, with_answer(line).0)?;
+            }
+        }
+    }
+    Ok(input)
+}
+
+/// Plays a transcript, and compares the answer to each line and each line of the report.
+fn follow(rt: &impl Abort, alloc: Global, transcript: &Transcript) -> Result<(), AllocError> {
+    let input = input_of(alloc, transcript)?;
+    let ran = run(alloc, "replay", input, &[], &[])?;
+    let name = transcript.name;
+    let mut lines = str::from_utf8(ran.out.bytes()).unwrap_or("no text").lines();
+    for part in transcript.parts {
+        for line in part.lines() {
+            let wanted = if line.starts_with('*') {
+                line
+            } else {
+                with_answer(line).1
+            };
+            assert_eq!(rt; lines.next(), Some(wanted), "{name}: {line}");
+        }
+    }
+    assert_eq!(rt; lines.next(), None, "{name}: the end");
+    Ok(())
+}
+
+#[test]
+fn transcripts_are_followed(rt: HostRuntime) -> Result<(), Fail> {
+    for transcript in TRANSCRIPTS {
+        follow(&rt, rt.alloc(), transcript)?;
     }
     Ok(())
 }
