@@ -36,7 +36,8 @@ act-book play events.Stop table at = absurd cc
 hand_elsewhere : (play : PlayState) (table other : ℕ) (new : List ActOf) → other ≢ table
     → hand_at (record play { acts = set play.acts table new }) other ≡ hand_at play other
 hand_elsewhere play table other new apart =
-    ap (λ (acts : List ActOf). option_map (λ start. record { start = start; acts = acts }) (start_at play.book.out other))
+    ap (λ (acts : List ActOf).
+    option_map (λ start. record { start = start; acts = acts }) (start_at play.book.out other))
     (get_or-set_other play.acts table other new [] apart)
 
 -- Each hand at another table stays as it is.
