@@ -1,0 +1,126 @@
+#!/usr/bin/env python3
+"""Compares the program with the model over lists of events that are made from a seed, lawful and unlawful.
+
+Each answer, each line of the report, the status and err are compared. A list that tells the two apart is made as short
+as it can be, and is printed with both texts. At the end it says how many lists, lines and hands there were, and how
+often each answer came. The status is 1 where a list told them apart.
+
+Usage: bench/made_lists.py [--lists N] [--seed N] [--unproved] [--program PATH] [--built PART,PART..]
+
+The program is the one of `./floor`; with --unproved it is built from the sources before any proof, by `rt try`. --built
+names parts of the product (PARTS of the model) that the program has beside those of BUILT; `--built all` names all.
+"""
+import argparse
+import os
+import subprocess
+import sys
+import tempfile
+from collections import Counter
+
+from rules.built import BUILT, PARTS
+from rules.lines import lines_of
+from rules.maker import Maker
+from rules.step import replayed
+from rules.tournament import Tournament
+
+TOP = os.path.dirname(os.path.dirname(os.path.abspath(__file__)))
+PROGRAM = os.path.join(TOP, "crates", "floor_replay", "out", "floor_replay")
+
+
+def modelled(text):
+    answers, report = replayed(text)
+    return "".join(line + "\n" for line in answers + report)
+
+
+def ran(program, text):
+    """What the program writes; its status and err are put behind it where they are not those of an accepted input."""
+    run = subprocess.run([program, "replay"], input=text, capture_output=True, check=False)
+    told = "" if run.returncode == 0 and not run.stderr else f"status {run.returncode}, err {run.stderr!r}\n"
+    return run.stdout.decode("ascii", "replace") + told
+
+
+def try_unproved(texts):
+    """Has `rt try` compare the texts of all lists, by one build of the sources before any proof."""
+    with tempfile.TemporaryDirectory() as folder:
+        for number, text in enumerate(texts):
+            with open(os.path.join(folder, f"list{number}"), "wb") as file:
+                file.write(text)
+            with open(os.path.join(folder, f"list{number}.stdout"), "w", encoding="ascii") as file:
+                file.write(modelled(text))
+        return subprocess.run(["rt", "try", "--cases", folder, "--", "replay"], capture_output=True, text=True,
+                              check=False, cwd=os.path.join(TOP, "crates", "floor_replay"))
+
+
+def differs(program, text):
+    return ran(program, text) != modelled(text)
+
+
+def shortest(program, text):
+    """Leaves lines out, many at once and then one by one, while the two still differ."""
+    lines = lines_of(text)
+    step = max(1, len(lines) // 2)
+    while step:
+        place = 0
+        while place < len(lines):
+            fewer = lines[:place] + lines[place + step:]
+            if differs(program, b"".join(line + b"\n" for line in fewer)):
+                lines = fewer
+            else:
+                place += step
+        step //= 2
+    return b"".join(line + b"\n" for line in lines)
+
+
+def count(texts):
+    """Says how many lines and hands there are, and how often each answer comes."""
+    hands, answers, settled = 0, Counter(), 0
+    for text in texts:
+        book = Tournament()
+        given, _ = replayed(text, book)
+        hands += book.hands_begun
+        settled += sum(1 for line, answer in zip(lines_of(text), given)
+                       if answer == "ok" and line.startswith(b"settle"))
+        answers.update(" ".join(answer.split()[:3]) for answer in given)
+    print(f"{len(texts)} lists, {answers.total()} lines, {hands} hands begun, {settled} settled")
+    for answer in sorted(answers, key=lambda answer: int(answer.split()[1]) if answer != "ok" else 0):
+        print(f"{answers[answer]:9} {answer}")
+
+
+def compare(program, texts):
+    """Prints each list that tells the two apart, at most ten of them, as short as it can be."""
+    found = 0
+    for text in texts:
+        if differs(program, text):
+            found += 1
+            if found <= 10:
+                short = shortest(program, text)
+                print(f"---- a list on which they differ\n{short.decode('utf-8', 'replace')}---- the program\n"
+                      f"{ran(program, short)}---- the model\n{modelled(short)}")
+    return found
+
+
+def main():
+    words = argparse.ArgumentParser()
+    words.add_argument("--lists", type=int, default=1000)
+    words.add_argument("--seed", type=int, default=1)
+    words.add_argument("--unproved", action="store_true")
+    words.add_argument("--program", default=PROGRAM)
+    words.add_argument("--built", default="")
+    words = words.parse_args()
+    BUILT.update(PARTS if words.built == "all" else filter(None, words.built.split(",")))
+    texts = [Maker(words.seed * 1_000_000 + number).make() for number in range(words.lists)]
+    count(texts)
+    if words.unproved:
+        run = try_unproved(texts)
+        print(run.stdout + run.stderr.splitlines()[-1])
+        return int(run.returncode != 0)
+    if not os.path.exists(words.program):
+        subprocess.run([os.path.join(TOP, "floor"), "replay"], stdin=subprocess.DEVNULL, stdout=subprocess.DEVNULL,
+                       check=True)
+    found = compare(words.program, texts)
+    print(f"lists that tell the program and the model apart: {found}")
+    return int(found > 0)
+
+
+if __name__ == "__main__":
+    sys.exit(main())

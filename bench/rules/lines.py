@@ -1,0 +1,133 @@
+"""Lines and events: each event has exactly one spelling."""
+import re
+from dataclasses import dataclass
+
+from rules.built import BUILT
+from rules.cards import cards_of
+from rules.hand import Act
+
+GREATEST_NUMBER = 9_007_199_254_740_991
+LONGEST_LINE = 400
+
+
+@dataclass(frozen=True)
+class Event:
+    """An event: its first word, and what the words behind it say."""
+
+    word: str
+    args: tuple = ()
+
+
+def number(word):
+    """`0`, or a digit 1 to 9 and further digits, at most 2^53 - 1."""
+    if not re.fullmatch(r"0|[1-9][0-9]*", word) or len(word) > 16 or int(word) > GREATEST_NUMBER:
+        raise ValueError
+    return int(word)
+
+
+def name(word):
+    """A letter and then letters, digits or `_`, 1 to 16 characters; `floor` is none."""
+    if not re.fullmatch(r"[A-Za-z][A-Za-z0-9_]{0,15}", word) or word == "floor":
+        raise ValueError
+    return word
+
+
+def row(word):
+    """52 cards with nothing between them; a card may come twice."""
+    if not re.fullmatch(r"([23456789TJQKA][cdhs]){52}", word):
+        raise ValueError
+    return tuple(cards_of(word))
+
+
+def place(word):
+    """A table 1 to 64, a point, and a seat 1 to 10."""
+    table, point, seat = word.partition(".")
+    if not point or not (1 <= number(table) <= 64 and 1 <= number(seat) <= 10):
+        raise ValueError
+    return int(table), int(seat)
+
+
+def list_of(reader):
+    """1 to 10 members, separated by commas."""
+    def read(word):
+        members = word.split(",")
+        if len(members) > 10:
+            raise ValueError
+        return tuple(reader(member) for member in members)
+    return read
+
+
+def one_of(*words):
+    def read(word):
+        if word not in words:
+            raise ValueError
+        return word
+    return read
+
+
+def act_of(words):
+    """`fold`, `check`, `call` or `allin`, or `bet` or `raise` with an amount."""
+    if len(words) == 1:
+        kind = one_of("fold", "check", "call", "allin")(words[0])
+        act = Act(kind)
+    else:
+        kind, amount = words
+        act = Act(one_of("bet", "raise")(kind), number(amount))
+    if act.kind != "fold" and "acts" not in BUILT:
+        raise ValueError
+    return act
+
+
+def needs(part):
+    if part not in BUILT:
+        raise ValueError
+
+
+def event_of_words(words):
+    """The event of a line's words; ValueError outside of the grammar."""
+    word, rest = words[0], words[1:]
+    if word == "shares":
+        if not 1 <= len(rest) <= 64:
+            raise ValueError
+        return Event(word, tuple(number(each) for each in rest))
+    if word == "act":
+        table, player, *act = rest
+        return Event(word, (number(table), name(player), act_of(act)))
+    part, readers = GRAMMAR.get(word, (None, None))
+    if readers is None or len(readers) != len(rest):
+        raise ValueError
+    if part:
+        needs(part)
+    return Event(word, tuple(reader(each) for reader, each in zip(readers, rest)))
+
+
+# The first word of a line, the part that brings it, if it is not there from the start, and how its fields are read.
+GRAMMAR = {
+    "game": (None, [one_of("holdem", "omaha", "hilo")]),
+    "tables": (None, [number]), "seats": (None, [number]), "stack": (None, [number]), "buyin": (None, [number]),
+    "late": (None, [number]), "blinds": (None, [number, number, number]), "go": (None, []),
+    "enter": (None, [name, number, number]), "begin": (None, [number, row]), "settle": (None, [number]),
+    "stop": (None, []),
+    "time": ("time", [number]),
+    "balance": ("moves", [number, number]), "break": ("moves", [number, list_of(place), list_of(name)]),
+    "level": ("levels", []), "race": ("levels", [number, row]),
+    "hands": ("rounds", [one_of("on", "off")]), "round": ("rounds", []),
+}
+
+
+def event_of_line(line):
+    """The event of a line of bytes, `None` outside of the grammar; a note is an event of its own."""
+    if len(line) > LONGEST_LINE:
+        return None
+    if line.startswith(b"*"):
+        return Event("*") if "notes" in BUILT else None
+    try:
+        return event_of_words(line.decode("ascii").split(" "))
+    except ValueError:
+        return None
+
+
+def lines_of(text):
+    """The bytes cut at line feeds; what is behind the last one is a line where it has a byte."""
+    lines = text.split(b"\n")
+    return lines if lines[-1] else lines[:-1]

@@ -1,0 +1,267 @@
+"""Makes lists of events from a seed, lawful and unlawful, so that each answer comes often."""
+import random
+
+from rules.built import BUILT, PARTS
+from rules.cards import SORTED_DECK, text_of
+from rules.lines import event_of_line
+from rules.step import apply
+from rules.tournament import Tournament
+
+PLAYERS = ["ann", "bob", "cat", "dan", "eve", "fay", "gus", "hal", "ida", "jim", "kim", "leo"]
+CARDS = [text_of([card]) for card in SORTED_DECK]
+
+
+class Maker:
+    """Makes one list. It plays the list on the model as it goes, so that it knows what would be lawful."""
+
+    def __init__(self, seed):
+        self.rng = random.Random(seed)
+        self.book = Tournament()
+        self.lines = []
+        self.entered = 0
+
+    def put(self, line):
+        event = event_of_line(line.encode())
+        if event:
+            apply(self.book, event)
+        self.lines.append(line)
+
+    def odds(self, percent):
+        return self.rng.random() * 100 < percent
+
+    def pick(self, *choices):
+        """One of the choices; a choice with a number before it is as likely as so many."""
+        weights = [choice[0] for choice in choices]
+        return self.rng.choices([choice[1] for choice in choices], weights)[0]
+
+    # -- the plan --
+
+    def plan(self):
+        """The lines of a plan, now and then with a wrong line before a right one, or with an item missing."""
+        rng, built = self.rng, BUILT
+        unit = rng.choice([1, 5, 10, 25, 50, 100])
+        blinds = self.levels(unit)
+        stack = blinds[-1][2] * rng.choice([1, 2, 3, 5, 8, 20, 50, 100])
+        game = rng.choice(["holdem", "omaha", "hilo"]) if "games" in built else "holdem"
+        tables = rng.choice([1, 1, 2, 2, 3, 4, 6]) if "tables" in built else 1
+        shares = sorted((rng.randint(1, 300) for _ in range(rng.randint(1, 5))), reverse=True)
+        while sum(shares) > 1000:
+            shares.pop()
+        items = [f"game {game}", f"tables {tables}", f"seats {rng.randint(2, 10)}", f"stack {stack}",
+                 f"buyin {rng.choice([0, 1, 100, 999, 1000000000])}", f"late {rng.randint(1, len(blinds))}",
+                 *(f"blinds {small} {big} {unit}" for small, big, unit in blinds),
+                 "shares " + " ".join(map(str, shares))]
+        if self.odds(25):
+            rng.shuffle(items)
+        for item in items:
+            if self.odds(8):
+                self.put(self.wrong_plan_line())
+            if not self.odds(1):
+                self.put(item)
+        if self.odds(10):
+            self.put(self.wrong_plan_line())
+        self.put("go")
+
+    def levels(self, unit):
+        """Blinds level by level, each unit that of the level before times 1 to 6."""
+        levels = []
+        for _ in range(self.rng.choice([1, 1, 2, 3, 5])):
+            small = unit * self.rng.choice([1, 1, 2, 5])
+            levels.append((small, small * self.rng.choice([1, 2, 2, 2, 3]), unit))
+            unit *= self.rng.choice([1, 1, 2, 4, 5, 6])
+        return levels
+
+    def wrong_plan_line(self):
+        rng = self.rng
+        large = rng.choice([0, 65, 11, 41, 1000000000, 1000000001, 9007199254740991])
+        return rng.choice([
+            f"game {rng.choice(['omaha', 'hilo', 'holdem', 'stud'])}",
+            f"tables {rng.choice([0, 2, 64, 65, large])}", f"seats {rng.choice([0, 1, 11, large])}",
+            f"stack {rng.choice([0, 7, 1000000001, large])}", f"buyin {rng.choice([1000000001, large])}",
+            f"late {rng.choice([0, 41, 5, large])}", "go",
+            "blinds " + " ".join(str(rng.choice(choices)) for choices in
+                                 ([0, 100, 150, 300], [200, 250, 50, large], [0, 100, 1, 700])),
+            "shares " + " ".join(str(rng.choice([0, 1, 500, 501, 1000, 1001]))
+                                 for _ in range(rng.choice([1, 2, 3, 64])))])
+
+    # -- what is wrong as a line --
+
+    def mangled(self):
+        """A line of no grammar, or close to it."""
+        rng, line = self.rng, self.natural()
+        return rng.choice([
+            "", " ", "*", "* report", "* a note", "stop ", " stop", "go go", "stop\r", "Stop", "begin 1", "act 1 ann",
+            "act 1 ann fold fold", "act 1 ann bet", "act 1 ann raise 0400", "enter floor 1 1", "enter Floor 1 1",
+            "enter 1ann 1 1", "enter abcdefghijklmnop 1 1", "enter abcdefghijklmnopq 1 1", "enter ann 01 1",
+            "settle 9007199254740991", "settle 9007199254740992", "shares", "shares" + " 1" * 65, "hands out",
+            "break 1 1.1,1.1 ann", "break 1 65.1 ann", "break 1 1.11 ann", "break 1 1.0 ann", "*" + "x" * 399,
+            "*" + "x" * 400, "stop" + " " * 396, "é", "begin 1 " + text_of(SORTED_DECK)[:-1] + "x",
+            line + " ", line.replace(" ", "  ", 1), line.upper(), line[:-1], line + "0"])
+
+    # -- what is done in a tournament --
+
+    def a_table(self):
+        tables = list(self.book.tables) or [1]
+        beyond = [0, len(tables) + 1, 65, 9007199254740991]
+        return self.rng.choice(tables if not self.odds(4) else beyond)
+
+    def a_player(self):
+        entered = self.book.entries or PLAYERS
+        return self.rng.choice(entered) if not self.odds(5) else self.rng.choice(PLAYERS + ["nobody"])
+
+    def a_row(self):
+        cards = self.rng.sample(CARDS, 52)
+        if self.odds(5):
+            cards[self.rng.randrange(52)] = self.rng.choice(CARDS)
+        return "".join(cards)
+
+    def enter(self):
+        """Mostly somebody new, at a table with few players, in an empty seat."""
+        book, rng = self.book, self.rng
+        table = self.a_table()
+        allowed = [each for each in book.tables if book.may_be_entered(each)]
+        if allowed and not self.odds(10):
+            table = min(allowed, key=lambda each: (book.count(each), rng.random()))
+        seat = rng.randint(1, book.plan.get("seats", 6))
+        if book.level and not self.odds(8):
+            seat = rng.choice([each for each in range(1, book.plan["seats"] + 1) if (table, each) not in book.seats]
+                              or [seat])
+        if self.odds(3):
+            seat = rng.choice([0, 11, 9007199254740991])
+        self.entered += 1
+        new = PLAYERS[len(book.entries)] if len(book.entries) < len(PLAYERS) else f"p{self.entered}"
+        return f"enter {new if not self.odds(7) else self.a_player()} {table} {seat}"
+
+    def begin(self):
+        return f"begin {self.a_table()} {self.a_row()}"
+
+    def hand_at(self, table):
+        return self.book.tables[table].hand if table in self.book.tables else None
+
+    def act(self):
+        """Mostly an act of the player who is due at a table that plays."""
+        playing = sorted(self.book.playing_tables())
+        table = self.rng.choice(playing) if playing and not self.odds(3) else self.a_table()
+        hand = self.hand_at(table)
+        due = hand.due() if hand else None
+        if due is None or self.odds(8):
+            dealt = sorted(self.book.tables[table].dealt.values()) if hand else []
+            others = [player for player in self.book.entries if player not in dealt]
+            player = self.rng.choice(self.pick((5, dealt), (3, others), (1, [])) or [self.a_player()])
+            return f"act {table} {player} {self.any_act(hand, due)}"
+        return f"act {table} {hand.names[due]} {self.any_act(hand, due)}"
+
+    def any_act(self, hand, seat):
+        if "acts" not in BUILT:
+            return self.pick((90, "fold"), (3, "check"), (3, "call"), (2, "allin"), (2, "bet 200"))
+        kind = self.pick((30, "check"), (34, "call"), (9, "fold"), (4, "allin"), (9, "bet"), (14, "raise"))
+        if hand and seat and self.odds(65):
+            kind = self.fitting(kind, hand, seat)
+        return f"{kind} {self.amount(hand, seat)}" if kind in ("bet", "raise") else kind
+
+    def fitting(self, kind, hand, seat):
+        """The like of an act that the player may do; short all-ins, and raises over them, come often."""
+        most = hand.put[seat] + hand.behind(seat)
+        if hand.level < most < hand.level + hand.full_raise and self.odds(40):
+            return "allin"
+        if hand.level > hand.put[seat] and hand.may_not_reopen(seat) and self.odds(40):
+            return self.rng.choice(["raise", "raise", "allin"])
+        if kind in ("check", "call"):
+            return "call" if hand.put[seat] < hand.level else "check"
+        if kind in ("bet", "raise"):
+            return "bet" if hand.level == 0 else "raise"
+        return kind
+
+    def amount(self, hand, seat):
+        """An amount at a bound, a unit beside it, or anywhere."""
+        if hand is None or seat is None:
+            return self.rng.choice([0, 100, 200, 400, 1000])
+        least, most, unit = hand.level + hand.full_raise, hand.put[seat] + hand.behind(seat), hand.unit
+        pot = hand.pot_bound(seat)
+        near = self.rng.choice([least, least, least, 2 * least, most, most, hand.level, pot or least, pot or most,
+                                hand.full_raise, self.rng.randrange(most + 1) // unit * unit])
+        beside = self.pick((60, 0), (10, unit), (10, -unit), (6, 1), (4, -1), (6, unit // 2), (4, 2 * unit))
+        return max(0, near + beside)
+
+    def settle(self):
+        over = [table for table in sorted(self.book.playing_tables()) if self.hand_at(table).is_over()]
+        return f"settle {self.rng.choice(over) if over and not self.odds(4) else self.a_table()}"
+
+    def balance(self):
+        counts = self.book.open_counts()
+        if not counts or self.odds(20):
+            return f"balance {self.a_table()} {self.a_table()}"
+        return f"balance {max(counts, key=counts.get)} {min(counts, key=counts.get)}"
+
+    def break_table(self):
+        """Mostly the fill list and the players in another order, now and then with something changed."""
+        book, rng = self.book, self.rng
+        table = max(book.open_tables(), default=1) if not self.odds(12) else self.a_table()
+        places = list(book.fill_list(table) or []) if book.is_open(table) and len(book.open_tables()) > 1 else []
+        names = list(book.players_at(table).values())
+        rng.shuffle(places)
+        rng.shuffle(names)
+        if not places or self.odds(10):
+            places.append((self.rng.randint(1, 4), self.rng.randint(1, 10)))
+        if not names or self.odds(10):
+            names.append(self.a_player())
+        if self.odds(8):
+            names[0] = self.a_player()
+        return f"break {table} {','.join(f'{to}.{seat}' for to, seat in places)} {','.join(names)}"
+
+    def race(self):
+        racing = [table for table in self.book.tables if self.book.tables[table].pending]
+        return f"race {self.rng.choice(racing) if racing and not self.odds(10) else self.a_table()} {self.a_row()}"
+
+    def natural(self):
+        """What is done next, by how the tournament stands: most of it is lawful."""
+        book, rng = self.book, self.rng
+        playing = sorted(book.playing_tables())
+        ended = [table for table in playing if self.hand_at(table).is_over()]
+        few = len(book.seats) < min(len(book.tables) * book.plan.get("seats", 6), 2 + rng.randrange(12))
+        later = {part: 1 if part in BUILT else 0.2 for part in PARTS}
+        several = later["moves"] * (1 if len(book.tables) > 1 else 0.1)
+        word = self.pick(
+            (30 if few else 5, self.enter), (14 if len(playing) < len(book.tables) and not few else 2, self.begin),
+            (60 if len(playing) > len(ended) else 3, self.act), (40 if ended else 1.5, self.settle),
+            (later["time"] * (4 if playing else 0.5), lambda: f"time {rng.choice(playing or [self.a_table()])}"),
+            (6 * several, self.balance), (4 * several, self.break_table), (later["levels"], lambda: "level"),
+            (later["levels"] * (8 if book.has_race() else 0.7), self.race), (0.7 * later["rounds"], lambda: "hands on"),
+            (later["rounds"], lambda: "hands off"),
+            (later["rounds"] * (6 if book.hand_for_hand else 0.7), lambda: "round"),
+            (0.4 if not self.is_stuck() else 20, lambda: "stop"), (0.5, self.wrong_plan_line))
+        return word()
+
+    def is_stuck(self):
+        """A hand is over that no event can settle yet."""
+        hands = [self.hand_at(table) for table in self.book.playing_tables()]
+        return "showdowns" not in BUILT and any(hand.is_over() and hand.needs_showdown() for hand in hands)
+
+    def crowd(self):
+        """640 players enter, one goes out, and another wants his seat."""
+        for line in ["game holdem", "tables 64", "seats 10", "stack 100", "buyin 1", "late 1", "blinds 100 200 100",
+                     "shares 1000", "go"]:
+            self.put(line)
+        for number in range(640):
+            self.put(f"enter p{number} {number % 64 + 1} {number // 64 + 1}")
+        self.put("enter q 1 1")
+        self.put(f"begin 1 {self.a_row()}")
+        for line in 8 * ["time 1"] + ["settle 1", "enter q 1 2", "enter q 1 3", "stop"]:
+            self.put(line)
+
+    def make(self):
+        if self.odds(0.3) and {"tables", "showdowns", "time"} <= BUILT:
+            self.crowd()
+            return "\n".join(self.lines).encode()
+        if self.odds(3):
+            for _ in range(self.rng.randint(1, 12)):
+                self.put(self.rng.choice([self.mangled(), self.wrong_plan_line(), self.enter(), self.begin(), "stop"]))
+        self.plan()
+        after_stop = self.rng.randint(0, 6)
+        for _ in range(self.rng.choice([10, 60, 120, 400])):
+            self.put(self.mangled() if self.odds(4) else self.natural())
+            after_stop -= self.book.stopped or self.book.level == 0
+            if after_stop < 0:
+                break
+        text = "\n".join(self.lines) + ("" if self.odds(5) else "\n")
+        return text.encode()
