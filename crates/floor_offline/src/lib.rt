@@ -15,6 +15,10 @@ pub use run::run_offline;
 #[cfg(test)]
 mod scripts;
 #[cfg(test)]
+mod seat_scripts;
+#[cfg(test)]
+mod seat_tests;
+#[cfg(test)]
 mod tests;
 #[cfg(test)]
 mod transcripts;

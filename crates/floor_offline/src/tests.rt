@@ -90,7 +90,7 @@ fn run_plan(
 }
 
 /// Plays a script, and compares the answer to each line and each line of the report.
-fn play(rt: &impl Abort, alloc: Global, script: &Script) -> Result<(), AllocError> {
+pub fn play(rt: &impl Abort, alloc: Global, script: &Script) -> Result<(), AllocError> {
     let mut input = Vec::new(alloc);
     for steps in script.begins {
         add_lines(&mut input, steps)?;
