@@ -1,9 +1,10 @@
 """Makes lists of events from a seed, lawful and unlawful, so that each answer comes often."""
 import random
+from copy import deepcopy
 
 from rules.built import BUILT, PARTS
 from rules.cards import SORTED_DECK, text_of
-from rules.lines import event_of_line
+from rules.lines import act_of, event_of_line
 from rules.step import apply
 from rules.tournament import Tournament
 
@@ -41,7 +42,7 @@ class Maker:
         rng, built = self.rng, BUILT
         unit = rng.choice([1, 5, 10, 25, 50, 100])
         blinds = self.levels(unit)
-        stack = blinds[-1][2] * rng.choice([1, 2, 3, 5, 8, 20, 50, 100])
+        stack = blinds[-1][2] * rng.choice([1, 2, 3, 5, 8, 20, 20, 50, 50, 100])
         game = rng.choice(["holdem", "omaha", "hilo"]) if "games" in built else "holdem"
         tables = rng.choice([1, 1, 2, 2, 3, 4, 6]) if "tables" in built else 1
         shares = sorted((rng.randint(1, 300) for _ in range(rng.randint(1, 5))), reverse=True)
@@ -149,7 +150,19 @@ class Maker:
             others = [player for player in self.book.entries if player not in dealt]
             player = self.rng.choice(self.pick((5, dealt), (3, others), (1, [])) or [self.a_player()])
             return f"act {table} {player} {self.any_act(hand, due)}"
-        return f"act {table} {hand.names[due]} {self.any_act(hand, due)}"
+        act = self.any_act(hand, due)
+        if "showdowns" not in BUILT and self.odds(90) and self.leads_to_a_showdown(hand, due, act):
+            act = "fold"
+        return f"act {table} {hand.names[due]} {act}"
+
+    def leads_to_a_showdown(self, hand, seat, act):
+        """Whether the hand would be over after an act, with two or more live players."""
+        act = act_of(act.split())
+        if hand.refusal(seat, act):
+            return False
+        after = deepcopy(hand)
+        after.act(seat, act)
+        return after.is_over() and after.needs_showdown()
 
     def any_act(self, hand, seat):
         if "acts" not in BUILT:
@@ -178,7 +191,9 @@ class Maker:
             return self.rng.choice([0, 100, 200, 400, 1000])
         least, most, unit = hand.level + hand.full_raise, hand.put[seat] + hand.behind(seat), hand.unit
         pot = hand.pot_bound(seat)
-        near = self.rng.choice([least, least, least, 2 * least, most, most, hand.level, pot or least, pot or most,
+        other = self.rng.choice(sorted(hand.live))
+        short_of_all = max(least, hand.put[other] + hand.behind(other) - self.rng.randint(1, 4) * unit)
+        near = self.rng.choice([least, least, least, short_of_all, short_of_all, most, hand.level, pot or least, pot or most,
                                 hand.full_raise, self.rng.randrange(most + 1) // unit * unit])
         beside = self.pick((60, 0), (10, unit), (10, -unit), (6, 1), (4, -1), (6, unit // 2), (4, 2 * unit))
         return max(0, near + beside)
