@@ -30,16 +30,4 @@ with open(work + "/hands", "w") as whole, open(work + "/half", "w") as half:
         put(["begin 1 " + deck] + folds + ["settle 1"], hand)
 MAKE
 
-half= whole= theirs=
-for _ in 1 2 3 4 5; do
-    half=$(lesser "$(took replay "$work/half")" $half)
-    whole=$(lesser "$(took replay "$work/hands")" $whole)
-    theirs=$(lesser "$(took stock "$work/hands" ok)" $theirs)
-done
-lines=$(wc -l < "$work/hands")
-python3 -c "print(f'$lines lines, replay {$whole:.2f} s, {$lines / $whole:,.0f} lines per second')"
-python3 -c "print(f'sed {$theirs:.2f} s, ratio {$whole / $theirs:.2f}')"
-python3 -c "print(f'second half of the hands {$whole - $half:.2f} s, first half {$half:.2f} s, ratio {($whole - $half) / $half:.2f}')"
-accepted=$(head -n "$lines" "$work/out" | grep -cx ok || true)
-echo "lines not answered ok: $((lines - accepted))"
-[ "$accepted" = "$lines" ]
+measure_halves

@@ -17,3 +17,25 @@ lesser() { python3 -c "print(min($1, ${2:-$1}))"; }
 # replay over a file, and sed that answers each of its lines by the same words
 replay() { "$program" replay < "$1" > "$work/out"; }
 stock() { LC_ALL=C sed "s/.*/$2/" < "$1" > "$work/stock"; }
+
+# Replays the lines of `hands` and those of `half`, five times by turns with sed, and says the least times: lines per
+# second, the ratio to sed, and the second half of the hands against the first. Fails where a line is not answered `ok`.
+measure_halves() {
+    local half= whole= theirs= lines accepted
+    for _ in 1 2 3 4 5; do
+        half=$(lesser "$(took replay "$work/half")" $half)
+        whole=$(lesser "$(took replay "$work/hands")" $whole)
+        theirs=$(lesser "$(took stock "$work/hands" ok)" $theirs)
+    done
+    lines=$(wc -l < "$work/hands")
+    python3 - "$lines" "$whole" "$half" "$theirs" <<'SAY'
+import sys
+lines, whole, half, theirs = map(float, sys.argv[1:])
+print(f"{lines:.0f} lines, replay {whole:.2f} s, {lines / whole:,.0f} lines per second")
+print(f"sed {theirs:.2f} s, ratio {whole / theirs:.2f}")
+print(f"second half of the hands {whole - half:.2f} s, first half {half:.2f} s, ratio {(whole - half) / half:.2f}")
+SAY
+    accepted=$(head -n "$lines" "$work/out" | grep -cx ok || true)
+    echo "lines not answered ok: $((lines - accepted))"
+    [ "$accepted" = "$lines" ]
+}
