@@ -35,8 +35,15 @@ abbrev pub suit_of : ℕ → Option ℕ
 suit_of letter = position (λ known. known == letter) (codes "cdhs")
 
 -- the card of a rank and a suit, where the three tests of a card hold
-abbrev pub card_by : (rank suit : ℕ) (two ace four : Bool) → nat_le 2 rank ≡ two → nat_le rank 14 ≡ ace → nat_lt suit 4 ≡ four → Option Card
-card_by rank suit true true true two ace four = Some (record { rank = rank; suit = suit; from_two = leb-true 2 rank two; up_to_ace = leb-true rank 14 ace; one_of_four = ltb-true suit 4 four })
+abbrev pub card_by : (rank suit : ℕ) (two ace four : Bool)
+    → nat_le 2 rank ≡ two → nat_le rank 14 ≡ ace → nat_lt suit 4 ≡ four → Option Card
+card_by rank suit true true true two ace four = Some (record {
+  rank = rank;
+  suit = suit;
+  from_two = leb-true 2 rank two;
+  up_to_ace = leb-true rank 14 ace;
+  one_of_four = ltb-true suit 4 four;
+})
 card_by rank suit _ _ _ two ace four = None
 
 -- the card of a rank and a suit: a rank is 2 to 14, and a suit is 0 to 3

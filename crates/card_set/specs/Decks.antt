@@ -12,7 +12,8 @@ pub record IsDeck (cards : List Card) : Type 0 where
 abbrev pub is_same_card : Card → Card → Bool
 is_same_card one other = one.rank == other.rank && one.suit == other.suit
 
--- whether a card comes twice in a list of cards: the first card is the same as a later one, or a card comes twice in the rest
+-- whether a card comes twice in a list of cards: the first card is the same as a later one, or a card comes twice in
+-- the rest
 abbrev pub repeats_a_card : List Card → Bool
 repeats_a_card [] = false
 repeats_a_card (card ∷ cards) = list_any (is_same_card card) cards || repeats_a_card cards
@@ -21,6 +22,9 @@ repeats_a_card (card ∷ cards) = list_any (is_same_card card) cards || repeats_
 abbrev pub index_of : Card → ℕ
 index_of card = (card.rank - 2) * 4 + card.suit
 
--- in order, the card at each place, counted from 0, has a rank that is 2 more than the place divided by 4, and the remainder is its suit: from the twos to the aces, and of each rank clubs, diamonds, hearts, spades
+-- in order, the card at each place, counted from 0, has a rank that is 2 more than the place divided by 4, and the
+-- remainder is its suit: from the twos to the aces, and of each rank clubs, diamonds, hearts, spades
 abbrev pub IsInOrder : List Card → Type 0
-IsInOrder cards = (place : ℕ) (other : Card) → place < 52 → ((slice_index_or cards place other).rank ≡ 2 + place / 4) × ((slice_index_or cards place other).suit ≡ place % 4)
+IsInOrder cards = (place : ℕ) (other : Card) → place < 52
+    → ((slice_index_or cards place other).rank ≡ 2 + place / 4)
+    × ((slice_index_or cards place other).suit ≡ place % 4)

@@ -10,7 +10,13 @@ ghost use Rattle.deal_order.specs.DealOrder.{count_up, deal_places};
 /// places of all hole cards, burned cards and cards of the board, in the order in which they are dealt, are 0, 1, 2
 /// and so on. So each is above all before it, and with at most four hole cards each is one of the 52.
 pub fn the_deal_takes_the_top_cards()
-    ensures in_order { (dealt : List Bool) (button seats holes : ℕ) → AreSeatsOf seats dealt → seats ≤ 10 → button ≤ seats → deal_places dealt button seats holes ≡ count_up 0 (holes * seat_count dealt + 8) }
-    ensures apart { (dealt : List Bool) (button seats holes : ℕ) → AreSeatsOf seats dealt → seats ≤ 10 → button ≤ seats → are_rising (deal_places dealt button seats holes) ≡ true }
-    ensures within { (dealt : List Bool) (button seats holes : ℕ) → AreSeatsOf seats dealt → seats ≤ 10 → button ≤ seats → holes ≤ 4 → list_all (λ place. nat_lt place 52) (deal_places dealt button seats holes) ≡ true }
+    ensures in_order { (dealt : List Bool) (button seats holes : ℕ)
+        → AreSeatsOf seats dealt → seats ≤ 10 → button ≤ seats
+        → deal_places dealt button seats holes ≡ count_up 0 (holes * seat_count dealt + 8) }
+    ensures apart { (dealt : List Bool) (button seats holes : ℕ)
+        → AreSeatsOf seats dealt → seats ≤ 10 → button ≤ seats
+        → are_rising (deal_places dealt button seats holes) ≡ true }
+    ensures within { (dealt : List Bool) (button seats holes : ℕ)
+        → AreSeatsOf seats dealt → seats ≤ 10 → button ≤ seats → holes ≤ 4
+        → list_all (λ place. nat_lt place 52) (deal_places dealt button seats holes) ≡ true }
 {}

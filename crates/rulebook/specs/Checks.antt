@@ -12,4 +12,5 @@ first_that_holds (check ∷ checks) = if check.1 then Some check.0 else first_th
 
 -- What a function of a group of checks gives: Ok exactly where none of them holds, and Err with the first that does.
 abbrev pub IsChecked : {A T : Type 0} → List (A × Bool) → Result T A → Type 0
-IsChecked checks result = MatchResult result (λ _. first_that_holds checks ≡ None) (λ found. first_that_holds checks ≡ Some found)
+IsChecked checks result =
+    MatchResult result (λ _. first_that_holds checks ≡ None) (λ found. first_that_holds checks ≡ Some found)

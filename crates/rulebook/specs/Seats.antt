@@ -30,7 +30,8 @@ occupied_clockwise_after seats occupied seat = filter occupied (clockwise_after 
 abbrev pub next_occupied_after : ℕ → (ℕ → Bool) → ℕ → ℕ
 next_occupied_after seats occupied seat = unwrap_or (find occupied (clockwise_after seats seat)) seat
 
--- The nearest occupied seat before this one: the first that is occupied counter-clockwise, and this one itself where no seat is.
+-- The nearest occupied seat before this one: the first that is occupied counter-clockwise, and this one itself where no
+-- seat is.
 abbrev pub nearest_occupied_before : ℕ → (ℕ → Bool) → ℕ → ℕ
 nearest_occupied_before seats occupied seat = unwrap_or (find occupied (counter_clockwise_before seats seat)) seat
 
@@ -38,7 +39,9 @@ nearest_occupied_before seats occupied seat = unwrap_or (find occupied (counter_
 abbrev pub lowest_occupied : ℕ → (ℕ → Bool) → ℕ
 lowest_occupied seats occupied = next_occupied_after seats occupied seats
 
--- People who are listed in rising seat, clockwise from the seat after this one: those at higher seats, and then the others.
+-- People who are listed in rising seat, clockwise from the seat after this one: those at higher seats, and then the
+-- others.
 abbrev pub people_clockwise_after : {A : Type 0} → (A → ℕ) → List A → ℕ → List A
 people_clockwise_after seat_of people seat =
-    filter (λ person. nat_lt seat (seat_of person)) people ++ filter (λ person. not (nat_lt seat (seat_of person))) people
+    filter (λ person. nat_lt seat (seat_of person)) people
+    ++ filter (λ person. not (nat_lt seat (seat_of person))) people
