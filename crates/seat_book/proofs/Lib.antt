@@ -9,3 +9,4 @@ pub mod Keeping
 pub mod Calls
 pub mod TakenSeats
 pub mod TableCounts
+pub mod TakenPlaces
