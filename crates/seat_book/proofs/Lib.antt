@@ -10,3 +10,4 @@ pub mod Calls
 pub mod TakenSeats
 pub mod TableCounts
 pub mod TakenPlaces
+pub mod TableWalks
