@@ -1,0 +1,4 @@
+pub mod FreeSeats
+pub mod Movers
+pub mod Extremes
+pub mod Balances

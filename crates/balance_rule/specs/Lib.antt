@@ -1,0 +1,5 @@
+pub mod Halting
+pub mod EmptySeats
+pub mod Balance
+pub mod Filling
+pub mod Moves
