@@ -34,29 +34,30 @@ is_same_place place other = place.table == other.table && place.seat == other.se
 abbrev pub count_with : List Seated → List Place → ℕ → ℕ
 count_with players chosen table = count_at players table + count_by (is_at table) chosen
 
--- Of two tables the one with the lower count, and the earlier one where they have the same.
-abbrev pub lower_of : (ℕ → ℕ) → ℕ → ℕ → ℕ
-lower_of count table other = if nat_lt (count other) (count table) then other else table
+-- Of two tables the one with the lower count, and the first where they have the same; the other where there is but one.
+abbrev pub lower_of : (ℕ → ℕ) → Option ℕ → ℕ → Option ℕ
+lower_of count None other = Some other
+lower_of count (Some table) other = Some (if nat_lt (count other) (count table) then other else table)
 
--- The table with the lowest count of a list, the earliest such, if there is one.
+-- The table with the lowest count of a list, the first such, if there is one.
 abbrev pub lowest_table : (ℕ → ℕ) → List ℕ → Option ℕ
-lowest_table count [] = None
-lowest_table count (table ∷ tables) = Some (fold (lower_of count) table tables)
+lowest_table count tables = fold (lower_of count) None tables
 
 -- A seat is empty and not chosen.
 abbrev pub is_free : List Seated → List Place → ℕ → ℕ → Bool
 is_free players chosen table seat =
     is_empty_seat players table seat && not (list_any (is_same_place (record { table = table; seat = seat })) chosen)
 
--- The lowest seat of a table that is empty and not chosen, if there is a table and it has one.
+-- A place at a table, where there is a seat.
+abbrev pub place_at : ℕ → Option ℕ → Option Place
+place_at table None = None
+place_at table (Some seat) = Some (record { table = table; seat = seat })
+
+-- The place with the lowest seat of a table that is empty and not chosen, if there is a table and it has one.
 abbrev pub seat_there : Seating → List Place → Option ℕ → Option Place
 seat_there seating chosen None = None
 seat_there seating chosen (Some table) =
     place_at table (lowest_seat seating.seat_count (is_free seating.players chosen table))
-  where
-    place_at : ℕ → Option ℕ → Option Place
-    place_at table None = None
-    place_at table (Some seat) = Some (record { table = table; seat = seat })
 
 -- The next seat to fill when a table breaks: at the other open table with the lowest count, counting the seats that
 -- are chosen so far, of more such tables at that with the lowest number; there the lowest empty seat that is not
@@ -66,18 +67,20 @@ next_to_fill seating table chosen =
     seat_there seating chosen
     (lowest_table (count_with seating.players chosen) (other_open_tables seating table))
 
+-- The chosen seats with one more, where there is one.
+abbrev pub with_one : List Place → Option Place → Option (List Place)
+with_one chosen None = None
+with_one chosen (Some place) = Some (chosen ++ place ∷ [])
+
+-- One more seat to fill than those that are chosen.
+abbrev pub one_more : Seating → ℕ → Option (List Place) → Option (List Place)
+one_more seating table None = None
+one_more seating table (Some chosen) = with_one chosen (next_to_fill seating table chosen)
+
 -- So many seats to fill, chosen one at a time, if there are as many.
 abbrev pub filled : Seating → ℕ → ℕ → Option (List Place)
 filled seating table zero = Some []
 filled seating table (suc fewer) = one_more seating table (filled seating table fewer)
-  where
-    with_one : List Place → Option Place → Option (List Place)
-    with_one chosen None = None
-    with_one chosen (Some place) = Some (chosen ++ place ∷ [])
-
-    one_more : Seating → ℕ → Option (List Place) → Option (List Place)
-    one_more seating table None = None
-    one_more seating table (Some chosen) = with_one chosen (next_to_fill seating table chosen)
 
 -- The fill list of a table: as many seats as it has players.
 abbrev pub fill_seats : Seating → ℕ → Option (List Place)

@@ -1,0 +1,114 @@
+//! The rounds of a `SeatBook`.
+
+ghost use Rattle.std.specs.Prelude.{◌≡◌, IsTrue, false, OnOk, OnErr, if◌then◌else◌};
+ghost use Rattle.rulebook.specs.Checks.{IsChecked};
+ghost use Rattle.seat_book.specs.Places.{IsTableOf};
+ghost use Rattle.seat_book.specs.Seatings.{IsSeating};
+ghost use Rattle.hand_rounds.specs.Rounds.{is_playing, is_any_playing, is_still_to_play, holds_open, is_unfinished, begin_checks, round_checks, switch_checks, begins_with, with_begun, round_closed, switched};
+
+use balance_rule::halted;
+use floor_text::Refusal;
+use seat_book::{SeatBook, TableStatus};
+
+/// Whether a table may begin a hand: `RoundDone` exactly where hand-for-hand is on and it has begun in this round.
+pub fn may_begin(book: &SeatBook, table: u8) -> Result<(), Refusal>
+    requires { IsTableOf book.now.table_count table }
+    ensures { IsChecked (begin_checks book.now table) result }
+{
+    if book.hands() && book.status(table).begun {
+        return Err(Refusal::RoundDone);
+    }
+    Ok(())
+}
+
+/// Whether a table is still to play in the round.
+fn is_still_to_play(book: &SeatBook, table: u8) -> bool
+    requires { IsTableOf book.now.table_count table }
+    ensures { result ≡ is_still_to_play book.now table }
+{
+    book.count(table) >= 2 && !halted(book, table) && !book.status(table).begun
+}
+
+/// Whether a table holds the round open.
+fn holds_open(book: &SeatBook, table: u8) -> bool
+    requires { IsTableOf book.now.table_count table }
+    ensures { result ≡ holds_open book.now table }
+{
+    book.status(table).playing || is_still_to_play(book, table)
+}
+
+/// Whether some table plays a hand.
+fn is_any_playing(book: &SeatBook) -> bool
+    ensures { result ≡ is_any_playing book.now }
+{
+    for below in 0..book.table_count() {
+        let table = below + 1;
+        if book.status(table).playing {
+            return true;
+        }
+    }
+    false
+}
+
+/// Whether some table holds the round open.
+fn is_unfinished(book: &SeatBook) -> bool
+    ensures { result ≡ is_unfinished book.now }
+{
+    for below in 0..book.table_count() {
+        let table = below + 1;
+        if holds_open(book, table) {
+            return true;
+        }
+    }
+    false
+}
+
+/// Makes the playing tables those that have begun in the round, or none.
+fn set_begun(book: &mut SeatBook, playing: bool)
+    ensures same { book.new ≡ with_begun (begins_with playing) book.old }
+    ensures lawful { IsSeating book.new }
+{
+    for below in 0..book.table_count() {
+        let table = below + 1;
+        let status = book.status(table);
+        let begun = playing && status.playing;
+        book.set_status(table, TableStatus { begun, ..status });
+    }
+}
+
+/// Ends a round: no table has begun in the next. `RoundOpen` comes where hand-for-hand is on and a table plays or is
+/// still to play, `SwitchWrong` where hand-for-hand is off.
+pub fn close_round(book: &mut SeatBook) -> Result<(), Refusal>
+    ensures checked { IsChecked (round_checks book.old) result }
+    ensures closed { OnOk result (book.new ≡ round_closed book.old) }
+    ensures kept { OnErr result (book.new ≡ book.old) }
+    ensures lawful { OnOk result (IsSeating book.new) }
+{
+    if !book.hands() {
+        return Err(Refusal::SwitchWrong);
+    }
+    if is_unfinished(book) {
+        return Err(Refusal::RoundOpen);
+    }
+    set_begun(book, false);
+    Ok(())
+}
+
+/// Switches hand-for-hand on or off. On makes the playing tables those that have begun in the round, off empties the
+/// round. `RoundOpen` comes at off where hand-for-hand is on and a table plays, `SwitchWrong` where it is so already.
+pub fn switch(book: &mut SeatBook, on: bool) -> Result<(), Refusal>
+    ensures checked { IsChecked (switch_checks on book.old) result }
+    ensures switched { OnOk result (book.new ≡ switched on book.old) }
+    ensures kept { OnErr result (book.new ≡ book.old) }
+    ensures lawful { OnOk result (IsSeating book.new) }
+{
+    if book.hands() == on {
+        return Err(Refusal::SwitchWrong);
+    }
+    if !on && is_any_playing(book) {
+        return Err(Refusal::RoundOpen);
+    }
+    set_begun(book, on);
+    book.set_hands(on);
+    Ok(())
+}
