@@ -8,10 +8,13 @@ use Rattle.seat_book.specs.Counts.{count_at, is_open, table_numbers}
 use Rattle.seat_book.specs.Seatings.{Seating}
 use Rattle.balance_rule.specs.EmptySeats.{is_empty_seat, lowest_seat}
 
+-- A table is open and another than this one.
+abbrev pub is_other_open : Seating → ℕ → ℕ → Bool
+is_other_open seating table other = is_open seating.players other && not (other == table)
+
 -- The open tables other than this one, by number.
 abbrev pub other_open_tables : Seating → ℕ → List ℕ
-other_open_tables seating table =
-    filter (λ other. is_open seating.players other && not (other == table)) (table_numbers seating.table_count)
+other_open_tables seating table = filter (is_other_open seating table) (table_numbers seating.table_count)
 
 -- How many empty seats the other open tables have.
 abbrev pub empty_elsewhere : Seating → ℕ → ℕ
