@@ -5,3 +5,4 @@ pub mod Counting
 pub mod Chosen
 pub mod Reorders
 pub mod Names
+pub mod FillLaws

@@ -130,3 +130,14 @@ draw-exact seating table fill seats names result is = (
       (permutes-reordered bytes_eq (λ a b. (bytes_eq-Decides a b).0) (λ a. (bytes_eq-Decides a a).1 refl) names
       (names_at seating table) (IsPermutation-sym (names_at seating table) names right.players))),
 )
+
+-- What are the places and the names in some order passes the test.
+pub draw-right : (seating : Seating) (table : ℕ) (fill seats : List Place) (before names : List (List ℕ))
+    → before ≡ names_at seating table → IsPermutation fill seats → IsPermutation before names
+    → is_draw seating table fill seats names ≡ true
+draw-right seating table fill seats before names is places players =
+    let right : IsDraw seating table fill seats names = record {
+      places = places;
+      players = subst (λ (all : List (List ℕ)). IsPermutation all names) is players;
+    } in
+    (draw-exact seating table fill seats names (is_draw seating table fill seats names) refl).1 right

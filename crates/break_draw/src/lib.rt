@@ -9,6 +9,7 @@ mod checks;
 mod draws;
 mod faults;
 mod filling;
+mod laws;
 mod random;
 #[cfg(test)]
 mod tests;
@@ -17,4 +18,5 @@ pub use checks::check_draw;
 pub use draws::draw;
 pub use faults::DrawFault;
 pub use filling::fill_list;
+pub use laws::{a_break_leaves_the_tables_even, a_fill_list_has_empty_seats_elsewhere};
 pub use random::{DrawKind, generator, shuffle};
