@@ -1,20 +1,19 @@
 -- What holds of the seats that are chosen.
-use Rattle.std.proofs.Common.{◌≡◌, ◌∙◌, refl, sym, ap, subst, ℕ, zero, suc, ◌+◌, ◌-◌, ◌<◌, ◌≤◌, ◌==◌, ◌≢◌, Bool, true, false, cond, List, [], ◌∷◌, ◌++◌, Option, None, Some, inl, inr, arith}
-use Rattle.std.specs.Prelude.{not, filter, find, nat_lt, nat_le, count_by, ◌&&◌, ◌||◌, ◌⊎◌}
-use Rattle.std.specs.List.{list_all, list_any}
-use Rattle.std.proofs.lemmas.Bool.{cases_Bool, eq-eqb, eqb-true, or_cases, or_left, or_right, and_parts, and_from}
+use Rattle.std.proofs.Common.{◌≡◌, ◌∙◌, refl, sym, ap, subst, ℕ, zero, suc, ◌+◌, ◌<◌, ◌≤◌, ◌==◌, Bool, true, false, cond, List, [], ◌∷◌, Option, None, Some, inl, inr, arith}
+use Rattle.std.specs.Prelude.{filter, find, nat_le, ◌&&◌}
+use Rattle.std.specs.List.{list_all}
+use Rattle.std.proofs.lemmas.Bool.{eqb-true, or_cases, or_left, or_right, and_from}
 use Rattle.std.proofs.lemmas.Bool.Decides.{nat_tests}
-use Rattle.rulebook.specs.Seats.{seat_after, walk, clockwise_after}
+use Rattle.rulebook.specs.Seats.{seat_after, walk}
 use Rattle.seat_book.specs.declared.place.Place.{Place}
 use Rattle.seat_book.specs.Places.{IsTableOf, is_place_of}
 use Rattle.seat_book.specs.Counts.{table_numbers}
 use Rattle.seat_book.specs.Seatings.{Seating}
 use Rattle.seat_book.proofs.Numbers.{list_all-joined}
-use Rattle.seat_book.proofs.Passing.{found-passes}
-use Rattle.balance_rule.specs.EmptySeats.{is_empty_seat, lowest_seat}
-use Rattle.balance_rule.specs.Filling.{is_other_open, other_open_tables, is_same_place, count_with, lowest_table, is_free, place_at, seat_there, next_to_fill, filled}
+use Rattle.balance_rule.specs.EmptySeats.{lowest_seat}
+use Rattle.balance_rule.specs.Filling.{is_other_open, other_open_tables, count_with, lowest_table, is_free, place_at, seat_there, next_to_fill, filled}
 use Rattle.balance_rule.proofs.Extremes.{is_among}
-use Rattle.break_draw.proofs.Room.{lowest-among, lowest-least, filled-last}
+use Rattle.break_draw.proofs.Room.{lowest-among, filled-last}
 
 -- who is among those of a list that pass a test passes it, and is in the list
 among-passes : (test : ℕ → Bool) (number : ℕ) (numbers : List ℕ) → is_among number (filter test numbers) ≡ true

@@ -1,18 +1,16 @@
 -- The room that is left while seats are chosen, and the table with the lowest count.
 use Rattle.std.proofs.Common.{◌≡◌, ◌∙◌, refl, sym, ap, subst, ℕ, zero, suc, ◌+◌, ◌-◌, ◌<◌, ◌≤◌, ◌==◌, ◌≢◌, Bool, true, false, cond, List, [], ◌∷◌, ◌++◌, map, length, Option, None, Some, inl, inr, add-one, arith}
-use Rattle.std.specs.Prelude.{not, filter, fold, sum, nat_lt, count_by, ◌&&◌, ◌||◌, ◌⊎◌}
-use Rattle.std.proofs.lemmas.Bool.{cases_Bool, cases_eq, eq-eqb, eqb-true, or_cases, or_left, or_right, and_parts}
+use Rattle.std.specs.Prelude.{filter, fold, sum, nat_lt, ◌⊎◌}
+use Rattle.std.proofs.lemmas.Bool.{cases_eq, eq-eqb, eqb-true, or_cases, or_left, or_right}
 use Rattle.std.proofs.lemmas.Bool.Decides.{nat_tests}
 use Rattle.std.proofs.lemmas.List.Sums.{sum_by-append}
 use Rattle.rulebook.specs.Seats.{walk}
 use Rattle.seat_book.specs.declared.place.Place.{Place}
 use Rattle.seat_book.specs.declared.seated.Seated.{Seated}
-use Rattle.seat_book.specs.Places.{IsTableOf}
-use Rattle.seat_book.specs.Counts.{count_at, is_open, table_numbers}
+use Rattle.seat_book.specs.Counts.{count_at}
 use Rattle.seat_book.specs.Seatings.{Seating}
 use Rattle.seat_book.proofs.Passing.{count_by-cons}
-use Rattle.balance_rule.specs.EmptySeats.{lowest_seat}
-use Rattle.balance_rule.specs.Filling.{is_other_open, other_open_tables, empty_elsewhere, is_at, count_with, lower_of, lowest_table, is_free, place_at, seat_there, next_to_fill, with_one, one_more, filled}
+use Rattle.balance_rule.specs.Filling.{is_other_open, other_open_tables, empty_elsewhere, is_at, count_with, lower_of, lowest_table, next_to_fill, with_one, one_more, filled}
 use Rattle.balance_rule.proofs.Extremes.{is_among}
 use Rattle.break_draw.proofs.Growing.{sum-first}
 

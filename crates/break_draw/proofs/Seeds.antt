@@ -1,5 +1,5 @@
 -- The bytes from which a generator is made.
-use Rattle.std.proofs.Common.{◌≡◌, ◌∙◌, refl, sym, ap, ℕ, ◌+◌, ◌≤◌, List, [], ◌++◌, length, take, drop, append_assoc, length-append, length-drop, length-take, append-nil, arith}
+use Rattle.std.proofs.Common.{◌≡◌, ◌∙◌, refl, sym, ap, ℕ, List, [], ◌++◌, length, take, drop, append_assoc, length-append, length-drop, length-take, append-nil, arith}
 use Rattle.std.specs.Int.{w64, to_le_bytes}
 use Rattle.std.proofs.Math.Seq.{take-append_seam}
 use Rattle.std.proofs.lemmas.List.{drop_all}
@@ -8,7 +8,7 @@ use Rattle.rand_core.specs.Steps.{stream_of, steps_u32}
 use Rattle.rand_chacha.specs.ChaCha.{ChaCha, next_word, of_seed}
 use Rattle.rand.specs.Shuffle.{shuffled}
 use Rattle.break_draw.specs.declared.random.DrawKind.{DrawKind}
-use Rattle.break_draw.specs.Generator.{draw_generator, draw_bytes, words_of, drawn_order, kind_number}
+use Rattle.break_draw.specs.Generator.{draw_generator, words_of, drawn_order, kind_number}
 
 -- two numbers that are written behind one another
 two_numbers : (seed one other now last : List ℕ) → length one ≡ 8 → length other ≡ 8 → length now ≡ 32

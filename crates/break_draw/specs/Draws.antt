@@ -1,5 +1,5 @@
 -- The draw of a broken table: an order of the seats to fill and an order of its players. This project's own.
-use Rattle.std.specs.Prelude.{◌≡◌, ℕ, Bool, ◌==◌, ◌&&◌, List, length, count_by, IsPermutation, Option, None, Some, false}
+use Rattle.std.specs.Prelude.{ℕ, Bool, ◌==◌, ◌&&◌, List, length, count_by, IsPermutation, Option, None, Some, false}
 use Rattle.std.specs.List.{list_all}
 use Rattle.std.specs.Str.{bytes_eq}
 use Rattle.seat_book.specs.declared.place.Place.{Place}

@@ -1,6 +1,6 @@
-use Rattle.std.proofs.Common.{◌≡◌, ◌∙◌, ◌&&◌, sym, ap, true, false}
+use Rattle.std.proofs.Common.{◌∙◌, ◌&&◌, sym, ap}
 use Rattle.std.specs.Str.{bytes_eq}
-use Rattle.balance_rule.specs.Filling.{is_same_place, names_at}
+use Rattle.balance_rule.specs.Filling.{names_at}
 use Rattle.break_draw.specs.Draws.{is_reordered}
 use Rattle.break_draw.proofs.Reorders.{draw-exact}
 use Rattle.break_draw.proofs.checks.check_draw.Goals as goal

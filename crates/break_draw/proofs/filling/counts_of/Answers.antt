@@ -1,4 +1,4 @@
-use Rattle.std.proofs.Common.{◌≡◌, ◌∙◌, ◌+◌, ◌<◌, ◌≤◌, refl, sym, ap, set, get_or, length, get_or-set_same, get_or-set_other, below_more, length-set, arith}
+use Rattle.std.proofs.Common.{◌∙◌, length-set, arith}
 use Rattle.seat_book.specs.Counts.{count_at}
 use Rattle.break_draw.proofs.Counting.{counted-more}
 use Rattle.break_draw.proofs.filling.counts_of.Goals as goal

@@ -1,4 +1,4 @@
-use Rattle.std.proofs.Common.{◌≡◌, ◌∙◌, ◌-◌, ◌+◌, ◌≤◌, ◌*◌, refl, sym, ap, map, suc, true, false, arith}
+use Rattle.std.proofs.Common.{◌≡◌, ◌∙◌, ◌-◌, ◌+◌, sym, ap, map, suc, true, false, arith}
 use Rattle.std.specs.Prelude.{filter, sum}
 use Rattle.rulebook.specs.Seats.{walk}
 use Rattle.seat_book.specs.Counts.{count_at}

@@ -1,7 +1,6 @@
-use Rattle.std.proofs.Common.{◌≡◌, ◌∙◌, ◌+◌, ◌-◌, ◌<◌, ◌≤◌, refl, sym, ap, subst, ℕ, List, ◌++◌, ◌∷◌, [], length, get_or, set, length-set, arith}
+use Rattle.std.proofs.Common.{◌≡◌, ◌∙◌, ◌+◌, ◌<◌, ap, subst, List, ◌++◌, ◌∷◌, [], length, get_or, length-set, arith}
 use Rattle.seat_book.specs.declared.place.Place.{Place}
 use Rattle.balance_rule.specs.Filling.{count_with}
-use Rattle.break_draw.specs.Counting.{HasCounts}
 use Rattle.break_draw.proofs.Room.{filled-length, filled-more}
 use Rattle.break_draw.proofs.Counting.{counts-after, count-read}
 use Rattle.break_draw.proofs.filling.fill_list.Goals as goal

@@ -1,11 +1,10 @@
-use Rattle.std.proofs.Common.{◌≡◌, ◌∙◌, ◌+◌, ◌≤◌, ◌||◌, ◌&&◌, refl, sym, ap, ℕ, Bool, true, false, not, Some, take, length, arith}
+use Rattle.std.proofs.Common.{◌≡◌, ◌∙◌, ◌||◌, ◌&&◌, refl, sym, ap, Bool, true, false, not, length, arith}
 use Rattle.std.specs.List.{list_any}
 use Rattle.std.specs.Option.{is_some}
 use Rattle.std.proofs.lemmas.List.{take_all}
-use Rattle.button_blinds.specs.SeatSets.{has_seat, seat_count}
-use Rattle.seat_book.specs.Players.{player_at, taken_seats}
+use Rattle.button_blinds.specs.SeatSets.{has_seat}
+use Rattle.seat_book.specs.Players.{player_at}
 use Rattle.seat_book.proofs.TakenPlaces.{has_seat-taken, taken-size}
-use Rattle.balance_rule.specs.EmptySeats.{first_after}
 use Rattle.balance_rule.specs.Filling.{is_same_place, is_free}
 use Rattle.balance_rule.proofs.FreeSeats.{first-alike}
 use Rattle.break_draw.proofs.filling.free_seat.Goals as goal

@@ -1,7 +1,5 @@
-use Rattle.std.proofs.Common.{◌≡◌, ◌∙◌, ◌+◌, refl, sym, ap, subst, suc, true, false, None, Some, arith}
-use Rattle.std.specs.Prelude.{filter, fold}
-use Rattle.std.specs.Option.{ForSome}
-use Rattle.rulebook.specs.Seats.{walk}
+use Rattle.std.proofs.Common.{◌≡◌, ◌∙◌, ◌+◌, sym, ap, subst, true, false, None, arith}
+use Rattle.std.specs.Prelude.{fold}
 use Rattle.seat_book.specs.Places.{IsTableOf}
 use Rattle.balance_rule.specs.Filling.{is_other_open, lower_of}
 use Rattle.break_draw.proofs.Growing.{folded-one, passed-none}

@@ -1,5 +1,5 @@
-use Rattle.std.proofs.Common.{◌≡◌, ◌∙◌, ◌<◌, refl, sym, ap, subst, ℕ, length, Some}
-use Rattle.balance_rule.specs.Filling.{count_with, lowest_table, other_open_tables}
+use Rattle.std.proofs.Common.{◌≡◌, ◌∙◌, ◌<◌, refl, sym, subst, ℕ, length, Some}
+use Rattle.balance_rule.specs.Filling.{count_with}
 use Rattle.break_draw.proofs.Room.{lowest-has_room}
 use Rattle.break_draw.proofs.Chosen.{chosen-places}
 use Rattle.break_draw.proofs.filling.next_to_fill.Goals as goal

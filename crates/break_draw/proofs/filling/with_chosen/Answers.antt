@@ -1,5 +1,5 @@
-use Rattle.std.proofs.Common.{◌≡◌, ◌≤◌, ◌+◌, ◌==◌, cond, true, ap, ℕ, arith}
-use Rattle.button_blinds.specs.SeatSets.{seat_count, with_seat}
+use Rattle.std.proofs.Common.{◌≡◌, ◌==◌, cond, true, ap, ℕ, arith}
+use Rattle.button_blinds.specs.SeatSets.{seat_count}
 use Rattle.seat_book.proofs.TakenPlaces.{seat_count-one_more}
 use Rattle.std.proofs.lemmas.Bool.{eq-eqb}
 use Rattle.break_draw.proofs.filling.with_chosen.Goals as goal
