@@ -1,0 +1,2 @@
+pub mod BestCards
+pub mod Races
