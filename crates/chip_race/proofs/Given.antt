@@ -26,7 +26,8 @@ where_is : (new stack : ℕ) → (stack ≡ 0) ⊎ ((1 ≤ stack) × (stack < ne
 where_is new stack = grind arith
 
 -- A player is given one chip of the new unit or none.
-pub given-one_or_none : (new : ℕ) (has_won : Bool) (stack : ℕ) → 1 ≤ new → (given_value new has_won stack ≡ 0) ⊎ (given_value new has_won stack ≡ new)
+pub given-one_or_none : (new : ℕ) (has_won : Bool) (stack : ℕ) → 1 ≤ new → (given_value new has_won stack ≡ 0)
+    ⊎ (given_value new has_won stack ≡ new)
 given-one_or_none new true stack unit = inr (given-won new stack unit)
 given-one_or_none new false stack unit = elim (where_is new stack) [
   | inl empty ↦ inl (ap (given_value new false) empty ∙ given-empty new unit)
@@ -56,9 +57,11 @@ pub odd-le : (new : ℕ) (stacks : List ℕ) → sum_by (odd_value new) stacks �
 odd-le new stacks = sum_by-le-sum_by (odd_value new) (λ stack. stack) stacks (λ stack. odd-within new stack)
 
 -- What a player is given is at most six times his stack, as a chip of the new unit is at most six of the old.
-pub given-few : (old new : ℕ) (has_won : Bool) (stack : ℕ) → 1 ≤ new → new ≤ 6 * old → stack % old ≡ 0 → (stack ≡ 0 → has_won ≡ false) → given_value new has_won stack ≤ 6 * stack
+pub given-few : (old new : ℕ) (has_won : Bool) (stack : ℕ) → 1 ≤ new → new ≤ 6 * old → stack % old ≡ 0
+    → (stack ≡ 0 → has_won ≡ false) → given_value new has_won stack ≤ 6 * stack
 given-few old new has_won stack unit most whole empty = elim (where_is 1 stack) [
-  | inl none ↦ (let given : given_value new has_won stack ≡ 0 = ap (λ won. given_value new won stack) (empty none) ∙ ap (given_value new false) none ∙ given-empty new unit in omega (arith, given))
+  | inl none ↦ (let given : given_value new has_won stack ≡ 0 = ap (λ won. given_value new won stack) (empty none)
+      ∙ ap (given_value new false) none ∙ given-empty new unit in omega (arith, given))
   | inr some ↦
       let stack_some : 1 ≤ stack = grind (arith, some) in
       let enough : old ≤ stack = multiple-le old stack whole stack_some in
@@ -86,8 +89,10 @@ whole-part new stack =
 -- Every stack after a race is a whole number of chips of the new unit.
 pub stack_after-whole : (new : ℕ) (has_won : Bool) (stack : ℕ) → 1 ≤ new → stack_after new has_won stack % new ≡ 0
 stack_after-whole new has_won stack unit = elim (given-one_or_none new has_won stack unit) [
-  | inl none ↦ ap (λ given. (stack - stack % new + given) % new) none ∙ ap (λ n. n % new) (add-zero (stack - stack % new)) ∙ whole-part new stack
-  | inr one ↦ ap (λ given. (stack - stack % new + given) % new) one ∙ add-mod_right (stack - stack % new) new ∙ whole-part new stack
+  | inl none ↦ ap (λ given. (stack - stack % new + given) % new) none
+      ∙ ap (λ n. n % new) (add-zero (stack - stack % new)) ∙ whole-part new stack
+  | inr one ↦ ap (λ given. (stack - stack % new + given) % new) one ∙ add-mod_right (stack - stack % new) new
+      ∙ whole-part new stack
 ]
   where
     add-zero : (n : ℕ) → n + 0 ≡ n

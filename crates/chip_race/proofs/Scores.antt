@@ -40,7 +40,8 @@ score [] player = 0
 score (single ∷ singles) player = max (own_score single player) (score singles player)
 
 -- A card is put in order: the scores do not depend on the order.
-pub score-put_in_order : (single : SingleCard) (singles : List SingleCard) (player : ℕ) → score (put_in_order single singles) player ≡ max (own_score single player) (score singles player)
+pub score-put_in_order : (single : SingleCard) (singles : List SingleCard) (player : ℕ)
+    → score (put_in_order single singles) player ≡ max (own_score single player) (score singles player)
 unfolding put_in_order
 score-put_in_order single [] player = refl
 score-put_in_order single (other ∷ others) player =
@@ -52,10 +53,12 @@ score-put_in_order single (other ∷ others) player =
 pub score-ordered : (singles : List SingleCard) (player : ℕ) → score (ordered singles) player ≡ score singles player
 unfolding ordered
 score-ordered [] player = refl
-score-ordered (single ∷ singles) player = score-put_in_order single (ordered singles) player ∙ ap (λ n. max (own_score single player) n) (score-ordered singles player)
+score-ordered (single ∷ singles) player = score-put_in_order single (ordered singles) player
+    ∙ ap (λ n. max (own_score single player) n) (score-ordered singles player)
 
 -- A player's best card of two lists.
-pub score-append : (front behind : List SingleCard) (player : ℕ) → score (front ++ behind) player ≡ max (score front player) (score behind player)
+pub score-append : (front behind : List SingleCard) (player : ℕ) → score (front ++ behind) player
+    ≡ max (score front player) (score behind player)
 score-append [] behind player = omega arith
 score-append (single ∷ front) behind player = rw (score-append front behind player) (omega arith)
 
@@ -64,15 +67,18 @@ abbrev pub card_score : Option Card → ℕ
 card_score None = 0
 card_score (Some card) = strength card
 
-better-score : (best : Option Card) (card : Card) → card_score (better best card) ≡ max (card_score best) (strength card)
+better-score : (best : Option Card) (card : Card) → card_score (better best card)
+    ≡ max (card_score best) (strength card)
 better-score None card = omega arith
 better-score (Some best) card =
     elim (cases_Bool (is_higher card best)) [
-      | inl higher ↦ rw higher (let test = sym (is_higher-strength card best) ∙ higher in grind (arith, nat_tests, test))
+      | inl higher ↦ rw higher (let test = sym (is_higher-strength card best) ∙ higher in
+          grind (arith, nat_tests, test))
       | inr lower ↦ rw lower (let test = sym (is_higher-strength card best) ∙ lower in grind (arith, nat_tests, test))
     ]
 
-fold-score : (index : ℕ) (best : Option Card) (cards : List Card) → card_score (fold better best cards) ≡ max (card_score best) (score (cards_for index cards) index)
+fold-score : (index : ℕ) (best : Option Card) (cards : List Card) → card_score (fold better best cards)
+    ≡ max (card_score best) (score (cards_for index cards) index)
 fold-score index best [] = omega arith
 fold-score index best (card ∷ cards) =
     let own : (index == index) ≡ true = grind (arith, nat_tests) in
@@ -83,18 +89,21 @@ pub score-cards_for : (index : ℕ) (cards : List Card) → score (cards_for ind
 score-cards_for index cards = sym (fold-score index None cards ∙ omega arith)
 
 -- They give nobody else a score.
-pub score-cards_for_other : (index player : ℕ) (cards : List Card) → index ≢ player → score (cards_for index cards) player ≡ 0
+pub score-cards_for_other : (index player : ℕ) (cards : List Card) → index ≢ player
+    → score (cards_for index cards) player ≡ 0
 score-cards_for_other index player [] other = refl
 score-cards_for_other index player (card ∷ cards) other =
     let test : (player == index) ≡ false = grind (arith, nat_tests) in
     rw (test, score-cards_for_other index player cards other) refl
 
 -- The players at lower seats have no card of those that come from here on.
-pub score-single_cards_below : (old new index player : ℕ) (stacks : List ℕ) (cards : List Card) → player < index → score (single_cards old new index stacks cards) player ≡ 0
+pub score-single_cards_below : (old new index player : ℕ) (stacks : List ℕ) (cards : List Card) → player < index
+    → score (single_cards old new index stacks cards) player ≡ 0
 unfolding single_cards
 score-single_cards_below old new index player [] cards below = refl
 score-single_cards_below old new index player (stack ∷ stacks) cards below =
-    score-append (cards_for index (take (odd_chips old new stack) cards)) (single_cards old new (suc index) stacks (drop (odd_chips old new stack) cards)) player
+    score-append (cards_for index (take (odd_chips old new stack) cards))
+        (single_cards old new (suc index) stacks (drop (odd_chips old new stack) cards)) player
     ∙ rw (
       score-cards_for_other index player (take (odd_chips old new stack) cards) (omega arith),
       score-single_cards_below old new (suc index) player stacks (drop (odd_chips old new stack) cards) (omega arith),
@@ -105,20 +114,24 @@ max-zero n = omega arith
 
 -- The best cards of the players have their scores.
 pub score-best_cards : (old new index : ℕ) (stacks : List ℕ) (cards : List Card) (k : ℕ) → k < length stacks
-    → score (single_cards old new index stacks cards) (index + k) ≡ card_score (get_or (best_cards old new stacks cards) k None)
+    → score (single_cards old new index stacks cards) (index + k)
+        ≡ card_score (get_or (best_cards old new stacks cards) k None)
 unfolding single_cards best_cards
 score-best_cards old new index [] cards k within = absurd (omega arith)
 score-best_cards old new index (stack ∷ stacks) cards zero within =
     let here : index + 0 ≡ index = omega arith in
     rw here
-    (score-append (cards_for index (take (odd_chips old new stack) cards)) (single_cards old new (suc index) stacks (drop (odd_chips old new stack) cards)) index
+    (score-append (cards_for index (take (odd_chips old new stack) cards))
+        (single_cards old new (suc index) stacks (drop (odd_chips old new stack) cards)) index
     ∙ rw (
       score-cards_for index (take (odd_chips old new stack) cards),
       score-single_cards_below old new (suc index) index stacks (drop (odd_chips old new stack) cards) (omega arith),
     ) (omega arith))
 score-best_cards old new index (stack ∷ stacks) cards (suc k) within =
     let there : index + suc k ≡ suc index + k = omega arith in
-    score-append (cards_for index (take (odd_chips old new stack) cards)) (single_cards old new (suc index) stacks (drop (odd_chips old new stack) cards)) (index + suc k)
+    score-append (cards_for index (take (odd_chips old new stack) cards))
+        (single_cards old new (suc index) stacks (drop (odd_chips old new stack) cards)) (index + suc k)
     ∙ rw (score-cards_for_other index (index + suc k) (take (odd_chips old new stack) cards) (omega arith))
-    (ap (λ player. max 0 (score (single_cards old new (suc index) stacks (drop (odd_chips old new stack) cards)) player)) there ∙ max-zero _
+    (ap (λ player. max 0 (score (single_cards old new (suc index) stacks (drop (odd_chips old new stack) cards))
+        player)) there ∙ max-zero _
     ∙ score-best_cards old new (suc index) stacks (drop (odd_chips old new stack) cards) k (omega arith))

@@ -23,7 +23,8 @@ abbrev pub is_ahead : Option Card → Card → Bool
 is_ahead None mine = false
 is_ahead (Some card) mine = is_higher card mine
 
--- A player is among the first so many by their best cards where he has a card and fewer players than that have a better one.
+-- A player is among the first so many by their best cards where he has a card and fewer players than that have a
+-- better one.
 abbrev pub is_among_first : List (Option Card) → ℕ → Option Card → Bool
 is_among_first best chips None = false
 is_among_first best chips (Some mine) = nat_lt (count_by (λ other. is_ahead other mine) best) chips

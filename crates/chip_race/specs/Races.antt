@@ -1,4 +1,6 @@
--- A chip race at a table, from an old unit to a new one. The Poker TDA Rules and Robert's Rules of Poker: odd chips are raced off by cards that are dealt in seat order, the highest single cards win one chip each of the new unit, at most one to a player, and nobody is raced out of play.
+-- A chip race at a table, from an old unit to a new one. The Poker TDA Rules and Robert's Rules of Poker: odd chips
+-- are raced off by cards that are dealt in seat order, the highest single cards win one chip each of the new unit, at
+-- most one to a player, and nobody is raced out of play.
 use Rattle.std.specs.Prelude.{ℕ, suc, ◌+◌, ◌-◌, ◌/◌, ◌%◌, ◌==◌, ◌&&◌, ◌||◌, nat_lt, Bool, not, if◌then◌else◌, List, [], ◌∷◌, ◌++◌, take, drop, map, filter, sum_by}
 use Rattle.std.specs.List.{list_any, list_all, enumerate_from}
 use Rattle.card_set.specs.declared.card.Card.{Card}
@@ -73,7 +75,8 @@ is_among players index = list_any (λ player. index == player) players
 abbrev pub raced : ℕ → Bool → ℕ → ℕ
 raced new has_won stack = (stack - odd_value new stack) + (if has_won then new else 0)
 
--- The protection: a player whose stack is then 0 gets one chip of the new unit. An empty seat has no stack and no player.
+-- The protection: a player whose stack is then 0 gets one chip of the new unit. An empty seat has no stack and no
+-- player.
 abbrev pub is_protected : ℕ → Bool → ℕ → Bool
 is_protected new has_won stack = nat_lt 0 stack && raced new has_won stack == 0
 

@@ -8,5 +8,6 @@ use Rattle.chip_race.proofs.racing.removed_value.Goals as goal
 pub overflow_add-removed : goal.overflow_add-removed
 overflow_add-removed c =
     let more = sum_by_more_le (odd_value c.args.new) c.args.stacks.now c.loop-stack.stack-index 0 (omega arith) in
-    let within : sum_by (odd_value c.args.new) c.args.stacks.now ≤ sum c.args.stacks.now = odd-le c.args.new c.args.stacks.now in
+    let within : sum_by (odd_value c.args.new) c.args.stacks.now ≤ sum c.args.stacks.now =
+        odd-le c.args.new c.args.stacks.now in
     omega (arith, more, within, c.loop-stack.invariant, c.requires.fits)
