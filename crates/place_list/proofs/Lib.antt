@@ -1,0 +1,9 @@
+pub mod BustRows
+pub mod Counts
+pub mod InOrder
+pub mod Orderings
+pub mod PrizeLists
+pub mod Ranks
+pub mod Sorting
+pub mod Sums
+pub mod TieBlocks

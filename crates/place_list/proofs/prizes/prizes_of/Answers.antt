@@ -1,0 +1,56 @@
+use Rattle.std.proofs.Common.{◌≡◌, ◌∙◌, ◌≤◌, ap, sym, ℕ, ◌-◌, ◌*◌, [], ◌∷◌, ◌++◌, take, arith, rules}
+use Rattle.std.specs.Prelude.{sum, map}
+use Rattle.std.proofs.lemmas.List.Sums.{sum_by-take-le, sum_by-append}
+use Rattle.std.proofs.lemmas.List.{take_all}
+use Rattle.place_list.specs.Prizes.{part_of, parts, pool_of, first_gets, prizes_of}
+use Rattle.place_list.proofs.PrizeLists.{part-left, parts-more, take-min}
+use Rattle.place_list.proofs.prizes.prizes_of.Goals as goal
+
+pub overflow_sub-left : goal.overflow_sub-left
+overflow_sub-left c =
+    let few : sum (take c.min.result c.args.shares.now) ≤ 1000 =
+    (let within = sum_by-take-le (λ n. n) c.args.shares.now c.min.result in
+    omega (arith, within, c.requires.shares)) in
+    let enough = part-left _ (take c.min.result c.args.shares.now) c.loop-share.prizes.items c.loop-share.left
+    c.loop-share.share-index (omega arith) few c.loop-share.invariant.parts c.loop-share.invariant.whole in
+    rw c.part_of-part.ensures enough
+
+pub loop-share-preserved : goal.loop-share-preserved
+loop-share-preserved c =
+    let items : c.push.new.self.items ≡ c.loop-share.prizes.items ++ c.part_of-part.result ∷ [] = search rules in
+    let grown = ap sum items ∙ sum_by-append (λ (n : ℕ). n) c.loop-share.prizes.items (c.part_of-part.result ∷ []) in
+    let few : sum (take c.min.result c.args.shares.now) ≤ 1000 =
+    (let within = sum_by-take-le (λ n. n) c.args.shares.now c.min.result in
+    omega (arith, within, c.requires.shares)) in
+    let enough = part-left _ (take c.min.result c.args.shares.now) c.loop-share.prizes.items c.loop-share.left
+    c.loop-share.share-index (omega arith) few c.loop-share.invariant.parts c.loop-share.invariant.whole in
+    let part = c.part_of-part.ensures in
+    record {
+      parts = items ∙ ap (λ front. front ++ c.part_of-part.result ∷ []) c.loop-share.invariant.parts
+          ∙ ap (λ last. map (part_of (c.from.result * c.args.buyin))
+          (take c.loop-share.share-index (take c.min.result c.args.shares.now)) ++ last ∷ []) part
+          ∙ sym (parts-more (c.from.result * c.args.buyin)
+          (take c.min.result c.args.shares.now) c.loop-share.share-index (omega arith));
+      whole = omega (arith, grown, enough, part, c.loop-share.invariant.whole);
+    }
+
+pub returns-clause-prizes : goal.returns-clause-prizes
+unfolding prizes_of
+returns-clause-prizes c =
+    let shares : take c.loop-share.share-index (take c.min.result c.args.shares.now)
+    ≡ take c.args.entries c.args.shares.now =
+    take_all c.loop-share.share-index (take c.min.result c.args.shares.now) (omega arith)
+    ∙ take-min c.args.shares.now c.args.entries c.min.result c.min.ensures in
+    let pool : c.from.result * c.args.buyin ≡ c.args.entries * c.args.buyin =
+    ap (λ n. n * c.args.buyin) c.from.ensures in
+    let items : c.loop-share.prizes.items
+    ≡ parts c.args.entries (pool_of c.args.entries c.args.buyin) c.args.shares.now =
+    c.loop-share.invariant.parts ∙ ap (map (part_of (c.from.result * c.args.buyin))) shares
+    ∙ ap (λ n. map (part_of n) (take c.args.entries c.args.shares.now)) pool in
+    let total = ap sum items in
+    let left : c.loop-share.left ≡ pool_of c.args.entries c.args.buyin - sum
+    (parts c.args.entries (pool_of c.args.entries c.args.buyin) c.args.shares.now) =
+    omega (arith, total, pool, c.loop-share.invariant.whole) in
+    c.first_gets.ensures ∙ ap (λ n. first_gets n c.loop-share.prizes.items) left
+    ∙ ap (first_gets (pool_of c.args.entries c.args.buyin - sum
+    (parts c.args.entries (pool_of c.args.entries c.args.buyin) c.args.shares.now))) items

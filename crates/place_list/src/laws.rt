@@ -1,0 +1,42 @@
+//! What holds of all places and prizes.
+
+ghost use Rattle.std.specs.Prelude.{◌≡◌, ◌+◌, ◌*◌, ◌<◌, ◌≤◌, ◌==◌, ◌||◌, ℕ, true, List, length, map, sum, sum_by, slice_index_or, None, Some};
+ghost use Rattle.rulebook.specs.Pairs.{are_distinct};
+ghost use Rattle.place_list.specs.declared.bust.Bust.{Bust};
+ghost use Rattle.place_list.specs.Places.{place_of, tied, is_ahead, ties};
+ghost use Rattle.place_list.specs.Standings.{standings_of};
+
+/// Players who tie share a place.
+pub fn players_who_tie_share_a_place()
+    ensures { (entries : ℕ) (busts : List Bust) (one other : Bust) → ties one other ≡ true
+        → place_of entries busts one ≡ place_of entries busts other }
+{}
+
+/// A player who is ahead is placed higher: his place and the places of all who share it come first.
+pub fn who_is_ahead_is_placed_higher()
+    ensures { (entries : ℕ) (busts : List Bust) (one other : Bust) → is_ahead one other ≡ true
+        → place_of entries busts one + tied busts one ≤ place_of entries busts other }
+{}
+
+/// Where nobody is between two players, the next place counts just those who share the place before.
+pub fn the_next_place_counts_those_who_tie()
+    ensures { (entries : ℕ) (busts : List Bust) (one other : Bust) → is_ahead one other ≡ true
+        → ((index : ℕ) (d : Bust) → index < length busts → is_ahead (slice_index_or busts index d) other ≡ true
+        → (is_ahead (slice_index_or busts index d) one || ties (slice_index_or busts index d) one) ≡ true)
+        → place_of entries busts other ≡ place_of entries busts one + tied busts one }
+{}
+
+/// All prizes of a tournament that is over, in which one player is left, sum to the pool: a buy-in for each entry.
+pub fn all_prizes_sum_to_the_pool()
+    ensures { (entries last buyin : ℕ) (shares : List ℕ) (busts : List Bust)
+        → are_distinct (λ one other. one == other) (map (λ bust. bust.player) busts) ≡ true
+        → entries ≡ length busts + 1 → 1 ≤ length shares → sum shares ≤ 1000
+        → sum_by (λ standing. standing.prize) (standings_of entries (Some last) buyin shares busts) ≡ entries * buyin }
+{}
+
+/// The prizes of those who are out never sum to more than the pool.
+pub fn prizes_of_those_who_are_out_are_within_the_pool()
+    ensures { (entries buyin : ℕ) (shares : List ℕ) (busts : List Bust)
+        → are_distinct (λ one other. one == other) (map (λ bust. bust.player) busts) ≡ true → sum shares ≤ 1000
+        → sum_by (λ standing. standing.prize) (standings_of entries None buyin shares busts) ≤ entries * buyin }
+{}
