@@ -20,9 +20,9 @@ unfolding best_cards
 best-more old new stacks left best whole index within room so_far =
     so_far
     ∙ ap (λ behind. take index best ++ best_cards old new behind left) (drop-cons stacks index 0 within
-        ∙ ap (λ n. get_or stacks index 0 ∷ drop n stacks) (sym (add-one index)))
+    ∙ ap (λ n. get_or stacks index 0 ∷ drop n stacks) (sym (add-one index)))
     ∙ sym (append_assoc (take index best) (highest (take (odd_chips old new (get_or stacks index 0)) left) ∷ [])
-        (best_cards old new (drop (index + 1) stacks) (drop (odd_chips old new (get_or stacks index 0)) left)))
+    (best_cards old new (drop (index + 1) stacks) (drop (odd_chips old new (get_or stacks index 0)) left)))
     ∙ ap (λ front. front ++ best_cards old new (drop (index + 1) stacks)
-        (drop (odd_chips old new (get_or stacks index 0)) left))
-        (sym (take_more_set best index (highest (take (odd_chips old new (get_or stacks index 0)) left)) room))
+    (drop (odd_chips old new (get_or stacks index 0)) left))
+    (sym (take_more_set best index (highest (take (odd_chips old new (get_or stacks index 0)) left)) room))

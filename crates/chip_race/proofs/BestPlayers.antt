@@ -31,28 +31,34 @@ unfolding single_cards
 map-single_cards old new index [] cards = refl
 map-single_cards old new index (stack ∷ stacks) cards =
     map-append (cards_for index (take (odd_chips old new stack) cards))
-        (single_cards old new (suc index) stacks (drop (odd_chips old new stack) cards))
-    ∙ rw (map-cards_for index (take (odd_chips old new stack) cards), map-single_cards old new (suc index) stacks
-        (drop (odd_chips old new stack) cards))
+    (single_cards old new (suc index) stacks (drop (odd_chips old new stack) cards))
+    ∙ rw (
+      map-cards_for index (take (odd_chips old new stack) cards),
+      map-single_cards old new (suc index) stacks
+          (drop (odd_chips old new stack) cards),
+    )
     (sym (ap (λ n. take n cards) (sum_by-cons (odd_chips old new) stack stacks) ∙ take-add (odd_chips old new stack)
-        (sum_by (odd_chips old new) stacks) cards))
+    (sum_by (odd_chips old new) stacks) cards))
 
 -- Where each card differs from each later one, no two have the same strength.
 Apart-from : (card : Card) (singles : List SingleCard)
     → ((k : ℕ) (d : Card) → k < length singles
     → card ≢ get_or (map (λ (single : SingleCard). single.card) singles) k d) → Apart card singles
 Apart-from card [] differs = tt
-Apart-from card (single ∷ singles) differs =
-    ((λ same. differs zero card (omega arith) (same_strength card single.card same)), Apart-from card singles
-        (λ k d within. differs (suc k) d (omega arith)))
+Apart-from card (single ∷ singles) differs = (
+  (λ same. differs zero card (omega arith) (same_strength card single.card same)),
+  Apart-from card singles
+      (λ k d within. differs (suc k) d (omega arith)),
+)
 
 AllApart-from : (singles : List SingleCard) → ((i j : ℕ) (d : Card) → i < j → j < length singles
     → get_or (map (λ (single : SingleCard). single.card) singles) i d ≢ get_or
     (map (λ (single : SingleCard). single.card) singles) j d) → AllApart singles
 AllApart-from [] differ = tt
-AllApart-from (single ∷ singles) differ =
-    (Apart-from single.card singles (λ k d within. differ zero (suc k) d (omega arith) (omega arith)),
-        AllApart-from singles (λ i j d before within. differ (suc i) (suc j) d (omega arith) (omega arith)))
+AllApart-from (single ∷ singles) differ = (
+  Apart-from single.card singles (λ k d within. differ zero (suc k) d (omega arith) (omega arith)),
+  AllApart-from singles (λ i j d before within. differ (suc i) (suc j) d (omega arith) (omega arith)),
+)
 
 length-map : (singles : List SingleCard) → length (map (λ (single : SingleCard). single.card) singles) ≡ length singles
 length-map [] = refl
@@ -65,8 +71,8 @@ AllApart-single_cards old new index stacks cards deck =
     AllApart-from (single_cards old new index stacks cards) (λ i j d before within same.
     let dealt = map-single_cards old new index stacks cards in
     let size : length (take (sum_by (odd_chips old new) stacks) cards)
-        ≡ length (single_cards old new index stacks cards) = ap length (sym dealt)
-        ∙ length-map (single_cards old new index stacks cards) in
+    ≡ length (single_cards old new index stacks cards) = ap length (sym dealt)
+    ∙ length-map (single_cards old new index stacks cards) in
     let bound = within_take (sum_by (odd_chips old new) stacks) cards j (omega arith) in
     deck.distinct i j d before (omega (arith, bound.1))
     (sym (get_or-take (sum_by (odd_chips old new) stacks) cards i d (omega (arith, bound.0)))
@@ -85,13 +91,14 @@ Seated-append : (front behind : List SingleCard) → Seated front → Seated beh
 Seated-append [] behind first second = second
 Seated-append (single ∷ front) behind first second = (first.0, Seated-append front behind first.1 second)
 
-Seated-single_cards : (old new index : ℕ) (stacks : List ℕ) (cards : List Card) → index + length stacks ≤ 10
+-- Each player of the cards of a race has a seat.
+pub Seated-single_cards : (old new index : ℕ) (stacks : List ℕ) (cards : List Card) → index + length stacks ≤ 10
     → Seated (single_cards old new index stacks cards)
 unfolding single_cards
 Seated-single_cards old new index [] cards seats = tt
 Seated-single_cards old new index (stack ∷ stacks) cards seats =
     Seated-append (cards_for index (take (odd_chips old new stack) cards))
-        (single_cards old new (suc index) stacks (drop (odd_chips old new stack) cards))
+    (single_cards old new (suc index) stacks (drop (odd_chips old new stack) cards))
     (Seated-cards_for index (take (odd_chips old new stack) cards) (omega arith))
     (Seated-single_cards old new (suc index) stacks (drop (odd_chips old new stack) cards) (omega arith))
 
@@ -105,23 +112,23 @@ pub winners-score : (old new chips : ℕ) (stacks : List ℕ) (cards : List Card
     → is_among (winners old new chips stacks cards) player
     ≡ (nat_lt 0 (score (single_cards old new 0 stacks cards) player)
     && nat_lt (count_from 0 10 (λ other. nat_lt (score (single_cards old new 0 stacks cards) player)
-        (score (single_cards old new 0 stacks cards) other))) chips)
+    (score (single_cards old new 0 stacks cards) other))) chips)
 unfolding winners
 winners-score old new chips stacks cards player seats deck =
     let singles = single_cards old new 0 stacks cards in
     let falling = Falling-ordered singles (AllApart-single_cards old new 0 stacks cards deck) in
     let counts : count_from 0 10 (λ other. comes_before (ordered singles) other player)
-        ≡ count_from 0 10 (λ other. nat_lt (score singles player) (score singles other)) =
+    ≡ count_from 0 10 (λ other. nat_lt (score singles player) (score singles other)) =
     count_from-same 0 10 (λ other. comes_before (ordered singles) other player)
-        (λ other. nat_lt (score singles player) (score singles other))
+    (λ other. nat_lt (score singles player) (score singles other))
     (λ other low high. comes_before-score (ordered singles) falling other player
-        ∙ ap (λ n. nat_lt n (score (ordered singles) other)) (score-ordered singles player)
-        ∙ ap (λ n. nat_lt (score singles player) n) (score-ordered singles other)) in
+    ∙ ap (λ n. nat_lt n (score (ordered singles) other)) (score-ordered singles player)
+    ∙ ap (λ n. nat_lt (score singles player) n) (score-ordered singles other)) in
     ap (λ players. is_among (take chips players) player) (sym (filter-all (players_in_order (ordered singles))))
     ∙ among-first (ordered singles) (λ other. true) chips player
-        (Seated-ordered singles (Seated-single_cards old new 0 stacks cards (omega arith)))
+    (Seated-ordered singles (Seated-single_cards old new 0 stacks cards (omega arith)))
     ∙ ap (λ n. nat_lt 0 n && nat_lt (count_from 0 10 (λ other. comes_before (ordered singles) other player)) chips)
-        (score-ordered singles player)
+    (score-ordered singles player)
     ∙ ap (λ n. nat_lt 0 (score singles player) && nat_lt n chips) counts
 
 from-zero : (k : ℕ) → k ≡ 0 + k
@@ -144,15 +151,15 @@ length-best_cards old new (stack ∷ stacks) cards =
 among_by_score : (best : List (Option Card)) (scores : ℕ → ℕ) (chips : ℕ) (own : Option Card) (mine : ℕ) → length best
     ≡ 10 → ((k : ℕ) → k < 10 → scores k ≡ card_score (get_or best k None)) → mine ≡ card_score own
     → is_among_first best chips own
-        ≡ (nat_lt 0 mine && nat_lt (count_from 0 10 (λ other. nat_lt mine (scores other))) chips)
+    ≡ (nat_lt 0 mine && nat_lt (count_from 0 10 (λ other. nat_lt mine (scores other))) chips)
 among_by_score best scores chips None mine seats are is = rw is refl
 among_by_score best scores chips (Some card) mine seats are is =
     let some : nat_lt 0 (strength card) ≡ true = positive (strength card) (strength-some card) in
     let counts : count_by (λ other. is_ahead other card) best
-        ≡ count_from 0 10 (λ other. nat_lt (strength card) (scores other)) =
+    ≡ count_from 0 10 (λ other. nat_lt (strength card) (scores other)) =
     count_by-count_from (λ other. is_ahead other card) best 0 (λ other. nat_lt (strength card) (scores other)) None
     (λ k within. is_ahead-score (get_or best k None) card ∙ ap (λ n. nat_lt (strength card) n)
-        (sym (are k (omega arith))) ∙ ap (λ n. nat_lt (strength card) (scores n)) (from-zero k))
+    (sym (are k (omega arith))) ∙ ap (λ n. nat_lt (strength card) (scores n)) (from-zero k))
     ∙ ap (λ n. count_from 0 n (λ other. nat_lt (strength card) (scores other))) seats in
     rw (is, some, counts) refl
   where
@@ -163,10 +170,10 @@ among_by_score best scores chips (Some card) mine seats are is =
 pub winners-best_cards : (old new chips : ℕ) (stacks : List ℕ) (cards : List Card) (player : ℕ) → length stacks ≡ 10
     → IsDeck cards → player < 10
     → is_among_first (best_cards old new stacks cards) chips (get_or (best_cards old new stacks cards) player None)
-        ≡ is_among (winners old new chips stacks cards) player
+    ≡ is_among (winners old new chips stacks cards) player
 winners-best_cards old new chips stacks cards player seats deck within =
     among_by_score (best_cards old new stacks cards) (score (single_cards old new 0 stacks cards)) chips
-        (get_or (best_cards old new stacks cards) player None)
+    (get_or (best_cards old new stacks cards) player None)
     (score (single_cards old new 0 stacks cards) player) (length-best_cards old new stacks cards ∙ seats)
     (λ k below. best_at k (omega arith)) (best_at player (omega arith))
     ∙ sym (winners-score old new chips stacks cards player seats deck)

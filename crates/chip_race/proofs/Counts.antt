@@ -15,7 +15,7 @@ count_from-same first zero one other same = refl
 count_from-same first (suc more) one other same =
     let here : one first ≡ other first = same first (omega arith) (omega arith) in
     let there : count_from (suc first) more one ≡ count_from (suc first) more other =
-        count_from-same (suc first) more one other (λ k low high. same k (omega arith) (omega arith)) in
+    count_from-same (suc first) more one other (λ k low high. same k (omega arith) (omega arith)) in
     rw (here, there) refl
 
 -- One number more passes.
@@ -29,12 +29,12 @@ count_from-more first (suc more) extra one other low high passed failed same =
           let first_yes : one first ≡ true = ap one here ∙ passed in
           let first_no : other first ≡ false = ap other here ∙ failed in
           let rest : count_from (suc first) more one ≡ count_from (suc first) more other =
-              count_from-same (suc first) more one other (λ k above within. same k (omega arith)) in
+          count_from-same (suc first) more one other (λ k above within. same k (omega arith)) in
           rw (first_yes, first_no, rest) (omega arith)
       | inr below ↦
           let first_same : one first ≡ other first = same first (omega arith) in
           let rest : count_from (suc first) more one ≡ suc (count_from (suc first) more other) =
-              count_from-more (suc first) more extra one other (omega arith) (omega arith) passed failed same in
+          count_from-more (suc first) more extra one other (omega arith) (omega arith) passed failed same in
           rw (first_same, rest) (omega arith)
     ]
   where
@@ -58,6 +58,6 @@ count_by-count_from pass [] first test d same = refl
 count_by-count_from {A = A} pass (item ∷ items) first test d same =
     let here : pass item ≡ test first = same zero (omega arith) ∙ ap test (omega arith) in
     let there : count_by pass items ≡ count_from (suc first) (length items) test = count_by-count_from pass items
-        (suc first) test d (λ k within. same (suc k) (omega arith) ∙ ap test (omega arith)) in
+    (suc first) test d (λ k within. same (suc k) (omega arith) ∙ ap test (omega arith)) in
     sum_by-cons (λ (item : A). if pass item then 1 else 0) item items ∙ count_step (pass item) (test first)
-        (count_by pass items) _ here there
+    (count_by pass items) _ here there

@@ -1,5 +1,6 @@
 pub mod Best
 pub mod BestPlayers
+pub mod Chips
 pub mod Counts
 pub mod Given
 pub mod Order

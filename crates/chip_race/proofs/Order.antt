@@ -38,6 +38,7 @@ Apart-put_in_order card single (other ∷ others) differs apart =
       | inr lower ↦ rw lower (apart.0, Apart-put_in_order card single others differs apart.1)
     ]
 
+-- A card that is apart from others is apart from them in order.
 pub Apart-ordered : (card : Card) (singles : List SingleCard) → Apart card singles → Apart card (ordered singles)
 unfolding ordered
 Apart-ordered card [] apart = tt
@@ -54,6 +55,7 @@ Seated-put_in_order single (other ∷ others) here seated =
       | inr lower ↦ rw lower (seated.0, Seated-put_in_order single others here seated.1)
     ]
 
+-- Players who have seats have them in order, too.
 pub Seated-ordered : (singles : List SingleCard) → Seated singles → Seated (ordered singles)
 unfolding ordered
 Seated-ordered [] seated = tt
@@ -71,16 +73,18 @@ Falling-put_in_order single (other ∷ others) apart falling =
     elim (cases_Bool (is_higher single.card other.card)) [
       | inl higher ↦
           let above : strength other.card < strength single.card =
-              (let test = sym (is_higher-strength single.card other.card) ∙ higher in
-              grind (arith, nat_tests, test)) in
+          (let test = sym (is_higher-strength single.card other.card) ∙ higher in
+          grind (arith, nat_tests, test)) in
           rw higher ((λ player. omega (arith, falling.0 player, own_score-le other player, above)), falling)
       | inr lower ↦
           let below : strength single.card < strength other.card =
-              (let test = sym (is_higher-strength single.card other.card) ∙ lower in let differs = apart.0 in
-              grind (arith, nat_tests, test)) in
-          rw lower ((λ player. rw (score-put_in_order single others player)
-              (omega (arith, falling.0 player, own_score-le single player, below))),
-              Falling-put_in_order single others apart.1 falling.1)
+          (let test = sym (is_higher-strength single.card other.card) ∙ lower in let differs = apart.0 in
+          grind (arith, nat_tests, test)) in
+          rw lower (
+            (λ player. rw (score-put_in_order single others player)
+                (omega (arith, falling.0 player, own_score-le single player, below))),
+            Falling-put_in_order single others apart.1 falling.1,
+          )
     ]
 
 -- Cards of which no two have the same strength fall in order.
@@ -108,12 +112,12 @@ comes_before-score (single ∷ singles) falling one other =
     let top_other = falling.0 other in
     let later = comes_before-score singles falling.1 one other in
     step (other == single.index) (one == single.index) (strength single.card) (score singles one)
-        (score singles other) (comes_before singles one other) top_one top_other later
+    (score singles other) (comes_before singles one other) top_one top_other later
   where
     step : (is_other is_one : Bool) (top one_score other_score : ℕ) (before : Bool) → one_score < top
         → other_score < top → before ≡ nat_lt other_score one_score
         → (not is_other && (is_one || before)) ≡ nat_lt (max (if is_other then top else 0) other_score)
-            (max (if is_one then top else 0) one_score)
+        (max (if is_one then top else 0) one_score)
     step true true top one_score other_score before below_one below_other is = grind (arith, nat_tests)
     step true false top one_score other_score before below_one below_other is = grind (arith, nat_tests)
     step false true top one_score other_score before below_one below_other is = grind (arith, nat_tests)
@@ -121,7 +125,8 @@ comes_before-score (single ∷ singles) falling one other =
         ∙ sym (ap (λ n. nat_lt n (max 0 one_score)) (max-zero other_score) ∙ ap (λ n. nat_lt other_score n)
         (max-zero one_score))
 
-filter-filter : (one other : ℕ → Bool) (items : List ℕ) → filter one (filter other items)
+-- What passes one test and then another passes both.
+pub filter-filter : (one other : ℕ → Bool) (items : List ℕ) → filter one (filter other items)
     ≡ filter (λ item. other item && one item) items
 filter-filter one other [] = refl
 filter-filter one other (item ∷ items) =
@@ -146,46 +151,46 @@ point-kept false before = refl
 -- A player who is left out changes nothing.
 left-out : (player out : ℕ) (keep before : ℕ → Bool) (top rest chips : ℕ) → keep out ≡ false
     → (((not (player == out) && keep player) && nat_lt 0 rest) && nat_lt
-        (count_from 0 10 (λ other. (not (other == out) && keep other) && before other)) chips)
+    (count_from 0 10 (λ other. (not (other == out) && keep other) && before other)) chips)
     ≡ ((keep player && nat_lt 0 (max (if player == out then top else 0) rest)) && nat_lt
-        (count_from 0 10 (λ other. keep other && (not (player == out) && (other == out || before other)))) chips)
+    (count_from 0 10 (λ other. keep other && (not (player == out) && (other == out || before other)))) chips)
 left-out player out keep before top rest chips left =
     elim (cases_Bool (player == out)) [
       | inl same ↦ (let none : keep player ≡ false = ap keep (eqb-true player out same) ∙ left in rw (same, none) refl)
       | inr differs ↦
           let counts : count_from 0 10 (λ other. (not (other == out) && keep other) && before other)
-              ≡ count_from 0 10 (λ other. keep other && (other == out || before other)) =
+          ≡ count_from 0 10 (λ other. keep other && (other == out || before other)) =
           count_from-same 0 10 (λ other. (not (other == out) && keep other) && before other)
-              (λ other. keep other && (other == out || before other))
-              (λ other low high. point-left (keep other) (other == out) (before other)
-              (λ is. ap keep (eqb-true other out is) ∙ left)) in
+          (λ other. keep other && (other == out || before other))
+          (λ other low high. point-left (keep other) (other == out) (before other)
+          (λ is. ap keep (eqb-true other out is) ∙ left)) in
           rw (differs, counts, max-zero rest) refl
     ]
 
 -- A player who is first takes one place.
 first-in : (player first : ℕ) (keep before : ℕ → Bool) (top rest chips : ℕ) → keep first ≡ true → 1 ≤ top → first < 10
     → ((player == first) || (((not (player == first) && keep player) && nat_lt 0 rest) && nat_lt
-        (count_from 0 10 (λ other. (not (other == first) && keep other) && before other)) chips))
+    (count_from 0 10 (λ other. (not (other == first) && keep other) && before other)) chips))
     ≡ ((keep player && nat_lt 0 (max (if player == first then top else 0) rest)) && nat_lt
-        (count_from 0 10 (λ other. keep other && (not (player == first) && (other == first || before other))))
-        (suc chips))
+    (count_from 0 10 (λ other. keep other && (not (player == first) && (other == first || before other))))
+    (suc chips))
 first-in player first keep before top rest chips kept some seated =
     elim (cases_Bool (player == first)) [
       | inl same ↦
           let own : keep player ≡ true = ap keep (eqb-true player first same) ∙ kept in
           let none : count_from 0 10 (λ other. keep other && false) ≡ 0 =
-              count_from-none 0 10 (λ other. keep other && false) (λ other. and-false (keep other)) in
+          count_from-none 0 10 (λ other. keep other && false) (λ other. and-false (keep other)) in
           let wins : nat_lt 0 (max top rest) ≡ true = some-wins top rest some in
           rw (same, own, none, wins) (zero-less chips)
       | inr differs ↦
           let counts : count_from 0 10 (λ other. keep other && (other == first || before other))
-              ≡ suc (count_from 0 10 (λ other. (not (other == first) && keep other) && before other)) =
+          ≡ suc (count_from 0 10 (λ other. (not (other == first) && keep other) && before other)) =
           count_from-more 0 10 first (λ other. keep other && (other == first || before other))
-              (λ other. (not (other == first) && keep other) && before other) (omega arith) (omega arith)
+          (λ other. (not (other == first) && keep other) && before other) (omega arith) (omega arith)
           (let own : (first == first) ≡ true = eqb-refl first in rw (kept, own) refl)
           (let own : (first == first) ≡ true = eqb-refl first in rw own refl)
           (λ other apart. let test : (other == first) ≡ false = differ-eqb other first apart in
-              rw test (sym (point-kept (keep other) (before other)))) in
+          rw test (sym (point-kept (keep other) (before other)))) in
           rw (differs, counts, max-zero rest) (one-less (keep player) (nat_lt 0 rest) _ chips)
     ]
   where
@@ -229,7 +234,7 @@ no-chips false n = refl
 pub among-first : (singles : List SingleCard) (keep : ℕ → Bool) (chips player : ℕ) → Seated singles
     → is_among (take chips (filter keep (players_in_order singles))) player
     ≡ ((keep player && nat_lt 0 (score singles player)) && nat_lt
-        (count_from 0 10 (λ other. keep other && comes_before singles other player)) chips)
+    (count_from 0 10 (λ other. keep other && comes_before singles other player)) chips)
 unfolding players_in_order
 among-first [] keep chips player seated = none-among chips player ∙ sym (and-false-left (keep player) _)
 among-first (single ∷ singles) keep chips player seated =
@@ -238,28 +243,28 @@ among-first (single ∷ singles) keep chips player seated =
           (λ n. among-first singles (λ other. not (other == single.index) && keep other) n player seated.1))
       | inr left ↦ rw left
           (ap (λ players. is_among (take chips players) player)
-              (filter-filter keep (λ other. not (other == single.index)) (players_in_order singles))
+          (filter-filter keep (λ other. not (other == single.index)) (players_in_order singles))
           ∙ among-first singles (λ other. not (other == single.index) && keep other) chips player seated.1
           ∙ left-out player single.index keep (λ other. comes_before singles other player) (strength single.card)
-              (score singles player) chips left)
+          (score singles player) chips left)
     ]
   where
     with_first : (n : ℕ) → keep single.index ≡ true
         → ((m : ℕ) → is_among
-            (take m (filter (λ other. not (other == single.index) && keep other) (players_in_order singles))) player
+        (take m (filter (λ other. not (other == single.index) && keep other) (players_in_order singles))) player
         ≡ (((not (player == single.index) && keep player) && nat_lt 0 (score singles player)) && nat_lt
-            (count_from 0 10 (λ other. (not (other == single.index) && keep other)
-            && comes_before singles other player)) m))
+        (count_from 0 10 (λ other. (not (other == single.index) && keep other)
+        && comes_before singles other player)) m))
         → is_among (take n (single.index ∷ filter keep
-            (filter (λ other. not (other == single.index)) (players_in_order singles)))) player
+        (filter (λ other. not (other == single.index)) (players_in_order singles)))) player
         ≡ ((keep player && nat_lt 0 (score (single ∷ singles) player)) && nat_lt
-            (count_from 0 10 (λ other. keep other && comes_before (single ∷ singles) other player)) n)
+        (count_from 0 10 (λ other. keep other && comes_before (single ∷ singles) other player)) n)
     with_first zero kept later =
         sym (no-chips (keep player && nat_lt 0 (score (single ∷ singles) player))
         (count_from 0 10 (λ other. keep other && comes_before (single ∷ singles) other player)))
     with_first (suc n) kept later =
         ap (λ players. (player == single.index) || is_among (take n players) player)
-            (filter-filter keep (λ other. not (other == single.index)) (players_in_order singles))
+        (filter-filter keep (λ other. not (other == single.index)) (players_in_order singles))
         ∙ ap (λ test. (player == single.index) || test) (later n)
         ∙ first-in player single.index keep (λ other. comes_before singles other player) (strength single.card)
-            (score singles player) n kept (strength-some single.card) seated.0
+        (score singles player) n kept (strength-some single.card) seated.0

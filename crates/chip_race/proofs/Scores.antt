@@ -50,6 +50,7 @@ score-put_in_order single (other ∷ others) player =
       | inr lower ↦ rw lower (rw (score-put_in_order single others player) (omega arith))
     ]
 
+-- Nor do they on the order of all of them.
 pub score-ordered : (singles : List SingleCard) (player : ℕ) → score (ordered singles) player ≡ score singles player
 unfolding ordered
 score-ordered [] player = refl
@@ -103,7 +104,7 @@ unfolding single_cards
 score-single_cards_below old new index player [] cards below = refl
 score-single_cards_below old new index player (stack ∷ stacks) cards below =
     score-append (cards_for index (take (odd_chips old new stack) cards))
-        (single_cards old new (suc index) stacks (drop (odd_chips old new stack) cards)) player
+    (single_cards old new (suc index) stacks (drop (odd_chips old new stack) cards)) player
     ∙ rw (
       score-cards_for_other index player (take (odd_chips old new stack) cards) (omega arith),
       score-single_cards_below old new (suc index) player stacks (drop (odd_chips old new stack) cards) (omega arith),
@@ -115,14 +116,14 @@ max-zero n = omega arith
 -- The best cards of the players have their scores.
 pub score-best_cards : (old new index : ℕ) (stacks : List ℕ) (cards : List Card) (k : ℕ) → k < length stacks
     → score (single_cards old new index stacks cards) (index + k)
-        ≡ card_score (get_or (best_cards old new stacks cards) k None)
+    ≡ card_score (get_or (best_cards old new stacks cards) k None)
 unfolding single_cards best_cards
 score-best_cards old new index [] cards k within = absurd (omega arith)
 score-best_cards old new index (stack ∷ stacks) cards zero within =
     let here : index + 0 ≡ index = omega arith in
     rw here
     (score-append (cards_for index (take (odd_chips old new stack) cards))
-        (single_cards old new (suc index) stacks (drop (odd_chips old new stack) cards)) index
+    (single_cards old new (suc index) stacks (drop (odd_chips old new stack) cards)) index
     ∙ rw (
       score-cards_for index (take (odd_chips old new stack) cards),
       score-single_cards_below old new (suc index) index stacks (drop (odd_chips old new stack) cards) (omega arith),
@@ -130,8 +131,8 @@ score-best_cards old new index (stack ∷ stacks) cards zero within =
 score-best_cards old new index (stack ∷ stacks) cards (suc k) within =
     let there : index + suc k ≡ suc index + k = omega arith in
     score-append (cards_for index (take (odd_chips old new stack) cards))
-        (single_cards old new (suc index) stacks (drop (odd_chips old new stack) cards)) (index + suc k)
+    (single_cards old new (suc index) stacks (drop (odd_chips old new stack) cards)) (index + suc k)
     ∙ rw (score-cards_for_other index (index + suc k) (take (odd_chips old new stack) cards) (omega arith))
     (ap (λ player. max 0 (score (single_cards old new (suc index) stacks (drop (odd_chips old new stack) cards))
-        player)) there ∙ max-zero _
+    player)) there ∙ max-zero _
     ∙ score-best_cards old new (suc index) stacks (drop (odd_chips old new stack) cards) k (omega arith))

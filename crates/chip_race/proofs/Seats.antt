@@ -20,15 +20,15 @@ pub stacks-more : (new : ℕ) (players stacks after whole : List ℕ) (index giv
     → given ≡ given_value new (is_among players index) (get_or stacks index 0)
     → whole ≡ take index after ++ stacks_after new players index (drop index stacks)
     → whole ≡ take (index + 1) (set after index (get_or stacks index 0 - get_or stacks index 0 % new + given))
-        ++ stacks_after new players (index + 1) (drop (index + 1) stacks)
+    ++ stacks_after new players (index + 1) (drop (index + 1) stacks)
 stacks-more new players stacks after whole index given within room is so_far =
     rw is
     (so_far
     ∙ ap (λ behind. take index after ++ stacks_after new players index behind) (next-stack stacks index within)
     ∙ sym (append_assoc (take index after) (stack_after new (is_among players index) (get_or stacks index 0) ∷ [])
-        (stacks_after new players (index + 1) (drop (index + 1) stacks)))
+    (stacks_after new players (index + 1) (drop (index + 1) stacks)))
     ∙ ap (λ front. front ++ stacks_after new players (index + 1) (drop (index + 1) stacks))
-        (sym (take_more_set after index (stack_after new (is_among players index) (get_or stacks index 0)) room)))
+    (sym (take_more_set after index (stack_after new (is_among players index) (get_or stacks index 0)) room)))
 
 -- What he is given is added.
 pub value-more : (new : ℕ) (players stacks : List ℕ) (whole added index given : ℕ) → index < length stacks
@@ -38,19 +38,19 @@ pub value-more : (new : ℕ) (players stacks : List ℕ) (whole added index give
 value-more new players stacks whole added index given within is so_far =
     let next = ap (λ behind. added_value new players index behind) (next-stack stacks index within)
     ∙ sum_by-cons (λ (seat : ℕ × ℕ). given_value new (is_among players seat.0) seat.1) (index, get_or stacks index 0)
-        (enumerate_from (index + 1) (drop (index + 1) stacks)) in
+    (enumerate_from (index + 1) (drop (index + 1) stacks)) in
     omega (arith, so_far, next, is)
 
 -- The stack of each seat after a race.
 pub stacks_after-at : (new : ℕ) (players : List ℕ) (first : ℕ) (stacks : List ℕ) (index : ℕ) → index < length stacks
     → get_or (stacks_after new players first stacks) index 0 ≡ stack_after new (is_among players (first + index))
-        (get_or stacks index 0)
+    (get_or stacks index 0)
 stacks_after-at new players first [] index within = absurd (omega arith)
 stacks_after-at new players first (stack ∷ stacks) zero within = ap (λ n. stack_after new (is_among players n) stack)
     (omega arith)
 stacks_after-at new players first (stack ∷ stacks) (suc index) within =
     stacks_after-at new players (first + 1) stacks index (omega arith)
-        ∙ ap (λ n. stack_after new (is_among players n) (get_or stacks index 0)) (omega arith)
+    ∙ ap (λ n. stack_after new (is_among players n) (get_or stacks index 0)) (omega arith)
 
 -- The chips on the table and those that are removed are the chips before and those that are added.
 pub stacks_after-sum : (new : ℕ) (players : List ℕ) (first : ℕ) (stacks : List ℕ)
@@ -60,11 +60,11 @@ stacks_after-sum new players first [] = refl
 stacks_after-sum new players first (stack ∷ stacks) =
     let rest = stacks_after-sum new players (first + 1) stacks in
     let after = sum_by-cons (λ (n : ℕ). n) (stack_after new (is_among players first) stack)
-        (stacks_after new players (first + 1) stacks) in
+    (stacks_after new players (first + 1) stacks) in
     let odd = sum_by-cons (odd_value new) stack stacks in
     let before = sum_by-cons (λ (n : ℕ). n) stack stacks in
     let added = sum_by-cons (λ (seat : ℕ × ℕ). given_value new (is_among players seat.0) seat.1) (first, stack)
-        (enumerate_from (first + 1) stacks) in
+    (enumerate_from (first + 1) stacks) in
     let within = odd-within new stack in
     omega (arith, rest, after, odd, before, added, within)
 
@@ -74,7 +74,7 @@ pub stacks_after-whole : (new : ℕ) (players : List ℕ) (first : ℕ) (stacks 
 stacks_after-whole new players first [] unit = refl
 stacks_after-whole new players first (stack ∷ stacks) unit =
     and_from _ _ (none _ (stack_after-whole new (is_among players first) stack unit))
-        (stacks_after-whole new players (first + 1) stacks unit)
+    (stacks_after-whole new players (first + 1) stacks unit)
   where
     none : (n : ℕ) → n ≡ 0 → (n == 0) ≡ true
     none n is = grind (arith, nat_tests)

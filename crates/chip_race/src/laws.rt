@@ -1,9 +1,9 @@
 //! What holds of every race.
 
-ghost use Rattle.std.specs.Prelude.{◌≡◌, ◌+◌, ◌<◌, ◌≤◌, ℕ, true, sum, slice_index, List, length};
+ghost use Rattle.std.specs.Prelude.{◌≡◌, ◌==◌, ◌+◌, ◌*◌, ◌%◌, ◌<◌, ◌≤◌, ℕ, true, sum, count_by, slice_index, List, length};
 ghost use Rattle.card_set.specs.declared.card.Card.{Card};
 ghost use Rattle.card_set.specs.Decks.{IsDeck};
-ghost use Rattle.chip_race.specs.Races.{race_result, odd_value, are_whole};
+ghost use Rattle.chip_race.specs.Races.{race_result, odd_value, are_whole, winners, awarded_chips};
 
 /// A race keeps each player in: who had a stack has one.
 pub fn each_player_stays_in()
@@ -43,4 +43,17 @@ pub fn chips_change_by_what_is_removed_and_added()
 pub fn stacks_are_whole_chips_of_the_new_unit()
     ensures { (stacks : List ℕ) (cards : List Card) (old new : ℕ) → 1 ≤ new
         → are_whole new (race_result stacks old new cards).stacks ≡ true }
+{}
+
+/// Each chip that is awarded goes to a player: there are as many winners as chips.
+pub fn each_chip_that_is_awarded_goes_to_a_player()
+    ensures { (stacks : List ℕ) (cards : List Card) (old new : ℕ) → length stacks ≡ 10 → 50 ≤ length cards → 1 ≤ old
+        → 1 ≤ new → new ≤ 6 * old → new % old ≡ 0 → are_whole old stacks ≡ true
+        → length (winners old new (awarded_chips new stacks) stacks cards) ≡ awarded_chips new stacks }
+{}
+
+/// No player wins two chips.
+pub fn nobody_wins_two_chips()
+    ensures { (stacks : List ℕ) (cards : List Card) (old new chips player : ℕ)
+        → count_by (λ winner. winner == player) (winners old new chips stacks cards) ≤ 1 }
 {}

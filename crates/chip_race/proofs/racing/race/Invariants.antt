@@ -8,9 +8,9 @@ invariant-loop-index l = record {
   seats : length l.after ≡ 10;
   stacks : stacks_after l.new (winners l.old l.new (awarded_chips l.new l.stacks) l.stacks l.deck) 0 l.stacks
       ≡ take l.index l.after ++ stacks_after l.new
-          (winners l.old l.new (awarded_chips l.new l.stacks) l.stacks l.deck) l.index (drop l.index l.stacks);
+      (winners l.old l.new (awarded_chips l.new l.stacks) l.stacks l.deck) l.index (drop l.index l.stacks);
   value : added_value l.new (winners l.old l.new (awarded_chips l.new l.stacks) l.stacks l.deck) 0 l.stacks
       ≡ l.added + added_value l.new (winners l.old l.new (awarded_chips l.new l.stacks) l.stacks l.deck) l.index
-          (drop l.index l.stacks);
+      (drop l.index l.stacks);
   few : l.added ≤ 6 * sum (take l.index l.stacks);
 }

@@ -9,5 +9,5 @@ pub overflow_add-removed : goal.overflow_add-removed
 overflow_add-removed c =
     let more = sum_by_more_le (odd_value c.args.new) c.args.stacks.now c.loop-stack.stack-index 0 (omega arith) in
     let within : sum_by (odd_value c.args.new) c.args.stacks.now ≤ sum c.args.stacks.now =
-        odd-le c.args.new c.args.stacks.now in
+    odd-le c.args.new c.args.stacks.now in
     omega (arith, more, within, c.loop-stack.invariant, c.requires.fits)
