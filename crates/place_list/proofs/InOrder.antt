@@ -135,7 +135,7 @@ by-entry : (p q a b : ℕ) → p ≡ q → nat_lt a b ≡ true → (nat_lt p q |
 by-entry p q a b same less = grind (arith, nat_tests)
 
 -- The standings of players who are placed come in order.
-falls-placed : (entries : ℕ) (prizes : List ℕ) (sorted : List Bust) → Placed sorted
+pub falls-placed : (entries : ℕ) (prizes : List ℕ) (sorted : List Bust) → Placed sorted
     → Falls (map (standing_of entries prizes sorted) sorted)
 falls-placed entries prizes sorted placed = falls-map (standing_of entries prizes sorted) sorted (λ i j d first within.
     let one = get_or sorted i d in

@@ -1,6 +1,7 @@
 pub mod BustRows
 pub mod Counts
 pub mod InOrder
+pub mod OrderLaw
 pub mod Orderings
 pub mod PrizeLists
 pub mod Ranks

@@ -25,12 +25,13 @@ use Rattle.place_list.proofs.PrizeLists.{parts-le}
 use Rattle.place_list.proofs.TieBlocks.{Opens, tie-from, tie-opens, tie-stands}
 
 -- A player goes into a list before the first whom he is placed before.
-put_bust : Bust → List Bust → List Bust
+pub put_bust : Bust → List Bust → List Bust
 put_bust bust [] = bust ∷ []
 put_bust bust (other ∷ others) = if is_placed_before bust other then bust ∷ other ∷ others else other
     ∷ put_bust bust others
 
-sorted_busts : List Bust → List Bust
+-- The players in the order of their places, one put in after another.
+pub sorted_busts : List Bust → List Bust
 sorted_busts [] = []
 sorted_busts (bust ∷ busts) = put_bust bust (sorted_busts busts)
 
@@ -47,7 +48,8 @@ put_bust-permutation bust (other ∷ others) =
           (IsPermutation-cons other (bust ∷ others) (put_bust bust others) (put_bust-permutation bust others)))
     ]
 
-sorted-permutation : (busts : List Bust) → IsPermutation busts (sorted_busts busts)
+-- They are the same players.
+pub sorted-permutation : (busts : List Bust) → IsPermutation busts (sorted_busts busts)
 unfolding sorted_busts
 sorted-permutation [] = IsPermutation-refl []
 sorted-permutation (bust ∷ busts) =
@@ -104,8 +106,9 @@ sorted-rises (bust ∷ other ∷ others) rises = at (sorted-rises (other ∷ oth
         ap (λ n. is_placed_before (get_or (bust ∷ other ∷ others) n d) (get_or (other ∷ others) k d)) (shift k)
         ∙ below k d (omega arith) (omega arith)
 
--- The players in the order of their places.
-placed-sorted_busts : (busts : List Bust) → are_distinct (λ one other. one == other) (map (λ bust. bust.player) busts)
+-- They are placed.
+pub placed-sorted_busts : (busts : List Bust) → are_distinct (λ one other. one == other)
+    (map (λ bust. bust.player) busts)
     ≡ true → Placed (sorted_busts busts)
 placed-sorted_busts busts distinct = placed-sorted busts (sorted_busts busts) (sorted-permutation busts)
     (sorted-rises (sorted_busts busts) (rises-sorted busts)) distinct

@@ -1,10 +1,10 @@
 //! What holds of all places and prizes.
 
-ghost use Rattle.std.specs.Prelude.{◌≡◌, ◌+◌, ◌*◌, ◌<◌, ◌≤◌, ◌==◌, ◌||◌, ℕ, true, List, length, map, sum, sum_by, slice_index_or, None, Some};
-ghost use Rattle.rulebook.specs.Pairs.{are_distinct};
+ghost use Rattle.std.specs.Prelude.{Option, ◌≡◌, ◌+◌, ◌*◌, ◌<◌, ◌≤◌, ◌==◌, ◌||◌, ℕ, true, List, length, map, sum, sum_by, slice_index_or, None, Some};
+ghost use Rattle.rulebook.specs.Pairs.{are_distinct, is_pairwise};
 ghost use Rattle.place_list.specs.declared.bust.Bust.{Bust};
 ghost use Rattle.place_list.specs.Places.{place_of, tied, is_ahead, ties};
-ghost use Rattle.place_list.specs.Standings.{standings_of};
+ghost use Rattle.place_list.specs.Standings.{comes_before, standings_of};
 
 /// Players who tie share a place.
 pub fn players_who_tie_share_a_place()
@@ -39,4 +39,11 @@ pub fn prizes_of_those_who_are_out_are_within_the_pool()
     ensures { (entries buyin : ℕ) (shares : List ℕ) (busts : List Bust)
         → are_distinct (λ one other. one == other) (map (λ bust. bust.player) busts) ≡ true → sum shares ≤ 1000
         → sum_by (λ standing. standing.prize) (standings_of entries None buyin shares busts) ≤ entries * buyin }
+{}
+
+/// Where somebody is in, standings come by place, and of the same place by entry.
+pub fn standings_come_in_order()
+    ensures { (entries : ℕ) (last : Option ℕ) (buyin : ℕ) (shares : List ℕ) (busts : List Bust)
+        → are_distinct (λ one other. one == other) (map (λ bust. bust.player) busts) ≡ true → length busts < entries
+        → is_pairwise comes_before (standings_of entries last buyin shares busts) ≡ true }
 {}

@@ -59,6 +59,13 @@ impl PlaceList {
         });
     }
 
+    /// Whether this player is out.
+    pub fn is_out(&self, player: u32) -> bool
+        ensures { result ≡ list_any (λ bust. bust.player == player) self.now }
+    {
+        self.busts.iter().any(|bust| bust.player == player)
+    }
+
     /// How many players are out.
     pub fn len(&self) -> u32
         ensures len { result ≡ length self.now }

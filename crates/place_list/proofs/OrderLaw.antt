@@ -1,0 +1,73 @@
+-- Standings come in order.
+use Rattle.std.proofs.Common.{◌≡◌, ◌∙◌, refl, ap, sym, ℕ, ◌+◌, ◌<◌, ◌≤◌, Bool, true, false, List, [], ◌∷◌, length, arith}
+use Rattle.std.specs.Prelude.{if◌then◌else◌, count_by, map, not, ◌==◌, ◌&&◌, ◌||◌, nat_lt, Option, None, Some}
+use Rattle.std.specs.List.{list_all}
+use Rattle.std.proofs.lemmas.Bool.{and_from}
+use Rattle.std.proofs.lemmas.Bool.Decides.{nat_tests}
+use Rattle.std.proofs.lemmas.List.Sorted.{length_permutation}
+use Rattle.rulebook.specs.Pairs.{is_pairwise, are_distinct}
+use Rattle.place_list.specs.declared.bust.Bust.{Bust}
+use Rattle.place_list.specs.declared.standing.Standing.{Standing}
+use Rattle.place_list.specs.Places.{place_of, still_in}
+use Rattle.place_list.specs.Prizes.{prizes_of, prizes_together}
+use Rattle.place_list.specs.Standings.{standing_of, comes_before, standings_of}
+use Rattle.place_list.proofs.Counts.{count_by-cons}
+use Rattle.place_list.proofs.InOrder.{ordered-sorted, falls-placed}
+use Rattle.place_list.proofs.Sorting.{Falls}
+use Rattle.place_list.proofs.Sums.{sorted_busts, sorted-permutation, placed-sorted_busts}
+
+all-come : (standing : Standing) (standings : List Standing)
+    → count_by (λ other. not (comes_before standing other)) standings ≡ 0 → list_all (comes_before standing) standings
+    ≡ true
+all-come standing [] none = refl
+all-come standing (other ∷ others) none =
+    let count = count_by-cons (λ next. not (comes_before standing next)) other others in
+    first (comes_before standing other) (count_by (λ next. not (comes_before standing next)) others)
+    (sym count ∙ none) (all-come standing others)
+  where
+    first : (test : Bool) (n : ℕ) → (if not test then 1 else 0) + n ≡ 0
+        → (n ≡ 0 → list_all (comes_before standing) others ≡ true) → (test && list_all (comes_before standing) others)
+        ≡ true
+    first true n none rest = rest (omega arith)
+    first false n none rest = absurd (omega arith)
+
+pairwise-falls : (standings : List Standing) → Falls standings → is_pairwise comes_before standings ≡ true
+pairwise-falls [] falls = refl
+pairwise-falls (standing ∷ standings) falls = and_from _ _ (all-come standing standings falls.0)
+    (pairwise-falls standings falls.1)
+
+winner-first : (entries : ℕ) (prizes : List ℕ) (busts sorted : List Bust) (winner : Standing) → winner.place ≡ 1
+    → 1 ≤ still_in entries busts
+    → list_all (comes_before winner) (map (standing_of entries prizes busts) sorted) ≡ true
+winner-first entries prizes busts [] winner first some = refl
+winner-first entries prizes busts (bust ∷ sorted) winner first some =
+    and_from _ _ (by-place winner.place (place_of entries busts bust) winner.player bust.player
+    (omega (arith, first, some))) (winner-first entries prizes busts sorted winner first some)
+  where
+    by-place : (p q a b : ℕ) → p < q → (nat_lt p q || (p == q && nat_lt a b)) ≡ true
+    by-place p q a b less = grind (arith, nat_tests)
+
+-- Standings come by place, and of the same place by entry.
+pub pairwise-standings : (entries : ℕ) (last : Option ℕ) (buyin : ℕ) (shares : List ℕ) (busts : List Bust)
+    → are_distinct (λ one other. one == other) (map (λ bust. bust.player) busts) ≡ true
+    → length busts < entries → is_pairwise comes_before (standings_of entries last buyin shares busts) ≡ true
+unfolding standings_of
+pairwise-standings entries None buyin shares busts distinct some =
+    let placed = placed-sorted_busts busts distinct in
+    ap (is_pairwise comes_before) (ordered-sorted entries (prizes_of entries buyin shares) busts (sorted_busts busts)
+    (sorted-permutation busts) placed)
+    ∙ pairwise-falls (map (standing_of entries (prizes_of entries buyin shares) (sorted_busts busts))
+    (sorted_busts busts)) (falls-placed entries (prizes_of entries buyin shares) (sorted_busts busts) placed)
+pairwise-standings entries (Some last) buyin shares busts distinct some =
+    let placed = placed-sorted_busts busts distinct in
+    let same = ordered-sorted entries (prizes_of entries buyin shares) busts (sorted_busts busts)
+    (sorted-permutation busts) placed in
+    let size = length_permutation busts (sorted_busts busts) (sorted-permutation busts) in
+    let winner : Standing =
+    record { player = last; place = 1; prize = prizes_together (prizes_of entries buyin shares) 1 1 } in
+    and_from _ _
+    (ap (list_all (comes_before winner)) same ∙ winner-first entries (prizes_of entries buyin shares)
+    (sorted_busts busts) (sorted_busts busts) winner refl (omega (arith, size, some)))
+    (ap (is_pairwise comes_before) same
+    ∙ pairwise-falls (map (standing_of entries (prizes_of entries buyin shares) (sorted_busts busts))
+    (sorted_busts busts)) (falls-placed entries (prizes_of entries buyin shares) (sorted_busts busts) placed))
