@@ -35,7 +35,7 @@ combined-flat_map op none is value f (x ∷ xs) =
     combined-append op none is value (f x) (flat_map f xs) ∙ ap (op (combined op none value (f x))) (combined-flat_map op none is value f xs)
 
 -- the choices with the first thing, and those without it
-choices-cons : {A V : Type 0} (op : V → V → V) (none : V) → IsCombining op none → (value : List A → V) (n : ℕ) (x : A) (xs : List A)
+pub choices-cons : {A V : Type 0} (op : V → V → V) (none : V) → IsCombining op none → (value : List A → V) (n : ℕ) (x : A) (xs : List A)
     → combined op none value (choices (suc n) (x ∷ xs)) ≡ op (combined op none (λ c. value (x ∷ c)) (choices n xs)) (combined op none value (choices (suc n) xs))
 choices-cons op none is value n x xs =
     combined-append op none is value (map (λ c. x ∷ c) (choices n xs)) (choices (suc n) xs)

@@ -1,3 +1,11 @@
 pub mod BestLaws
+pub mod CardCounts
 pub mod ChangeLaws
+pub mod Chosen
 pub mod CountLaws
+pub mod MadeLaws
+pub mod Needs
+pub mod PickLaws
+pub mod RunLaws
+pub mod Sections
+pub mod ShownValues

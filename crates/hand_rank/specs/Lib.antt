@@ -1,4 +1,7 @@
 pub mod BestHigh
 pub mod Counts
+pub mod Made
 pub mod Padded
+pub mod Picks
+pub mod Runs
 pub mod Values
