@@ -7,5 +7,7 @@ pub mod MadeLaws
 pub mod Needs
 pub mod PickLaws
 pub mod RunLaws
+pub mod RunTable
 pub mod Sections
+pub mod SetLaws
 pub mod ShownValues

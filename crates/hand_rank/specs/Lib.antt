@@ -4,4 +4,5 @@ pub mod Made
 pub mod Padded
 pub mod Picks
 pub mod Runs
+pub mod Sets
 pub mod Values

@@ -11,6 +11,7 @@ mod five_cards;
 mod high_value;
 mod laws;
 mod numbers;
+mod rank_set;
 #[cfg(test)]
 mod tests;
 

@@ -1,0 +1,106 @@
+-- The highest run from bits, computed over all sets of ranks.
+use Rattle.std.proofs.Common.{◌≡◌, ℕ, zero, suc, ◌+◌, ◌-◌, ◌*◌, ◌/◌, ◌%◌, ◌^◌, ◌<◌, ◌≤◌, ◌⊎◌, inl, inr, Bool, true, false, ◌&&◌, eqb, leb, cond, Some, None, refl, sym, ap, ◌∙◌, subst, eqb-true, leb-true, arith}
+use Rattle.std.specs.Prelude.{Option, bit_and, bit_or}
+use Rattle.std.specs.Int.Count.{count_leading_zeros}
+use Rattle.std.proofs.lemmas.Nat.Bits.{bit_at_above}
+use Rattle.std.proofs.lemmas.Bool.Decides.{nat_tests}
+use Rattle.hand_rank.specs.Picks.{highest_below}
+use Rattle.hand_rank.specs.Runs.{highest_run}
+use Rattle.hand_rank.specs.Sets.{has_rank, HasRanks}
+use Rattle.hand_rank.proofs.RunLaws.{run-same, occurring}
+
+and_parts : (a b : Bool) → (a && b) ≡ true → (a ≡ true) × (b ≡ true)
+and_parts true b h = (refl, h)
+and_parts false b h = absurd cc
+
+-- a test that holds at each number below a bound
+unfoldable all_below : (ℕ → Bool) → ℕ → Bool
+all_below p zero = true
+all_below p (suc n) = p n && all_below p n
+
+holds_below : (p : ℕ → Bool) (n k : ℕ) → all_below p n ≡ true → k < n → p k ≡ true
+unfolding all_below
+holds_below p zero k h below = absurd (omega arith)
+holds_below p (suc n) k h below =
+    let both = and_parts (p n) (all_below p n) h in
+    elim (eqb k n) as (λ b. eqb k n ≡ b → p k ≡ true) [
+      | true ↦ λ same. ap p (eqb-true k n same) ∙ both.0
+      | false ↦ λ other. let less : k < n = grind (arith, nat_tests) in holds_below p n k both.1 less
+    ] refl
+
+same_top : Option ℕ → Option ℕ → Bool
+same_top None None = true
+same_top None (Some top) = false
+same_top (Some top) None = false
+same_top (Some top) (Some other) = eqb top other
+
+same_top-is : (one other : Option ℕ) → same_top one other ≡ true → one ≡ other
+unfolding same_top
+same_top-is None None is = refl
+same_top-is None (Some top) is = absurd cc
+same_top-is (Some top) None is = absurd cc
+same_top-is (Some top) (Some other) is = ap (λ t. Some t) (eqb-true top other is)
+
+unfoldable pub places_of : ℕ → ℕ
+places_of bits = bit_or bits (bit_and (bits / 8192) 2)
+
+unfoldable pub runs_of : ℕ → ℕ
+runs_of m = bit_and (bit_and (bit_and (bit_and m (m / 2)) (m / 4)) (m / 8)) (m / 16)
+
+-- the top of the highest run as it is computed
+unfoldable run_by_bits : ℕ → Option ℕ
+unfolding places_of runs_of
+run_by_bits bits = let runs = runs_of (places_of bits) in cond (eqb runs 0) None (Some (19 - count_leading_zeros 16 runs))
+
+run_test : ℕ → Bool
+unfolding run_by_bits same_top
+run_test k = same_top (run_by_bits (4 * k)) (highest_run (has_rank (4 * k)))
+
+all_runs : all_below run_test 8192 ≡ true
+unfolding all_below run_test run_by_bits same_top highest_run places_of runs_of count_leading_zeros
+all_runs = refl
+
+run_by_bits-is : (bits k : ℕ) → bits ≡ 4 * k → k < 8192 → run_by_bits bits ≡ highest_run (has_rank bits)
+unfolding run_test
+run_by_bits-is bits k same below =
+    rw same (same_top-is _ _ (holds_below run_test 8192 k all_runs below))
+
+-- a set with no rank below 2 and none from 15 on
+bits_of_ranks : (bits : ℕ) → bits < 2 ^ 16 → has_rank bits 0 ≡ false → has_rank bits 1 ≡ false → has_rank bits 15 ≡ false → (k : ℕ) × (k < 8192) × (bits ≡ 4 * k)
+bits_of_ranks bits fits none one high =
+    let a : bits / 2 ^ 0 % 2 ≡ 0 = odd_no (bits / 2 ^ 0) none in
+    let b : bits / 2 ^ 1 % 2 ≡ 0 = odd_no (bits / 2 ^ 1) one in
+    let c : bits / 2 ^ 15 % 2 ≡ 0 = odd_no (bits / 2 ^ 15) high in
+    (bits / 4, omega arith, omega arith)
+  where
+    odd_no : (n : ℕ) → eqb (n % 2) 1 ≡ false → n % 2 ≡ 0
+    odd_no n even = grind (arith, nat_tests)
+
+rank-free : (bits r : ℕ) (count : ℕ → ℕ) → r < 16 → HasRanks bits 1 count → (15 ≤ r) ⊎ (r < 2) → has_rank bits r ≡ false
+rank-free bits r count within has out = has.at r within ∙ ap (leb 1) (has.only r out)
+
+held_ranks : (bits : ℕ) (count : ℕ → ℕ) → bits < 2 ^ 16 → HasRanks bits 1 count → (r : ℕ) → has_rank bits r ≡ leb 1 (count r)
+held_ranks bits count fits has r =
+    elim (leb 16 r) as (λ b. leb 16 r ≡ b → has_rank bits r ≡ leb 1 (count r)) [
+      | true ↦ λ high.
+          let up : 16 ≤ r = leb-true 16 r high in
+          ap (λ b. eqb b 1) (bit_at_above bits 16 r fits up) ∙ ap (leb 1) (sym (has.only r (inl (omega arith))))
+      | false ↦ λ low. has.at r (grind (arith, nat_tests))
+    ] refl
+
+run-of_bits : (bits : ℕ) (count : ℕ → ℕ) → bits < 2 ^ 16 → HasRanks bits 1 count → run_by_bits bits ≡ highest_run (occurring count)
+run-of_bits bits count fits has =
+    let four = bits_of_ranks bits fits (rank-free bits 0 count (omega arith) has (inr (omega arith))) (rank-free bits 1 count (omega arith) has (inr (omega arith))) (rank-free bits 15 count (omega arith) has (inl (omega arith))) in
+    run_by_bits-is bits four.0 four.2 four.1 ∙ run-same (has_rank bits) (occurring count) (held_ranks bits count fits has)
+
+-- where no places run, there is no run
+pub run-none : (bits : ℕ) (count : ℕ → ℕ) → bits < 2 ^ 16 → HasRanks bits 1 count → runs_of (places_of bits) ≡ 0 → None ≡ highest_run (occurring count)
+unfolding run_by_bits
+run-none bits count fits has none = rw none at (run-of_bits bits count fits has)
+
+-- and else the highest place that does is its top
+pub run-some : (bits : ℕ) (count : ℕ → ℕ) → bits < 2 ^ 16 → HasRanks bits 1 count → (runs_of (places_of bits) ≡ 0 → ⊥) → Some (19 - count_leading_zeros 16 (runs_of (places_of bits))) ≡ highest_run (occurring count)
+unfolding run_by_bits
+run-some bits count fits has some =
+    let other : eqb (runs_of (places_of bits)) 0 ≡ false = grind (arith, nat_tests) in
+    rw other at (run-of_bits bits count fits has)

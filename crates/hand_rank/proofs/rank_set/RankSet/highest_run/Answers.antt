@@ -1,0 +1,11 @@
+use Rattle.std.proofs.Common.{arith}
+use Rattle.hand_rank.proofs.RunTable.{run-none, run-some, places_of, runs_of}
+use Rattle.hand_rank.proofs.rank_set.RankSet.highest_run.Goals as goal
+
+pub returns-then-runs-eq0 : goal.returns-then-runs-eq0
+unfolding places_of runs_of
+returns-then-runs-eq0 c count has = run-none c.args.self.bits count (omega arith) has c.if-runs-eq0.true
+
+pub returns-else-runs-eq0 : goal.returns-else-runs-eq0
+unfolding places_of runs_of
+returns-else-runs-eq0 c count has = run-some c.args.self.bits count (omega arith) has c.if-runs-eq0.false

@@ -1,0 +1,134 @@
+//! Sets of ranks.
+
+ghost use Rattle.std.specs.Prelude.{◌≡◌, ◌<◌, ℕ, ◌&&◌, ◌||◌, ◌==◌, ◌∷◌, [], not, nat_le, false, IfSome};
+ghost use Rattle.hand_rank.specs.Picks.{highest_below, picked};
+ghost use Rattle.hand_rank.specs.Made.{value_of_suit};
+ghost use Rattle.hand_rank.specs.Runs.{highest_run};
+ghost use Rattle.hand_rank.specs.Sets.{has_rank, HasRanks};
+
+/// A set of ranks, from 2 to 14 for the ace: a rank is in it where the bit of its number is 1.
+#[derive(Clone, Copy, Debug)]
+pub struct RankSet {
+    pub bits: u16,
+}
+
+impl RankSet {
+    /// The set of no ranks.
+    pub const fn empty() -> RankSet
+        ensures { result.bits ≡ 0 }
+    {
+        RankSet { bits: 0 }
+    }
+
+    /// The set with a rank in it.
+    #[tactic(auto, using(crate::proofs::SetLaws::has_rank_with))]
+    pub fn with(self, rank: u8) -> RankSet
+        requires { rank < 16 }
+        ensures { (r : ℕ) → has_rank result.bits r ≡ (has_rank self.bits r || r == rank) }
+    {
+        RankSet {
+            bits: self.bits | 1 << rank,
+        }
+    }
+
+    /// The set without a rank.
+    #[tactic(auto, using(crate::proofs::SetLaws::has_rank_without))]
+    pub fn without(self, rank: u8) -> RankSet
+        requires { rank < 16 }
+        ensures { (r : ℕ) → r < 16 → has_rank result.bits r ≡ (has_rank self.bits r && not (r == rank)) }
+    {
+        RankSet {
+            bits: self.bits & !(1 << rank),
+        }
+    }
+
+    /// The ranks of either set.
+    #[tactic(auto, using(crate::proofs::SetLaws::has_rank_or))]
+    pub fn union(self, other: RankSet) -> RankSet
+        ensures { (r : ℕ) → has_rank result.bits r ≡ (has_rank self.bits r || has_rank other.bits r) }
+    {
+        RankSet {
+            bits: self.bits | other.bits,
+        }
+    }
+
+    /// The ranks of both sets.
+    #[tactic(auto, using(crate::proofs::SetLaws::has_rank_and))]
+    pub fn meet(self, other: RankSet) -> RankSet
+        ensures { (r : ℕ) → has_rank result.bits r ≡ (has_rank self.bits r && has_rank other.bits r) }
+    {
+        RankSet {
+            bits: self.bits & other.bits,
+        }
+    }
+
+    /// Whether there are five ranks or more.
+    pub fn has_five(self) -> bool
+        ensures { (count : ℕ → ℕ) → HasRanks self.bits 1 count → result ≡ false → (value_of_suit count ≡ []) }
+    {
+        self.bits.count_ones() >= 5
+    }
+
+    /// The highest rank. `None` where there is none.
+    pub fn highest(self) -> Option<u8>
+        ensures rank { result ≡ highest_below (has_rank self.bits) 16 }
+        ensures within { IfSome result (λ rank. rank < 16) }
+    {
+        if self.bits == 0 {
+            None
+        } else {
+            Some((15 - self.bits.leading_zeros()) as u8)
+        }
+    }
+
+    /// The two highest ranks, if there are two.
+    pub fn highest_two(self) -> Option<[u8; 2]>
+        ensures { (count : ℕ → ℕ) → HasRanks self.bits 1 count → result ≡ picked (1 ∷ 1 ∷ []) count }
+    {
+        let first = self.highest()?;
+        let below_first = self.without(first);
+        let second = below_first.highest()?;
+        Some([first, second])
+    }
+
+    /// The three highest ranks, if there are three.
+    pub fn highest_three(self) -> Option<[u8; 3]>
+        ensures { (count : ℕ → ℕ) → HasRanks self.bits 1 count → result ≡ picked (1 ∷ 1 ∷ 1 ∷ []) count }
+    {
+        let first = self.highest()?;
+        let below_first = self.without(first);
+        let second = below_first.highest()?;
+        let below_second = below_first.without(second);
+        let third = below_second.highest()?;
+        Some([first, second, third])
+    }
+
+    /// The five highest ranks, if there are five.
+    pub fn highest_five(self) -> Option<[u8; 5]>
+        ensures { (count : ℕ → ℕ) → HasRanks self.bits 1 count → result ≡ picked (1 ∷ 1 ∷ 1 ∷ 1 ∷ 1 ∷ []) count }
+    {
+        let first = self.highest()?;
+        let below_first = self.without(first);
+        let second = below_first.highest()?;
+        let below_second = below_first.without(second);
+        let third = below_second.highest()?;
+        let below_third = below_second.without(third);
+        let fourth = below_third.highest()?;
+        let below_fourth = below_third.without(fourth);
+        let fifth = below_fourth.highest()?;
+        Some([first, second, third, fourth, fifth])
+    }
+
+    /// The top rank of the highest five ranks that run, with the ace also below the two. `None` where no five run.
+    pub fn highest_run(self) -> Option<u8>
+        ensures { (count : ℕ → ℕ) → HasRanks self.bits 1 count → result ≡ highest_run (λ rank. nat_le 1 (count rank)) }
+    {
+        let places = self.bits | (self.bits >> 13 & 2);
+        let runs = places & places >> 1 & places >> 2 & places >> 3 & places >> 4;
+        if runs == 0 {
+            None
+        } else {
+            Some((19 - runs.leading_zeros()) as u8)
+        }
+    }
+}
