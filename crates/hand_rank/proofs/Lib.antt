@@ -11,3 +11,4 @@ pub mod RunTable
 pub mod Sections
 pub mod SetLaws
 pub mod ShownValues
+pub mod SuitLaws

@@ -34,7 +34,6 @@ each : {A : Type 0} (n : ℕ) (f : A → List ℕ) (o : Option A) (others : List
 each n f None others b one rest = rest
 each n f (Some x) others b one rest = one x refl
 
-
 abbrev ones : List ℕ
 ones = 1 ∷ 1 ∷ 1 ∷ 1 ∷ 1 ∷ []
 
@@ -201,7 +200,7 @@ shown-made five cards shown fewer suited =
     let ranks = distinct_ranks five in
     let count = count_of_rank cards in
     let have : (often : List ℕ) → often_of five ≡ often → Has often ranks count =
-        λ often is. has-more often ranks (count_of_rank five) count fewer (picked-has often (count_of_rank five) ranks (shown-picked five often shown is)) in
+    λ often is. has-more often ranks (count_of_rank five) count fewer (picked-has often (count_of_rank five) ranks (shown-picked five often shown is)) in
     elim (shown-shape five shown) [
       | inl is ↦ subst (λ v. Upto v (value_made cards)) (shown-value five (4 ∷ 1 ∷ []) is) (above_ranks cards (7 ∷ ranks) (from_four ranks count (have (4 ∷ 1 ∷ []) is)))
       | inr b ↦ elim b [
@@ -237,10 +236,10 @@ run-shown cards top few enough is =
     let shown : AreShown five = record { count = at.2; few = λ r. le_trans (count-choice (λ (c : Card). eqb c.rank r) five cards at.1) (few r) } in
     let sum : total count 15 ≡ 5 = total-cards five ∙ at.2 in
     let once : (r : ℕ) → count r ≤ 1 = λ r.
-        elim (leb 15 r) as (λ b. leb 15 r ≡ b → count r ≤ 1) [
-          | true ↦ λ high. let none = other-rank five r (inl (leb-true 15 r high)) in omega arith
-          | false ↦ λ low. has-once ones run count r fall_ones at.3 sum (grind (arith, nat_tests))
-        ] refl in
+    elim (leb 15 r) as (λ b. leb 15 r ≡ b → count r ≤ 1) [
+      | true ↦ λ high. let none = other-rank five r (inl (leb-true 15 r high)) in omega arith
+      | false ↦ λ low. has-once ones run count r fall_ones at.3 sum (grind (arith, nat_tests))
+    ] refl in
     let singles = shown-once five shown once in
     let all = shown-five five shown singles in
     let high = all.top in
@@ -295,10 +294,10 @@ straight-reached cards top dealt is =
     let at = run-shown cards top dealt.few dealt.enough (run-is (occurring (count_of_rank cards)) top is) in
     let five = at.five in
     let up : Upto (4 ∷ top ∷ []) (value_of_distinct (Some top) (are_of_one_suit five) (distinct_ranks five)) =
-        elim (are_of_one_suit five) as (λ one. Upto (4 ∷ top ∷ []) (value_of_distinct (Some top) one (distinct_ranks five))) [
-          | true ↦ inl (lit≤ tt)
-          | false ↦ inr (refl, inr (refl, tt))
-        ] in
+    elim (are_of_one_suit five) as (λ one. Upto (4 ∷ top ∷ []) (value_of_distinct (Some top) one (distinct_ranks five))) [
+      | true ↦ inl (lit≤ tt)
+      | false ↦ inr (refl, inr (refl, tt))
+    ] in
     upto_through (4 ∷ top ∷ []) (five_card_value five) (best_of cards)
     (subst (λ v. Upto (4 ∷ top ∷ []) v) (run-value five top (are_of_one_suit five) at.singles at.run refl) up)
     (chosen-best five cards at.choice at.count)
@@ -347,12 +346,12 @@ flush-reached cards suit ranks dealt is =
     let singles = shown-once five shown once in
     let least = picked-greatest ones ranks (count_of_rank five) (distinct_ranks five) at.3 (shown-picked five ones shown singles) in
     let value : value_of_distinct (run_top (distinct_ranks five)) true (distinct_ranks five) ≡ five_card_value five =
-        ap (λ b. value_of_distinct (run_top (distinct_ranks five)) b (distinct_ranks five)) (sym (all-one_suit suit five there.1)) ∙ shown-value five ones singles in
+    ap (λ b. value_of_distinct (run_top (distinct_ranks five)) b (distinct_ranks five)) (sym (all-one_suit suit five there.1)) ∙ shown-value five ones singles in
     let up : Upto (5 ∷ ranks) (value_of_distinct (run_top (distinct_ranks five)) true (distinct_ranks five)) =
-        elim (run_top (distinct_ranks five)) as (λ t. Upto (5 ∷ ranks) (value_of_distinct t true (distinct_ranks five))) [
-          | None ↦ inr (refl, least)
-          | Some top ↦ inl (lit≤ tt)
-        ] in
+    elim (run_top (distinct_ranks five)) as (λ t. Upto (5 ∷ ranks) (value_of_distinct t true (distinct_ranks five))) [
+      | None ↦ inr (refl, least)
+      | Some top ↦ inl (lit≤ tt)
+    ] in
     upto_through (5 ∷ ranks) (five_card_value five) (best_of cards) (subst (λ v. Upto (5 ∷ ranks) v) value up) (chosen-best five cards there.0 at.2)
 
 straight_flush-reached : (cards : List Card) (suit top : ℕ) → AreDealt cards → highest_run (occurring (count_of_suit cards suit)) ≡ Some top → Upto (8 ∷ top ∷ []) (best_of cards)
@@ -380,12 +379,12 @@ best-made cards apart enough =
     let dealt : AreDealt cards = record { enough = enough; few = λ r. distinct-few cards r apart; once = λ suit r. distinct-once cards suit r apart } in
     let suits = greatest (map (λ suit. value_of_suit (count_of_suit cards suit)) (0 ∷ 1 ∷ 2 ∷ 3 ∷ [])) in
     let up : Upto (best_of cards) (value_made cards) =
-        chosen-within five_card_value 5 cards (value_made cards) (λ five is count.
-        shown-made five cards (chosen-shown five cards dealt is count)
-        (λ r. count-choice (λ (c : Card). eqb c.rank r) five cards is)
-        (λ suit r. count-choice (λ (c : Card). eqb c.suit suit && eqb c.rank r) five cards is)) in
+    chosen-within five_card_value 5 cards (value_made cards) (λ five is count.
+    shown-made five cards (chosen-shown five cards dealt is count)
+    (λ r. count-choice (λ (c : Card). eqb c.rank r) five cards is)
+    (λ suit r. count-choice (λ (c : Card). eqb c.suit suit && eqb c.rank r) five cards is)) in
     let back : Upto (value_made cards) (best_of cards) =
-        max-within suits (value_of_ranks (count_of_rank cards)) (best_of cards)
-        (suits-within (λ suit. value_of_suit (count_of_suit cards suit)) (best_of cards) (λ suit. reach_suit cards suit dealt))
-        (reach_ranks cards dealt) in
+    max-within suits (value_of_ranks (count_of_rank cards)) (best_of cards)
+    (suits-within (λ suit. value_of_suit (count_of_suit cards suit)) (best_of cards) (λ suit. reach_suit cards suit dealt))
+    (reach_ranks cards dealt) in
     best_high-combined (choices 5 cards) ∙ upto_both (best_of cards) (value_made cards) up back

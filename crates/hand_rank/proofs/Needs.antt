@@ -68,14 +68,17 @@ needs-has (often ∷ more) (rank ∷ ranks) count has =
     let later = needs-has more ranks (without rank count) has.2 in
     let itself : eqb rank rank ≡ true = eq-eqb rank rank refl in
     let here : occurs (times often rank rest) rank ≡ cond (eqb rank rank) often 0 + occurs rest rank = occurs-times often rank rest rank in
-    let enough : often ≤ occurs (times often rank rest) rank = rw (here, itself) (omega arith) in
-    (has.0, enough, has-more more ranks (occurs rest) (without rank (occurs (times often rank rest))) (λ s.
-        let within = needs-within more ranks (without rank count) has.2 s in
-        let all = occurs-times often rank rest s in
-        elim (eqb s rank) as (λ b. eqb s rank ≡ b → occurs rest s ≤ cond b 0 (occurs (times often rank rest) s)) [
-          | true ↦ λ same. subst (λ b. occurs rest s ≤ cond b 0 (count s)) same within
-          | false ↦ λ other. omega arith
-        ] refl) later)
+    let enough : often ≤ occurs (times often rank rest) rank = rw (here, itself) (omega arith) in (
+      has.0,
+      enough,
+      has-more more ranks (occurs rest) (without rank (occurs (times often rank rest))) (λ s.
+          let within = needs-within more ranks (without rank count) has.2 s in
+          let all = occurs-times often rank rest s in
+          elim (eqb s rank) as (λ b. eqb s rank ≡ b → occurs rest s ≤ cond b 0 (occurs (times often rank rest) s)) [
+            | true ↦ λ same. subst (λ b. occurs rest s ≤ cond b 0 (count s)) same within
+            | false ↦ λ other. omega arith
+          ] refl) later,
+    )
 
 -- some five of the cards have ranks that occur so often
 pub five-with : (often ranks : List ℕ) (cards : List Card) → added often ≡ 5 → 5 ≤ length cards → Has often ranks (count_of_rank cards) → (five : List Card) × IsChoice five cards × (length five ≡ 5) × Has often ranks (count_of_rank five)

@@ -253,7 +253,7 @@ five-run count a b c d e top high ab bc cd de low oa ob oc od oe is =
           let five : 5 ≡ top = cc in
           let parts = wheel-is a b c d e wheel in
           let ace : holds_place (occurring count) 1 ≡ true =
-              or_right (occurring count 1) (eqb 1 1 && occurring count 14) (subst (λ r. leb 1 (count r) ≡ true) parts.0 (le-leb 1 (count a) oa)) in
+          or_right (occurring count 1) (eqb 1 1 && occurring count 14) (subst (λ r. leb 1 (count r) ≡ true) parts.0 (le-leb 1 (count a) oa)) in
           subst (λ t. IsRunTo (occurring count) t) five
           (record { low = omega arith; high = omega arith; runs = run_from (occurring count) 5 (held count b 5 parts.1 ob) (held count c 4 parts.2 oc) (held count d 3 parts.3 od) (held count e 2 parts.4 oe) ace })
       | false ↦ λ not_wheel found.

@@ -155,7 +155,7 @@ shown-above five most often ranks shown shape falls has =
         | inl paired ↦
             let number : number_of (often_of five) ≡ category_number paired.0 = ap numbered paired.1 in
             let value : category_number paired.0 ∷ distinct_ranks five ≡ five_card_value five =
-                ap (λ c. value_by c (run_top (distinct_ranks five)) (are_of_one_suit five) (distinct_ranks five)) (sym paired.1) ∙ shown-value five (often_of five) refl in
+            ap (λ c. value_by c (run_top (distinct_ranks five)) (are_of_one_suit five) (distinct_ranks five)) (sym paired.1) ∙ shown-value five (often_of five) refl in
             subst (λ v. Upto (number_of often ∷ ranks) v) value (inl (subst (λ n. number_of often < n) number less))
         | inr single ↦ let none : number_of (often_of five) ≡ 0 = ap number_of single in absurd (omega arith)
       ]
@@ -166,7 +166,7 @@ shown-above five most often ranks shown shape falls has =
             | inl paired ↦
                 let number : number_of often ≡ category_number paired.0 = ap numbered paired.1 in
                 let value : category_number paired.0 ∷ distinct_ranks five ≡ five_card_value five =
-                    ap (λ c. value_by c (run_top (distinct_ranks five)) (are_of_one_suit five) (distinct_ranks five)) (sym paired.1) ∙ shown-value five often (sym same) in
+                ap (λ c. value_by c (run_top (distinct_ranks five)) (are_of_one_suit five) (distinct_ranks five)) (sym paired.1) ∙ shown-value five often (sym same) in
                 subst (λ v. Upto (number_of often ∷ ranks) v) value (inr (number, least))
             | inr single ↦
                 let number : number_of often ≡ 0 = ap number_of single in

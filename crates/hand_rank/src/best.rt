@@ -6,8 +6,18 @@ ghost use Rattle.hand_rank.specs.BestHigh.{best_high};
 
 use crate::five_cards::five_card_value;
 use crate::high_value::HighValue;
-use card_choices::{Pair, fives, pairs, threes};
+use crate::suits::Suits;
+use card_choices::{Pair, pairs, threes};
 use card_set::Card;
+
+/// The two hole cards and then the five of the board.
+fn together(hole: [Card; 2], board: [Card; 5]) -> [Card; 7]
+    ensures { result ≡ hole ++ board }
+{
+    let [a, b] = hole;
+    let [c, d, e, f, g] = board;
+    [a, b, c, d, e, f, g]
+}
 
 /// The best value of five of two hole cards and five board cards, as the list of its category and its ranks. No card may
 /// come twice.
@@ -15,12 +25,7 @@ pub fn best_holdem(hole: [Card; 2], board: [Card; 5]) -> HighValue
     requires distinct { AreDistinct (hole ++ board) }
     ensures best { result ≡ best_high (holdem_choices hole board) }
 {
-    let mut best = HighValue::least();
-    let fives = fives(hole, board);
-    for five in &fives {
-        best = best.max(five_card_value(&five.cards()));
-    }
-    best
+    Suits::of(&together(hole, board)).value()
 }
 
 /// The best value of a pair of hole cards with any three board cards.

@@ -1,6 +1,6 @@
 //! The value of five cards.
 
-ghost use Rattle.std.specs.Prelude.{◌≡◌, ◌≤◌, ◌∷◌, [], length, nat_eq, Some};
+ghost use Rattle.std.specs.Prelude.{◌≡◌, ◌+◌, ◌≤◌, ◌∷◌, ◌++◌, [], length, nat_eq, Some};
 ghost use Rattle.hand_rank.specs.Values.{category_number};
 ghost use Rattle.std.proofs.Common.{rules};
 ghost use Rattle.std.specs.Ordering.{nat_cmp};
@@ -46,6 +46,18 @@ impl HighValue {
     {
         let mut numbers = Numbers::new();
         numbers.push(category.number());
+        for rank in ranks {
+            numbers.push(*rank);
+        }
+        HighValue { numbers }
+    }
+
+    /// The value with more ranks that decide behind those that it has.
+    pub(crate) fn then(self, ranks: &[u8]) -> HighValue
+        requires { length self + length ranks.now ≤ 6 }
+        ensures { result ≡ self ++ ranks.now }
+    {
+        let mut numbers = self.numbers;
         for rank in ranks {
             numbers.push(*rank);
         }

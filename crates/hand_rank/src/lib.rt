@@ -12,6 +12,8 @@ mod high_value;
 mod laws;
 mod numbers;
 mod rank_set;
+mod suits;
+mod tally;
 #[cfg(test)]
 mod tests;
 
