@@ -1,6 +1,6 @@
-use crate::{Category, HighValue, best_holdem, best_omaha};
-use card_choices::are_distinct;
-use card_set::{Card, read_card};
+use crate::{Category, HighValue, best_holdem, best_omaha, five_card_value};
+use card_choices::{are_distinct, fives};
+use card_set::{Card, Deck, read_card};
 use std::process::Abort;
 
 fn card(rt: &impl Abort, rank: u8, suit: u8) -> Card {
@@ -277,4 +277,47 @@ fn kickers_count_and_suits_do_not(rt: HostRuntime) {
             "{board:?}"
         );
     }
+}
+
+/// The best value in hold'em as a plain walk through the 21 choices finds it.
+fn walk_holdem(hole: [Card; 2], board: [Card; 5]) -> HighValue {
+    let mut best = HighValue::least();
+    let fives = fives(hole, board);
+    for five in &fives {
+        best = best.max(five_card_value(&five.cards()));
+    }
+    best
+}
+
+/// Some card of a deck, by shifts of a number.
+fn draw(deck: &Deck, state: &mut u64) -> Card {
+    *state ^= *state << 13;
+    *state ^= *state >> 7;
+    *state ^= *state << 17;
+    deck.card((*state % 52) as usize)
+}
+
+#[test]
+fn holdem_is_as_the_walk_finds_it(rt: HostRuntime) {
+    let deck = Deck::sorted();
+    let mut state = 88172645463325252;
+    let mut compared = 0u32;
+    for _ in 0..4000 {
+        let hole = [draw(&deck, &mut state), draw(&deck, &mut state)];
+        let board = [
+            draw(&deck, &mut state),
+            draw(&deck, &mut state),
+            draw(&deck, &mut state),
+            draw(&deck, &mut state),
+            draw(&deck, &mut state),
+        ];
+        if are_distinct(&hole, &board) {
+            assert!(rt;
+                best_holdem(hole, board) == walk_holdem(hole, board),
+                "{hole:?} {board:?}"
+            );
+            compared = compared.saturating_add(1);
+        }
+    }
+    assert!(rt; compared > 2000, "{compared}");
 }
