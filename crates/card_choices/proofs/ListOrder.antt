@@ -72,7 +72,7 @@ upto-not_lt (x ∷ xs) (y ∷ ys) (inr same) =
     rw (one, other) (upto-not_lt xs ys same.1)
 
 -- a list that comes no later is less, or the same
-upto-lt : (xs ys : List ℕ) → Upto xs ys → (is_lt (slice_cmp nat_cmp xs ys) ≡ true) ⊎ (xs ≡ ys)
+pub upto-lt : (xs ys : List ℕ) → Upto xs ys → (is_lt (slice_cmp nat_cmp xs ys) ≡ true) ⊎ (xs ≡ ys)
 upto-lt [] [] is = inr refl
 upto-lt [] (y ∷ ys) is = inl refl
 upto-lt (x ∷ xs) [] is = absurd is

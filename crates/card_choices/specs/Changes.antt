@@ -7,7 +7,8 @@ abbrev pub AreRenamed : (ℕ → ℕ) → List Card → List Card → Type 0
 AreRenamed suit [] [] = Unit {0}
 AreRenamed suit [] (other ∷ others) = ⊥
 AreRenamed suit (card ∷ cards) [] = ⊥
-AreRenamed suit (card ∷ cards) (other ∷ others) = (other.rank ≡ card.rank) × (other.suit ≡ suit card.suit) × AreRenamed suit cards others
+AreRenamed suit (card ∷ cards) (other ∷ others) =
+    (other.rank ≡ card.rank) × (other.suit ≡ suit card.suit) × AreRenamed suit cards others
 
 -- suits are renamed one to one: no two of them get the same name
 abbrev pub IsOneToOne : (ℕ → ℕ) → Type 0

@@ -9,7 +9,7 @@ use Rattle.card_set.specs.Decks.{is_same_card, repeats_a_card}
 use Rattle.card_set.proofs.DeckLaws.{repeats_none-from_AllPairs}
 use Rattle.card_choices.specs.Choices.{AreDistinct}
 use Rattle.hand_rank.specs.Values.{ranks_down, count_of_rank, ranks_that_occur, distinct_ranks, are_of_one_suit}
-use Rattle.hand_rank.specs.Made.{count_of_suit}
+use Rattle.hand_rank.specs.Made.{count_of_suit, AreOnce}
 use Rattle.hand_rank.proofs.Chosen.{count_by-cons}
 use Rattle.hand_rank.proofs.CountLaws.{count_of_rank-cons}
 use Rattle.hand_rank.proofs.Sections.{falling, sections, total, total-same}
@@ -153,16 +153,16 @@ suit-once (card ∷ cards) suit r none =
     or_none true b h = absurd cc
     or_none false b h = (refl, h)
 
-pub distinct-once : (cards : List Card) (suit r : ℕ) → AreDistinct cards → count_of_suit cards suit r ≤ 1
-distinct-once cards suit r apart = suit-once cards suit r (repeats_none-from_AllPairs cards apart)
+pub distinct-once : (cards : List Card) → AreDistinct cards → AreOnce cards
+distinct-once cards apart suit r = suit-once cards suit r (repeats_none-from_AllPairs cards apart)
 
-pub distinct-few : (cards : List Card) (r : ℕ) → AreDistinct cards → count_of_rank cards r ≤ 4
-distinct-few cards r apart =
+pub once-few : (cards : List Card) (r : ℕ) → AreOnce cards → count_of_rank cards r ≤ 4
+once-few cards r once =
     let all = by-suits cards r in
-    let a = distinct-once cards 0 r apart in
-    let b = distinct-once cards 1 r apart in
-    let c = distinct-once cards 2 r apart in
-    let d = distinct-once cards 3 r apart in
+    let a = once 0 r in
+    let b = once 1 r in
+    let c = once 2 r in
+    let d = once 3 r in
     omega arith
 
 -- the ranks of the cards of a suit

@@ -5,6 +5,7 @@ pub mod Chosen
 pub mod CountLaws
 pub mod MadeLaws
 pub mod Needs
+pub mod OmahaLaws
 pub mod PickLaws
 pub mod RunLaws
 pub mod RunTable

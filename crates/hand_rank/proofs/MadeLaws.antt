@@ -3,7 +3,7 @@ use Rattle.std.proofs.Common.{◌≡◌, ℕ, zero, suc, ◌+◌, ◌<◌, ◌-�
 use Rattle.std.proofs.lemmas.Bool.Decides.{nat_tests}
 use Rattle.std.specs.Prelude.{Option, option_map, map, filter}
 use Rattle.card_set.specs.declared.card.Card.{Card}
-use Rattle.card_choices.specs.Choices.{choices, AreDistinct}
+use Rattle.card_choices.specs.Choices.{choices}
 use Rattle.card_choices.proofs.Combined.{combined}
 use Rattle.card_choices.proofs.ListOrder.{Upto, upto_both, upto_through, max-within, max-above_left, max-above_right}
 use Rattle.hand_rank.specs.declared.category.Category.{Category}
@@ -11,10 +11,10 @@ use Rattle.hand_rank.specs.Values.{category_number, count_of_rank, distinct_rank
 use Rattle.hand_rank.specs.BestHigh.{greater, greatest, best_high}
 use Rattle.hand_rank.specs.Picks.{picked}
 use Rattle.hand_rank.specs.Runs.{highest_run}
-use Rattle.hand_rank.specs.Made.{first_made, count_of_suit, value_of_suit, value_of_ranks, value_made}
+use Rattle.hand_rank.specs.Made.{first_made, count_of_suit, value_of_suit, value_of_ranks, value_made, AreOnce}
 use Rattle.hand_rank.proofs.ChangeLaws.{best_high-combined}
 use Rattle.hand_rank.proofs.Chosen.{IsChoice, count-choice, chosen-within, chosen-above, choice-filter}
-use Rattle.hand_rank.proofs.CardCounts.{other-rank, total-cards, distinct-once, distinct-few, suited-rank, all-suited, one_suit-all, all-one_suit}
+use Rattle.hand_rank.proofs.CardCounts.{other-rank, total-cards, once-few, suited-rank, all-suited, one_suit-all, all-one_suit}
 use Rattle.hand_rank.proofs.PickLaws.{Has, Falls, has-more, picked-has, picked-greatest, picked-some}
 use Rattle.hand_rank.proofs.Sections.{total, added, IsShape}
 use Rattle.hand_rank.proofs.Needs.{five-with, has-sum, has-only, has-once}
@@ -373,10 +373,10 @@ reach_suit cards suit dealt =
     (each 5 (λ x. x) (picked ones (count_of_suit cards suit)) [] b (λ ranks is. flush-reached cards suit ranks dealt is) tt)
 
 -- The greatest value of five of some cards is the greatest value that the cards make.
-pub best-made : (cards : List Card) → AreDistinct cards → 5 ≤ length cards → best_high (choices 5 cards) ≡ value_made cards
+pub best-made : (cards : List Card) → AreOnce cards → 5 ≤ length cards → best_high (choices 5 cards) ≡ value_made cards
 unfolding value_made
-best-made cards apart enough =
-    let dealt : AreDealt cards = record { enough = enough; few = λ r. distinct-few cards r apart; once = λ suit r. distinct-once cards suit r apart } in
+best-made cards once enough =
+    let dealt : AreDealt cards = record { enough = enough; few = λ r. once-few cards r once; once = once } in
     let suits = greatest (map (λ suit. value_of_suit (count_of_suit cards suit)) (0 ∷ 1 ∷ 2 ∷ 3 ∷ [])) in
     let up : Upto (best_of cards) (value_made cards) =
     chosen-within five_card_value 5 cards (value_made cards) (λ five is count.

@@ -6,14 +6,13 @@ use Rattle.std.proofs.lemmas.List.{take_more}
 use Rattle.std.proofs.lemmas.List.Sums.{sum_by-append}
 use Rattle.std.proofs.lemmas.Nat.Bits.{bit_at-zero}
 use Rattle.card_set.specs.declared.card.Card.{Card}
-use Rattle.card_choices.specs.Choices.{AreDistinct}
 use Rattle.card_choices.proofs.ListOrder.{max_assoc, max_lower}
 use Rattle.hand_rank.specs.declared.rank_set.RankSet.{RankSet}
 use Rattle.hand_rank.specs.BestHigh.{greater, greatest}
-use Rattle.hand_rank.specs.Made.{first_made, count_of_suit, value_of_suit, value_of_ranks, value_made}
+use Rattle.hand_rank.specs.Made.{first_made, count_of_suit, value_of_suit, value_of_ranks, value_made, AreOnce}
 use Rattle.hand_rank.specs.Sets.{has_rank, HasRanks, IsTallyOf, AreSuitsOf}
 use Rattle.hand_rank.specs.Values.{count_of_rank}
-use Rattle.hand_rank.proofs.CardCounts.{other-rank, by-suits, distinct-once, suited-rank, count_of_suit-cons}
+use Rattle.hand_rank.proofs.CardCounts.{other-rank, by-suits, suited-rank, count_of_suit-cons}
 use Rattle.hand_rank.proofs.ChangeLaws.{greater-combining}
 
 -- the first of some values, where there is one
@@ -105,15 +104,14 @@ suits-more sets cards i card more default four within at has are suit r other be
 -- how often a rank occurs, by the suits that have it
 pub tally-is : (once twice thrice four : ℕ) (cards : List Card) (a b c d : ℕ → Bool)
     → ((r : ℕ) → a r ≡ leb 1 (count_of_suit cards 0 r)) → ((r : ℕ) → b r ≡ leb 1 (count_of_suit cards 1 r)) → ((r : ℕ) → c r ≡ leb 1 (count_of_suit cards 2 r)) → ((r : ℕ) → d r ≡ leb 1 (count_of_suit cards 3 r))
-    → AreDistinct cards
+    → AreOnce cards
     → ((r : ℕ) → has_rank once r ≡ ((a r || b r) || (c r || d r)))
     → ((r : ℕ) → has_rank twice r ≡ (((a r && b r) || (c r && d r)) || ((a r || b r) && (c r || d r))))
     → ((r : ℕ) → has_rank thrice r ≡ (((a r && b r) && (c r || d r)) || ((a r || b r) && (c r && d r))))
     → ((r : ℕ) → has_rank four r ≡ ((a r && b r) && (c r && d r)))
     → IsTallyOf once twice thrice four (count_of_rank cards)
-tally-is once twice thrice four cards a b c d of_a of_b of_c of_d apart is_once is_twice is_thrice is_four =
+tally-is once twice thrice four cards a b c d of_a of_b of_c of_d few is_once is_twice is_thrice is_four =
     let only : (r : ℕ) → (15 ≤ r) ⊎ (r < 2) → count_of_rank cards r ≡ 0 = λ r out. other-rank cards r out in
-    let few = λ (suit r : ℕ). distinct-once cards suit r apart in
     record {
       of_once = record { some = lit≤ tt; at = λ r within. is_once r ∙ (λ i. (of_a r i || of_b r i) || (of_c r i || of_d r i)) ∙ one (count_of_suit cards 0 r) (count_of_suit cards 1 r) (count_of_suit cards 2 r) (count_of_suit cards 3 r) ∙ ap (leb 1) (sym (by-suits cards r)); only = only };
       of_twice = record { some = lit≤ tt; at = λ r within. is_twice r ∙ (λ i. ((of_a r i && of_b r i) || (of_c r i && of_d r i)) || ((of_a r i || of_b r i) && (of_c r i || of_d r i))) ∙ two (count_of_suit cards 0 r) (count_of_suit cards 1 r) (count_of_suit cards 2 r) (count_of_suit cards 3 r) (few 0 r) (few 1 r) (few 2 r) (few 3 r) ∙ ap (leb 2) (sym (by-suits cards r)); only = only };

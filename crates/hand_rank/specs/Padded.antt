@@ -13,5 +13,6 @@ pub record IsPadded (numbers : List ℕ) (len : ℕ) : Type 0 where
   pub zeros : padded (take len numbers) ≡ numbers
 
 -- the list gives its array and its length back
-pub padded_back : (numbers : List ℕ) (len : ℕ) → IsPadded numbers len → (padded (take len numbers) ≡ numbers) × (length (take len numbers) ≡ len)
+pub padded_back : (numbers : List ℕ) (len : ℕ) → IsPadded numbers len
+    → (padded (take len numbers) ≡ numbers) × (length (take len numbers) ≡ len)
 padded_back numbers len is = (is.zeros, omega (arith, length-take len numbers, is.few, is.six))

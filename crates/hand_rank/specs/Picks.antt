@@ -18,4 +18,5 @@ then (Some rank) others = option_map (λ ranks. rank ∷ ranks) (others rank)
 -- for each number in turn the highest rank that is left and occurs so often or more often, if there is one for each
 unfoldable pub picked : List ℕ → (ℕ → ℕ) → Option (List ℕ)
 picked [] count = Some []
-picked (often ∷ more) count = then (highest_below (λ r. nat_le often (count r)) 15) (λ rank. picked more (without rank count))
+picked (often ∷ more) count =
+    then (highest_below (λ r. nat_le often (count r)) 15) (λ rank. picked more (without rank count))

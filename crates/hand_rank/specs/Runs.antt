@@ -9,7 +9,8 @@ holds_place has place = has place || (place == 1 && has 14)
 -- whether five ranks in a row, of which this is the greatest, are all held
 abbrev pub is_run : (ℕ → Bool) → ℕ → Bool
 is_run has top =
-    holds_place has top && holds_place has (top - 1) && holds_place has (top - 2) && holds_place has (top - 3) && holds_place has (top - 4)
+    holds_place has top && holds_place has (top - 1) && holds_place has (top - 2)
+    && holds_place has (top - 3) && holds_place has (top - 4)
 
 -- the top rank of the highest run, from five to the ace, if there is one
 unfoldable pub highest_run : (ℕ → Bool) → Option ℕ

@@ -16,7 +16,8 @@ pub record HasRanks (bits often : ℕ) (count : ℕ → ℕ) : Type 0 where
   pub at : (rank : ℕ) → rank < 16 → has_rank bits rank ≡ nat_le often (count rank)
   pub only : (rank : ℕ) → (15 ≤ rank) ⊎ (rank < 2) → count rank ≡ 0
 
--- four sets have the ranks that occur once or more often, twice or more often, three times or more often, and four times
+-- four sets have the ranks that occur once or more often, twice or more often, three times or more often, and four
+-- times
 pub record IsTallyOf (once twice thrice four : ℕ) (count : ℕ → ℕ) : Type 0 where
   pub of_once : HasRanks once 1 count
   pub of_twice : HasRanks twice 2 count
@@ -25,4 +26,5 @@ pub record IsTallyOf (once twice thrice four : ℕ) (count : ℕ → ℕ) : Type
 
 -- four sets have the ranks of the cards of each suit
 abbrev pub AreSuitsOf : List RankSet → List Card → Type 0
-AreSuitsOf sets cards = (suit rank : ℕ) (other : RankSet) → suit < 4 → has_rank (slice_index_or sets suit other).bits rank ≡ nat_le 1 (count_of_suit cards suit rank)
+AreSuitsOf sets cards = (suit rank : ℕ) (other : RankSet) → suit < 4
+    → has_rank (slice_index_or sets suit other).bits rank ≡ nat_le 1 (count_of_suit cards suit rank)

@@ -6,7 +6,8 @@ use Rattle.card_set.specs.declared.card.Card.{Card}
 use Rattle.hand_rank.specs.declared.category.Category.{Category}
 use Rattle.hand_rank.specs.declared.category.Category.TheVariants.{HighCard, OnePair, TwoPair, ThreeOfAKind, Straight, Flush, FullHouse, FourOfAKind, StraightFlush}
 
--- the number of a category: 8 straight flush, 7 four of a kind, 6 full house, 5 flush, 4 straight, 3 three of a kind, 2 two pair, 1 one pair, 0 high card
+-- the number of a category: 8 straight flush, 7 four of a kind, 6 full house, 5 flush, 4 straight, 3 three of a kind, 2
+-- two pair, 1 one pair, 0 high card
 abbrev pub category_number : Category → ℕ
 category_number HighCard = 0
 category_number OnePair = 1
@@ -32,9 +33,11 @@ ranks_that_occur cards times = filter (λ rank. count_of_rank cards rank == time
 
 -- the distinct ranks: those that occur more often first, and higher ones first among equally frequent ones
 unfoldable pub distinct_ranks : List Card → List ℕ
-distinct_ranks cards = ranks_that_occur cards 4 ++ ranks_that_occur cards 3 ++ ranks_that_occur cards 2 ++ ranks_that_occur cards 1
+distinct_ranks cards =
+    ranks_that_occur cards 4 ++ ranks_that_occur cards 3 ++ ranks_that_occur cards 2 ++ ranks_that_occur cards 1
 
--- the category by how often the distinct ranks occur, in their order: 4+1, 3+2, 3+1+1, 2+2+1 and 2+1+1+1; none where five ranks occur once
+-- the category by how often the distinct ranks occur, in their order: 4+1, 3+2, 3+1+1, 2+2+1 and 2+1+1+1; none where
+-- five ranks occur once
 abbrev pub category_of : List ℕ → Option Category
 category_of counts =
     if pointwise ◌==◌ counts (4 ∷ 1 ∷ []) then Some FourOfAKind
@@ -44,7 +47,8 @@ category_of counts =
     else if pointwise ◌==◌ counts (2 ∷ 1 ∷ 1 ∷ 1 ∷ []) then Some OnePair
     else None
 
--- the top rank of five distinct ranks that run: the greatest less the least is 4; or they are the ace, 5, 4, 3 and 2, and then the top rank is 5
+-- the top rank of five distinct ranks that run: the greatest less the least is 4; or they are the ace, 5, 4, 3 and 2,
+-- and then the top rank is 5
 abbrev pub run_top : List ℕ → Option ℕ
 run_top (top ∷ second ∷ third ∷ fourth ∷ last ∷ []) =
     if pointwise ◌==◌ (top ∷ second ∷ third ∷ fourth ∷ last ∷ []) (14 ∷ 5 ∷ 4 ∷ 3 ∷ 2 ∷ []) then Some 5
@@ -57,7 +61,8 @@ abbrev pub are_of_one_suit : List Card → Bool
 are_of_one_suit [] = true
 are_of_one_suit (first ∷ others) = list_all (λ other. other.suit == first.suit) others
 
--- the value of five cards of distinct ranks, by the top rank if they run and by whether there is one suit: a straight or a straight flush is valued by its top rank alone
+-- the value of five cards of distinct ranks, by the top rank if they run and by whether there is one suit: a straight
+-- or a straight flush is valued by its top rank alone
 abbrev pub value_of_distinct : Option ℕ → Bool → List ℕ → List ℕ
 value_of_distinct (Some top) true ranks = category_number StraightFlush ∷ top ∷ []
 value_of_distinct (Some top) false ranks = category_number Straight ∷ top ∷ []

@@ -1,10 +1,10 @@
 //! The best high hand.
 
-ghost use Rattle.std.specs.Prelude.{◌≡◌, ◌++◌, map};
+ghost use Rattle.std.specs.Prelude.{◌≡◌, ◌++◌, length, map};
 ghost use Rattle.card_choices.specs.Choices.{choices, holdem_choices, omaha_choices, AreDistinct};
 ghost use Rattle.hand_rank.specs.BestHigh.{best_high};
+ghost use Rattle.hand_rank.specs.Made.{AreOnce};
 
-use crate::five_cards::five_card_value;
 use crate::high_value::HighValue;
 use crate::suits::Suits;
 use card_choices::{Pair, pairs, threes};
@@ -19,8 +19,8 @@ fn together(hole: [Card; 2], board: [Card; 5]) -> [Card; 7]
     [a, b, c, d, e, f, g]
 }
 
-/// The best value of five of two hole cards and five board cards, as the list of its category and its ranks. No card may
-/// come twice.
+/// The best value of five of two hole cards and five board cards, as the list of its category and its ranks. No card
+/// may come twice.
 pub fn best_holdem(hole: [Card; 2], board: [Card; 5]) -> HighValue
     requires distinct { AreDistinct (hole ++ board) }
     ensures best { result ≡ best_high (holdem_choices hole board) }
@@ -30,26 +30,32 @@ pub fn best_holdem(hole: [Card; 2], board: [Card; 5]) -> HighValue
 
 /// The best value of a pair of hole cards with any three board cards.
 fn best_of_pair(pair: Pair, board: [Card; 5]) -> HighValue
+    requires two { length pair ≡ 2 }
+    requires once { AreOnce (pair ++ board) }
     ensures { result ≡ best_high (map (λ three. pair ++ three) (choices 3 board)) }
 {
     let mut best = HighValue::least();
     let threes = threes(board);
     for three in &threes {
-        best = best.max(five_card_value(&pair.with(*three).cards()));
+        best = best.max(Suits::of(&pair.with(*three).cards()).value());
     }
     best
 }
 
-/// The best value of two of four hole cards with three of five board cards, as the list of its category and its ranks. No
-/// card may come twice.
+/// The best value of two of four hole cards with three of five board cards, as the list of its category and its ranks.
+/// No card may come twice. A pair of hole cards is passed over where even with the whole board it makes nothing better.
 pub fn best_omaha(hole: [Card; 4], board: [Card; 5]) -> HighValue
     requires distinct { AreDistinct (hole ++ board) }
     ensures best { result ≡ best_high (omaha_choices hole board) }
 {
+    let suits_of_board = Suits::of(&board);
     let mut best = HighValue::least();
     let pairs = pairs(hole);
     for pair in &pairs {
-        best = best.max(best_of_pair(*pair, board));
+        let bound = Suits::of(&pair.cards()).union(suits_of_board).value();
+        if best < bound {
+            best = best.max(best_of_pair(*pair, board));
+        }
     }
     best
 }

@@ -26,7 +26,8 @@ impl Model for Numbers {
 
     ghost inverse = { λ numbers. record { numbers = padded numbers; len = length numbers } };
 
-    ghost inverse_ok = { λ inside is. let same = padded_back inside.numbers inside.len is in λ i. record { numbers = same.0 i; len = same.1 i } };
+    ghost inverse_ok = { λ inside is.
+        let same = padded_back inside.numbers inside.len is in λ i. record { numbers = same.0 i; len = same.1 i } };
 }
 
 impl Numbers {

@@ -2,9 +2,8 @@
 
 ghost use Rattle.std.specs.Prelude.{◌≡◌, ◌++◌, ℕ, List};
 ghost use Rattle.card_set.specs.declared.card.Card.{Card};
-ghost use Rattle.card_choices.specs.Choices.{AreDistinct};
 ghost use Rattle.hand_rank.specs.BestHigh.{greater};
-ghost use Rattle.hand_rank.specs.Made.{value_of_suit, value_made};
+ghost use Rattle.hand_rank.specs.Made.{value_of_suit, value_made, AreOnce};
 ghost use Rattle.hand_rank.specs.Sets.{HasRanks, IsTallyOf, AreSuitsOf};
 ghost use Rattle.hand_rank.specs.Values.{count_of_rank};
 
@@ -59,7 +58,8 @@ impl Suits {
 
     /// The ranks of the suits of these cards and of others.
     pub fn union(self, others: Suits) -> Suits
-        ensures { (cards more : List Card) → AreSuitsOf self.ranks cards → AreSuitsOf others.ranks more → AreSuitsOf result.ranks (cards ++ more) }
+        ensures { (cards more : List Card) → AreSuitsOf self.ranks cards → AreSuitsOf others.ranks more
+            → AreSuitsOf result.ranks (cards ++ more) }
     {
         let [clubs, diamonds, hearts, spades] = self.ranks;
         let [more_clubs, more_diamonds, more_hearts, more_spades] = others.ranks;
@@ -75,7 +75,8 @@ impl Suits {
 
     /// How often ranks occur. No card may come twice.
     fn tally(self) -> Tally
-        ensures { (cards : List Card) → AreSuitsOf self.ranks cards → AreDistinct cards → IsTallyOf result.once.bits result.twice.bits result.thrice.bits result.four.bits (count_of_rank cards) }
+        ensures { (cards : List Card) → AreSuitsOf self.ranks cards → AreOnce cards
+            → IsTallyOf result.once.bits result.twice.bits result.thrice.bits result.four.bits (count_of_rank cards) }
     {
         let [clubs, diamonds, hearts, spades] = self.ranks;
         let either_minor = clubs.union(diamonds);
@@ -96,7 +97,7 @@ impl Suits {
 
     /// The greatest value that the cards make, of which none comes twice.
     pub fn value(self) -> HighValue
-        ensures { (cards : List Card) → AreSuitsOf self.ranks cards → AreDistinct cards → result ≡ value_made cards }
+        ensures { (cards : List Card) → AreSuitsOf self.ranks cards → AreOnce cards → result ≡ value_made cards }
     {
         let [clubs, diamonds, hearts, spades] = self.ranks;
         let best = self.tally().value();

@@ -20,7 +20,8 @@ pub struct Tally {
 
 impl Tally {
     fn four_of_a_kind(self) -> Option<HighValue>
-        ensures { (count : ℕ → ℕ) → IsTallyOf self.once.bits self.twice.bits self.thrice.bits self.four.bits count → result ≡ made Category.FourOfAKind (picked (4 ∷ 1 ∷ []) count) }
+        ensures { (count : ℕ → ℕ) → IsTallyOf self.once.bits self.twice.bits self.thrice.bits self.four.bits count
+            → result ≡ made Category.FourOfAKind (picked (4 ∷ 1 ∷ []) count) }
     {
         let four = self.four.highest()?;
         let kicker = self.once.without(four).highest()?;
@@ -28,7 +29,8 @@ impl Tally {
     }
 
     fn full_house(self) -> Option<HighValue>
-        ensures { (count : ℕ → ℕ) → IsTallyOf self.once.bits self.twice.bits self.thrice.bits self.four.bits count → result ≡ made Category.FullHouse (picked (3 ∷ 2 ∷ []) count) }
+        ensures { (count : ℕ → ℕ) → IsTallyOf self.once.bits self.twice.bits self.thrice.bits self.four.bits count
+            → result ≡ made Category.FullHouse (picked (3 ∷ 2 ∷ []) count) }
     {
         let three = self.thrice.highest()?;
         let pair = self.twice.without(three).highest()?;
@@ -36,14 +38,16 @@ impl Tally {
     }
 
     fn straight(self) -> Option<HighValue>
-        ensures { (count : ℕ → ℕ) → IsTallyOf self.once.bits self.twice.bits self.thrice.bits self.four.bits count → result ≡ run_made Category.Straight count }
+        ensures { (count : ℕ → ℕ) → IsTallyOf self.once.bits self.twice.bits self.thrice.bits self.four.bits count
+            → result ≡ run_made Category.Straight count }
     {
         let top = self.once.highest_run()?;
         Some(HighValue::of(Category::Straight, &[top]))
     }
 
     fn three_of_a_kind(self) -> Option<HighValue>
-        ensures { (count : ℕ → ℕ) → IsTallyOf self.once.bits self.twice.bits self.thrice.bits self.four.bits count → result ≡ made Category.ThreeOfAKind (picked (3 ∷ 1 ∷ 1 ∷ []) count) }
+        ensures { (count : ℕ → ℕ) → IsTallyOf self.once.bits self.twice.bits self.thrice.bits self.four.bits count
+            → result ≡ made Category.ThreeOfAKind (picked (3 ∷ 1 ∷ 1 ∷ []) count) }
     {
         let three = self.thrice.highest()?;
         let kickers = self.once.without(three).highest_two()?;
@@ -51,7 +55,8 @@ impl Tally {
     }
 
     fn two_pair(self) -> Option<HighValue>
-        ensures { (count : ℕ → ℕ) → IsTallyOf self.once.bits self.twice.bits self.thrice.bits self.four.bits count → result ≡ made Category.TwoPair (picked (2 ∷ 2 ∷ 1 ∷ []) count) }
+        ensures { (count : ℕ → ℕ) → IsTallyOf self.once.bits self.twice.bits self.thrice.bits self.four.bits count
+            → result ≡ made Category.TwoPair (picked (2 ∷ 2 ∷ 1 ∷ []) count) }
     {
         let first = self.twice.highest()?;
         let second = self.twice.without(first).highest()?;
@@ -61,7 +66,8 @@ impl Tally {
     }
 
     fn one_pair(self) -> Option<HighValue>
-        ensures { (count : ℕ → ℕ) → IsTallyOf self.once.bits self.twice.bits self.thrice.bits self.four.bits count → result ≡ made Category.OnePair (picked (2 ∷ 1 ∷ 1 ∷ 1 ∷ []) count) }
+        ensures { (count : ℕ → ℕ) → IsTallyOf self.once.bits self.twice.bits self.thrice.bits self.four.bits count
+            → result ≡ made Category.OnePair (picked (2 ∷ 1 ∷ 1 ∷ 1 ∷ []) count) }
     {
         let pair = self.twice.highest()?;
         let kickers = self.once.without(pair).highest_three()?;
@@ -69,7 +75,8 @@ impl Tally {
     }
 
     fn high_card(self) -> Option<HighValue>
-        ensures { (count : ℕ → ℕ) → IsTallyOf self.once.bits self.twice.bits self.thrice.bits self.four.bits count → result ≡ made Category.HighCard (picked (1 ∷ 1 ∷ 1 ∷ 1 ∷ 1 ∷ []) count) }
+        ensures { (count : ℕ → ℕ) → IsTallyOf self.once.bits self.twice.bits self.thrice.bits self.four.bits count
+            → result ≡ made Category.HighCard (picked (1 ∷ 1 ∷ 1 ∷ 1 ∷ 1 ∷ []) count) }
     {
         let ranks = self.once.highest_five()?;
         Some(HighValue::of(Category::HighCard, &ranks))
@@ -77,7 +84,8 @@ impl Tally {
 
     /// The best value of ranks that occur so often. The empty list where there are fewer than five cards.
     pub fn value(self) -> HighValue
-        ensures { (count : ℕ → ℕ) → IsTallyOf self.once.bits self.twice.bits self.thrice.bits self.four.bits count → result ≡ value_of_ranks count }
+        ensures { (count : ℕ → ℕ) → IsTallyOf self.once.bits self.twice.bits self.thrice.bits self.four.bits count
+            → result ≡ value_of_ranks count }
     {
         if let Some(value) = self.four_of_a_kind() {
             return value;

@@ -22,7 +22,8 @@ low_ranks_down = 8 ∷ 7 ∷ 6 ∷ 5 ∷ 4 ∷ 3 ∷ 2 ∷ 1 ∷ []
 unfoldable pub in_falling_order : List ℕ → List ℕ
 in_falling_order ranks = filter (λ rank. list_any (λ other. other == rank) ranks) low_ranks_down
 
--- five cards qualify where their ranks differ and none is above eight, and their value is then their ranks in falling order; straights and flushes do not count against them
+-- five cards qualify where their ranks differ and none is above eight, and their value is then their ranks in falling
+-- order; straights and flushes do not count against them
 unfoldable pub low_value : List Card → Option (List ℕ)
 low_value cards =
     let ranks = map low_rank cards in

@@ -32,9 +32,9 @@ fn best_of_pair(pair: Pair, board: [Card; 5]) -> Option<LowValue>
     best
 }
 
-/// The best low of two of four hole cards with three of five board cards: five different ranks, eight or lower, of which
-/// the ace counts as 1, as the list of these ranks in falling order. The lesser list is better. `None` exactly where no
-/// such cards have a low. No card may come twice.
+/// The best low of two of four hole cards with three of five board cards: five different ranks, eight or lower, of
+/// which the ace counts as 1, as the list of these ranks in falling order. The lesser list is better. `None` exactly
+/// where no such cards have a low. No card may come twice.
 pub fn best_low(hole: [Card; 4], board: [Card; 5]) -> Option<LowValue>
     requires distinct { AreDistinct (hole ++ board) }
     ensures best { result ≡ best_low_of (omaha_choices hole board) }

@@ -9,11 +9,17 @@ ghost use Rattle.low_rank.specs.Lows.{best_low_of};
 /// Two neighbours among the hole cards, or among the board cards, may change places and the low stays. So the order of
 /// the hole cards does not count, and that of the board cards does not, since exchanges of neighbours reach each order.
 pub fn order_does_not_count()
-    ensures hole { (front : List Card) (a b : Card) (back board : List Card) → best_low_of (omaha_choices (front ++ a ∷ b ∷ back) board) ≡ best_low_of (omaha_choices (front ++ b ∷ a ∷ back) board) }
-    ensures board { (hole front : List Card) (a b : Card) (back : List Card) → best_low_of (omaha_choices hole (front ++ a ∷ b ∷ back)) ≡ best_low_of (omaha_choices hole (front ++ b ∷ a ∷ back)) }
+    ensures hole { (front : List Card) (a b : Card) (back board : List Card)
+        → best_low_of (omaha_choices (front ++ a ∷ b ∷ back) board)
+        ≡ best_low_of (omaha_choices (front ++ b ∷ a ∷ back) board) }
+    ensures board { (hole front : List Card) (a b : Card) (back : List Card)
+        → best_low_of (omaha_choices hole (front ++ a ∷ b ∷ back))
+        ≡ best_low_of (omaha_choices hole (front ++ b ∷ a ∷ back)) }
 {}
 
 /// Where suits are renamed in any way, the low stays.
 pub fn suits_do_not_count()
-    ensures { (suit : ℕ → ℕ) (hole others board boards : List Card) → AreRenamed suit hole others → AreRenamed suit board boards → best_low_of (omaha_choices hole board) ≡ best_low_of (omaha_choices others boards) }
+    ensures { (suit : ℕ → ℕ) (hole others board boards : List Card) → AreRenamed suit hole others
+        → AreRenamed suit board boards
+        → best_low_of (omaha_choices hole board) ≡ best_low_of (omaha_choices others boards) }
 {}

@@ -1,4 +1,6 @@
--- The pots of a hand: what all players have put in, cut by heights. The Poker TDA Rules and Robert's Rules of Poker: who is all-in can win, from each player, no more than he has put in himself; what is above goes into side pots, each kept apart.
+-- The pots of a hand: what all players have put in, cut by heights. The Poker TDA Rules and Robert's Rules of Poker:
+-- who is all-in can win, from each player, no more than he has put in himself; what is above goes into side pots, each
+-- kept apart.
 use Rattle.std.specs.Prelude.{ℕ, zero, suc, ◌+◌, max, Bool, true, false, not, ◌&&◌, ◌||◌, if◌then◌else◌, nat_le, List, [], ◌∷◌, map, reverse, fold, count_by}
 use Rattle.std.specs.List.{list_all, list_any}
 use Rattle.pot_layers.specs.declared.put.Put.{Put}
@@ -35,7 +37,8 @@ are_same_seats (one ∷ more) (other ∷ others) = (if one then other else not o
 abbrev pub is_nobody : List Bool → Bool
 is_nobody set = list_all (λ is_in. not is_in) set
 
--- One height is laid on the pots below it, of which the highest comes first: heights with the same live payers form one pot, and a height without a live payer joins the pot below.
+-- One height is laid on the pots below it, of which the highest comes first: heights with the same live payers form one
+-- pot, and a height without a live payer joins the pot below.
 abbrev pub lay : List Pot → ℕ → List Bool → List Pot
 lay [] paid payers = record { amount = paid; eligible = payers } ∷ []
 lay (top ∷ below) paid payers =

@@ -29,4 +29,5 @@ pub record AreRight (standings : List Standing) : Type 0 where
 
 -- A player's total once it is raised by what lies within his height of the chips between two heights.
 abbrev pub grown : ℕ → ℕ → Standing → Standing
-grown before after standing = record standing { total = standing.total + (min after standing.put.amount - min before standing.put.amount) }
+grown before after standing =
+    record standing { total = standing.total + (min after standing.put.amount - min before standing.put.amount) }

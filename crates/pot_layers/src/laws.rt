@@ -25,13 +25,15 @@ pub fn pots_have_somebody()
 /// What a live player has put in above the height that any other player reached comes back to him: it is in the
 /// highest pot, which is for him alone.
 pub fn what_nobody_reached_comes_back()
-    ensures { (puts : List Put) (index amount reached : ℕ) → length puts ≡ 10 → has_put puts index amount ≡ true → are_others_within puts index reached ≡ true → reached < amount
+    ensures { (puts : List Put) (index amount reached : ℕ) → length puts ≡ 10 → has_put puts index amount ≡ true
+        → are_others_within puts index reached ≡ true → reached < amount
         → IsOwnPot (layers puts) index (amount - reached) }
 {}
 
 /// The shares of a pot of whole units sum to it.
 pub fn shares_sum_to_the_pot()
-    ensures { (amount unit winners : ℕ) → 1 ≤ winners → amount % unit ≡ 0 → sum_below (λ index. share_of amount unit winners index) winners ≡ amount }
+    ensures { (amount unit winners : ℕ) → 1 ≤ winners → amount % unit ≡ 0
+        → sum_below (λ index. share_of amount unit winners index) winners ≡ amount }
 {}
 
 /// The two halves of a pot of whole units sum to it.

@@ -63,8 +63,10 @@ impl Pots {
     /// Adds chips to the highest pot.
     pub(crate) fn add_to_last(&mut self, amount: u64)
         requires some { 1 ≤ length self.old }
-        requires fits { (below : List Pot) (last : Pot) → self.old ≡ below ++ last ∷ [] → last.amount + amount < 2 ^ 64 }
-        ensures { (below : List Pot) (last : Pot) → self.old ≡ below ++ last ∷ [] → self.new ≡ below ++ record last { amount = last.amount + amount } ∷ [] }
+        requires fits { (below : List Pot) (last : Pot) → self.old ≡ below ++ last ∷ []
+            → last.amount + amount < 2 ^ 64 }
+        ensures { (below : List Pot) (last : Pot) → self.old ≡ below ++ last ∷ []
+            → self.new ≡ below ++ record last { amount = last.amount + amount } ∷ [] }
     {
         self.pots[self.len - 1].amount += amount;
     }

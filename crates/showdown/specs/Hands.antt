@@ -1,4 +1,5 @@
--- The hands that are tabled. Robert's Rules of Poker: a hold'em hand is any five of the two hole cards and the board, an Omaha hand is two of the four hole cards with three of the board, for high and for low.
+-- The hands that are tabled. Robert's Rules of Poker: a hold'em hand is any five of the two hole cards and the board,
+-- an Omaha hand is two of the four hole cards with three of the board, for high and for low.
 use Rattle.std.specs.Prelude.{◌≡◌, ℕ, List, ◌++◌, take, map, Option, Some, None, option_map, slice_index_or}
 use Rattle.card_set.specs.declared.card.Card.{Card}
 use Rattle.card_set.specs.declared.game.Game.{Game}
@@ -15,7 +16,8 @@ hole_cards Holdem player = take 2 player.hole
 hole_cards Omaha player = player.hole
 hole_cards Hilo player = player.hole
 
--- A player's high value: in hold'em the best of any five of his hole cards and the board, else of two of his hole cards with three of the board.
+-- A player's high value: in hold'em the best of any five of his hole cards and the board, else of two of his hole cards
+-- with three of the board.
 abbrev pub high_value : Game → List Card → Live → List ℕ
 high_value Holdem board player = best_high (holdem_choices (take 2 player.hole) board)
 high_value Omaha board player = best_high (omaha_choices player.hole board)
@@ -37,4 +39,5 @@ hands_of game board live = map (λ player. option_map (hand_of game board) playe
 
 -- Of each live player no hole card is on the board, and no two are the same.
 pub record AreDealtApart (game : Game) (board : List Card) (live : List (Option Live)) : Type 0 where
-  pub each : (index : ℕ) (player : Live) → slice_index_or live index None ≡ Some player → AreDistinct (hole_cards game player ++ board)
+  pub each : (index : ℕ) (player : Live) → slice_index_or live index None ≡ Some player
+      → AreDistinct (hole_cards game player ++ board)

@@ -1,4 +1,5 @@
--- Who wins a pot. Robert's Rules of Poker: the best high hand takes the high side, the best qualifying low hand the low side.
+-- Who wins a pot. Robert's Rules of Poker: the best high hand takes the high side, the best qualifying low hand the low
+-- side.
 use Rattle.std.specs.Prelude.{ℕ, Bool, true, false, not, ◌&&◌, if◌then◌else◌, List, [], ◌∷◌, map, Option, Some, None, is_some}
 use Rattle.std.specs.List.{list_any}
 use Rattle.std.specs.Option.{option_map_or}

@@ -20,7 +20,9 @@ pub fn awards_sum_to_the_pots()
 
 /// A player is awarded nothing from a pot for which he is not eligible: his award stays as it was.
 pub fn only_eligible_players_are_awarded()
-    ensures { (game : Game) (board : List Card) (live : List (Option Live)) (unit button seats : ℕ) (awards : List ℕ) (pot : Pot) (index : ℕ)
+    ensures { (game : Game) (board : List Card) (live : List (Option Live)) (unit button seats : ℕ)
+        (awards : List ℕ) (pot : Pot) (index : ℕ)
         → has_seat pot.eligible (suc index) ≡ false
-        → slice_index_or (award_pot (hands_of game board live) unit button seats awards pot) index 0 ≡ slice_index_or awards index 0 }
+        → slice_index_or (award_pot (hands_of game board live) unit button seats awards pot) index 0
+        ≡ slice_index_or awards index 0 }
 {}

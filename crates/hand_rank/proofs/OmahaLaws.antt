@@ -1,0 +1,122 @@
+-- Pairs of hole cards with three board cards.
+use Rattle.std.proofs.Common.{◌≡◌, ℕ, zero, suc, ◌+◌, ◌<◌, ◌≤◌, inl, inr, true, false, ◌&&◌, eqb, List, [], ◌∷◌, ◌++◌, length, get_or, refl, sym, ap, ap₂, ◌∙◌, subst, le_trans, length-append, arith}
+use Rattle.std.specs.Prelude.{map}
+use Rattle.std.specs.Ordering.{nat_cmp, is_lt}
+use Rattle.std.specs.Cmp.Lexicographic.{slice_cmp}
+use Rattle.card_set.specs.declared.card.Card.{Card}
+use Rattle.card_choices.specs.Choices.{choices}
+use Rattle.card_choices.proofs.Combined.{combined, combined-map}
+use Rattle.card_choices.proofs.ListOrder.{Upto, upto_itself, upto_through, upto_either, upto-lt, max_lower}
+use Rattle.hand_rank.specs.BestHigh.{greater, best_high}
+use Rattle.hand_rank.specs.Values.{five_card_value}
+use Rattle.hand_rank.specs.Made.{count_of_suit, value_made, AreOnce}
+use Rattle.hand_rank.proofs.BestLaws.{best_high-one}
+use Rattle.hand_rank.proofs.ChangeLaws.{best_high-combined}
+use Rattle.hand_rank.proofs.Chosen.{IsChoice, count-choice, chosen-within, chosen-above, skip}
+use Rattle.hand_rank.proofs.MadeLaws.{best-made}
+
+-- so many of a list are a choice of it
+record IsOf {A : Type 0} (n : ℕ) (xs c : List A) : Type 0 where
+  choice : IsChoice c xs
+  count : length c ≡ n
+
+AllOf : {A : Type 0} → ℕ → List A → List (List A) → Type 0
+AllOf n xs [] = Unit {0}
+AllOf n xs (c ∷ cs) = IsOf n xs c × AllOf n xs cs
+
+all-append : {A : Type 0} (n : ℕ) (xs : List A) (cs ds : List (List A)) → AllOf n xs cs → AllOf n xs ds → AllOf n xs (cs ++ ds)
+unfolding AllOf
+all-append n xs [] ds one other = other
+all-append n xs (c ∷ cs) ds one other = (one.0, all-append n xs cs ds one.1 other)
+
+all-first : {A : Type 0} (n : ℕ) (x : A) (xs : List A) (cs : List (List A)) → AllOf n xs cs → AllOf (suc n) (x ∷ xs) (map (λ c. x ∷ c) cs)
+unfolding AllOf
+all-first n x xs [] all = tt
+all-first n x xs (c ∷ cs) all = (record { choice = inl (refl, all.0.choice); count = ap suc all.0.count }, all-first n x xs cs all.1)
+
+all-skip : {A : Type 0} (n : ℕ) (x : A) (xs : List A) (cs : List (List A)) → AllOf n xs cs → AllOf n (x ∷ xs) cs
+unfolding AllOf
+all-skip n x xs [] all = tt
+all-skip n x xs (c ∷ cs) all = (record { choice = skip c x xs all.0.choice; count = all.0.count }, all-skip n x xs cs all.1)
+
+all-choices : {A : Type 0} (n : ℕ) (xs : List A) → AllOf n xs (choices n xs)
+unfolding AllOf
+all-choices zero xs = (record { choice = tt; count = refl }, tt)
+all-choices (suc n) [] = tt
+all-choices (suc n) (x ∷ xs) =
+    all-append (suc n) (x ∷ xs) (map (λ c. x ∷ c) (choices n xs)) (choices (suc n) xs) (all-first n x xs (choices n xs) (all-choices n xs)) (all-skip (suc n) x xs (choices (suc n) xs) (all-choices (suc n) xs))
+
+all-at : {A : Type 0} (n : ℕ) (xs : List A) (cs : List (List A)) (i : ℕ) (d : List A) → AllOf n xs cs → i < length cs → IsOf n xs (get_or cs i d)
+unfolding AllOf
+all-at n xs [] i d all within = absurd (omega arith)
+all-at n xs (c ∷ cs) zero d all within = all.0
+all-at n xs (c ∷ cs) (suc i) d all within = all-at n xs cs i d all.1 (omega arith)
+
+-- each of the choices of so many is one
+pub choice-at : {A : Type 0} (n : ℕ) (xs : List A) (cs : List (List A)) (i : ℕ) (c : List A) → cs ≡ choices n xs → i < length cs → c ≡ get_or cs i c → IsChoice c xs × (length c ≡ n)
+choice-at n xs cs i c same within at =
+    let all = all-at n xs cs i c (subst (λ ds. AllOf n xs ds) (sym same) (all-choices n xs)) within in
+    (subst (λ d. IsChoice d xs) (sym at) all.choice, ap length at ∙ all.count)
+
+-- a choice of some and a choice of others are a choice of both
+pub choice-joined : {A : Type 0} (c xs d ys : List A) → IsChoice c xs → IsChoice d ys → IsChoice (c ++ d) (xs ++ ys)
+choice-joined [] [] d ys one other = other
+choice-joined [] (x ∷ xs) d ys one other = skip d x (xs ++ ys) (choice-joined [] xs d ys tt other)
+choice-joined (c ∷ cs) [] d ys one other = absurd one
+choice-joined (c ∷ cs) (x ∷ xs) d ys (inl at) other = inl (at.0, choice-joined cs xs d ys at.1 other)
+choice-joined (c ∷ cs) (x ∷ xs) d ys (inr after) other = inr (choice-joined (c ∷ cs) xs d ys after other)
+
+pub itself : {A : Type 0} (xs : List A) → IsChoice xs xs
+itself [] = tt
+itself (x ∷ xs) = inl (refl, itself xs)
+
+-- a choice of cards has each rank of each suit no more often
+pub choice-once : (c xs : List Card) → IsChoice c xs → AreOnce xs → AreOnce c
+choice-once c xs is once suit r = le_trans (count-choice (λ (card : Card). eqb card.suit suit && eqb card.rank r) c xs is) (once suit r)
+
+choices-none : {A : Type 0} (n : ℕ) (xs : List A) → length xs < n → choices n xs ≡ []
+choices-none zero xs few = absurd (omega arith)
+choices-none (suc n) [] few = refl
+choices-none (suc n) (x ∷ xs) few =
+    ap₂ (λ a b. map (λ c. x ∷ c) a ++ b) (choices-none n xs (omega arith)) (choices-none (suc n) xs (omega arith))
+
+choices-whole : {A : Type 0} (xs : List A) → choices (length xs) xs ≡ xs ∷ []
+choices-whole [] = refl
+choices-whole (x ∷ xs) =
+    ap₂ (λ a b. map (λ c. x ∷ c) a ++ b) (choices-whole xs) (choices-none (suc (length xs)) xs (omega arith))
+
+-- what five cards make is their value
+pub made-five : (five : List Card) → length five ≡ 5 → AreOnce five → value_made five ≡ five_card_value five
+made-five five count once =
+    sym (best-made five once (omega arith))
+    ∙ ap best_high (subst (λ n. choices n five ≡ five ∷ []) count (choices-whole five))
+    ∙ best_high-one five
+
+-- a pair and three board cards make no more than the pair and the board
+pub pair-within : (pair board : List Card) → length pair ≡ 2 → 3 ≤ length board → AreOnce (pair ++ board) → Upto (best_high (map (λ three. pair ++ three) (choices 3 board))) (value_made (pair ++ board))
+pair-within pair board two enough once =
+    let cards = pair ++ board in
+    let all : 5 ≤ length cards = omega (arith, length-append pair board) in
+    let made = best_high-combined (choices 5 cards) in
+    subst (λ v. Upto (best_high (map (λ three. pair ++ three) (choices 3 board))) v) (best-made cards once all)
+    (subst (λ v. Upto v (best_high (choices 5 cards))) (sym (best_high-combined (map (λ three. pair ++ three) (choices 3 board)) ∙ combined-map greater [] five_card_value (λ three. pair ++ three) (choices 3 board)))
+    (chosen-within (λ three. five_card_value (pair ++ three)) 3 board (best_high (choices 5 cards)) (λ three is count.
+    let five : length (pair ++ three) ≡ 5 = omega (arith, length-append pair three) in
+    subst (λ v. Upto (five_card_value (pair ++ three)) v) (sym made)
+    (subst (λ n. Upto (five_card_value (pair ++ three)) (combined greater [] five_card_value (choices n cards))) five
+    (chosen-above five_card_value (pair ++ three) cards (choice-joined pair pair three board (itself pair) is))))))
+
+-- a value that is not less than another comes no earlier
+pub not_less-upto : (best bound : List ℕ) → is_lt (slice_cmp nat_cmp best bound) ≡ false → Upto bound best
+not_less-upto best bound fails =
+    elim (upto_either bound best) [
+      | inl up ↦ up
+      | inr down ↦ elim (upto-lt best bound down) [
+        | inl less ↦ absurd cc
+        | inr same ↦ subst (λ v. Upto bound v) (sym same) (upto_itself bound)
+      ]
+    ]
+
+-- a pair whose bound is no greater does not count
+pub pair-passed : (best bound value : List ℕ) → is_lt (slice_cmp nat_cmp best bound) ≡ false → Upto value bound → greater best value ≡ best
+pair-passed best bound value fails within = max_lower best value (upto_through value bound best within (not_less-upto best bound fails))
