@@ -1,5 +1,5 @@
 use crate::{Category, HighValue, best_holdem, best_omaha, five_card_value};
-use card_choices::{are_distinct, fives};
+use card_choices::{are_distinct, fives, pairs, threes};
 use card_set::{Card, Deck, read_card};
 use std::process::Abort;
 
@@ -297,6 +297,16 @@ fn draw(deck: &Deck, state: &mut u64) -> Card {
     deck.card((*state % 52) as usize)
 }
 
+fn draw_board(deck: &Deck, state: &mut u64) -> [Card; 5] {
+    [
+        draw(deck, state),
+        draw(deck, state),
+        draw(deck, state),
+        draw(deck, state),
+        draw(deck, state),
+    ]
+}
+
 #[test]
 fn holdem_is_as_the_walk_finds_it(rt: HostRuntime) {
     let deck = Deck::sorted();
@@ -304,13 +314,7 @@ fn holdem_is_as_the_walk_finds_it(rt: HostRuntime) {
     let mut compared = 0u32;
     for _ in 0..4000 {
         let hole = [draw(&deck, &mut state), draw(&deck, &mut state)];
-        let board = [
-            draw(&deck, &mut state),
-            draw(&deck, &mut state),
-            draw(&deck, &mut state),
-            draw(&deck, &mut state),
-            draw(&deck, &mut state),
-        ];
+        let board = draw_board(&deck, &mut state);
         if are_distinct(&hole, &board) {
             assert!(rt;
                 best_holdem(hole, board) == walk_holdem(hole, board),
@@ -320,4 +324,45 @@ fn holdem_is_as_the_walk_finds_it(rt: HostRuntime) {
         }
     }
     assert!(rt; compared > 2000, "{compared}");
+}
+
+/// The best value in Omaha as a plain walk through the 60 choices finds it.
+fn walk_omaha(hole: [Card; 4], board: [Card; 5]) -> HighValue {
+    let mut best = HighValue::least();
+    for pair in &pairs(hole) {
+        for three in &threes(board) {
+            best = best.max(five_card_value(&pair.with(*three).cards()));
+        }
+    }
+    best
+}
+
+/// Whether the best value in Omaha is the one that the walk finds. `None` where a card comes twice.
+fn is_as_walked(hole: [Card; 4], board: [Card; 5]) -> Option<bool> {
+    if are_distinct(&hole, &board) {
+        Some(best_omaha(hole, board) == walk_omaha(hole, board))
+    } else {
+        None
+    }
+}
+
+#[test]
+fn omaha_is_as_the_walk_finds_it(rt: HostRuntime) {
+    let deck = Deck::sorted();
+    let mut state = 88172645463325252;
+    let mut compared = 0u32;
+    for _ in 0..4000 {
+        let hole = [
+            draw(&deck, &mut state),
+            draw(&deck, &mut state),
+            draw(&deck, &mut state),
+            draw(&deck, &mut state),
+        ];
+        let board = draw_board(&deck, &mut state);
+        if let Some(same) = is_as_walked(hole, board) {
+            assert!(rt; same, "{hole:?} {board:?}");
+            compared = compared.saturating_add(1);
+        }
+    }
+    assert!(rt; compared > 1000, "{compared}");
 }
