@@ -13,6 +13,10 @@ pub use laws::lines_are_a_run;
 pub use run::run_offline;
 
 #[cfg(test)]
+mod betting_tests;
+#[cfg(test)]
+mod betting_transcripts;
+#[cfg(test)]
 mod scripts;
 #[cfg(test)]
 mod seat_scripts;

@@ -147,7 +147,7 @@ fn input_of(alloc: Global, transcript: &Transcript) -> Result<Vec<u8>, AllocErro
 }
 
 /// Plays a transcript, and compares the answer to each line and each line of the report.
-fn follow(rt: &impl Abort, alloc: Global, transcript: &Transcript) -> Result<(), AllocError> {
+pub fn follow(rt: &impl Abort, alloc: Global, transcript: &Transcript) -> Result<(), AllocError> {
     let input = input_of(alloc, transcript)?;
     let ran = run(alloc, "replay", input, &[], &[])?;
     let name = transcript.name;

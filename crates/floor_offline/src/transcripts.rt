@@ -9,7 +9,7 @@ pub struct Transcript {
 }
 
 /// A plan of one table.
-const PLAN: &str = "game holdem
+pub const PLAN: &str = "game holdem
 tables 1
 seats 6
 stack 1000
@@ -21,12 +21,12 @@ go
 ";
 
 /// Two players enter.
-const TWO: &str = "enter ann 1 1
+pub const TWO: &str = "enter ann 1 1
 enter bob 1 4
 ";
 
 /// Three players enter.
-const THREE: &str = "enter ann 1 1
+pub const THREE: &str = "enter ann 1 1
 enter bob 1 4
 enter cat 1 6
 ";
