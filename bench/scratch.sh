@@ -1,7 +1,7 @@
 # Builds a program from a text of bench/ over crates of the repository; source it at the top of the repository.
 # `scratch NAME CRATES..` proves bench/NAME.txt and the crates that it stands on, in a folder that goes away at the end,
 # and leaves the built program in `program`. What earlier checks kept of the crates is begun with, and what is written of
-# the program's own proofs stands in bench/NAME_proofs.
+# the program's own proofs stands in bench/NAME_proofs, in texts.
 work=$(mktemp -d)
 trap 'rm -rf "$work"' EXIT
 
@@ -17,7 +17,10 @@ scratch() {
     done
     mkdir -p "$work/crates/$name/src"
     cp "bench/$name.txt" "$work/crates/$name/src/main.rt"
-    if [ -d "bench/${name}_proofs" ]; then cp -r "bench/${name}_proofs" "$work/crates/$name/proofs"; fi
+    if [ -d "bench/${name}_proofs" ]; then
+        cp -r "bench/${name}_proofs" "$work/crates/$name/proofs"
+        find "$work/crates/$name/proofs" -name '*.txt' -exec sh -c 'mv "$1" "${1%.txt}.antt"' _ {} \;
+    fi
     echo "$name: $*" >> "$work/crates.txt"
     git init -q "$work"
     program=$work/crates/$name/out/$name
