@@ -75,8 +75,8 @@ fn are_players(book: &SeatBook, table: u8, names: &[Name]) -> bool
     names.len() == usize::from(book.count(table)) && names_come_as_often(book, table, names)
 }
 
-/// Whether a draw of a broken table is right: the seats are those of its fill list in some order, and the names those of
-/// its players in some order.
+/// Whether a draw of a broken table is right: the seats are those of its fill list in some order, and the names those
+/// of its players in some order.
 pub fn check_draw(
     book: &SeatBook,
     table: u8,

@@ -1,8 +1,8 @@
 //! The break of a table: which seats its players take, and the draw of who takes which.
 //!
 //! It stands on floor_text, button_blinds, seat_book and balance_rule, and on `rand` and `rand_chacha`. `fill_list`
-//! chooses the seats, `draw` puts seats and names into an order by a seed, and `check_draw` says whether an order is one.
-//! `fill_list` and `draw` alone take memory. `generator` makes the generator of any draw of a tournament.
+//! chooses the seats, `draw` puts seats and names into an order by a seed, and `check_draw` says whether an order is
+//! one. `fill_list` and `draw` alone take memory. `generator` makes the generator of any draw of a tournament.
 #![tactic(auto)]
 
 mod checks;

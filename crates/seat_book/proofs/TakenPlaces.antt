@@ -88,7 +88,7 @@ module _ (table seat : ℕ) (first : 1 ≤ seat) (last : seat ≤ 10) where
   one seated players set true false size is others =
       let put = has_seat-one_more set seated.place.seat seat first (omega (arith, size, last)) in
       let put_as : has_seat (with_seat set seated.place.seat) seat ≡ has_seat set seat = put
-          ∙ ap (λ b. b || has_seat set seat) is in
+      ∙ ap (λ b. b || has_seat set seat) is in
       rw is (others (with_seat set seated.place.seat) (same_size set seated.place.seat ∙ size)
       ∙ ap (λ b. is_in players || b) put_as)
 
