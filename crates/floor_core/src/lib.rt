@@ -25,4 +25,6 @@ pub use table_engine::ActFault as BookFault;
 pub use tournament::Tournament;
 
 #[cfg(test)]
+mod apart_tests;
+#[cfg(test)]
 mod tests;

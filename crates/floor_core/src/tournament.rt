@@ -27,7 +27,7 @@ pub struct Tournament {
     alloc: Global,
     draft: PlanDraft,
     play: Option<Play>,
-    accepted: u64,
+    pub(crate) accepted: u64,
 }
 
 impl Model for Tournament {
