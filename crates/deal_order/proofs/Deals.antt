@@ -75,7 +75,7 @@ deal-rising dealt button seats holes table most at =
     ap are_rising (deal-count_up dealt button seats holes table most at) ∙ count_up-rising 0 (holes * seat_count dealt + 8)
 
 -- Four cards of ten players are forty.
-forty : (holes players : ℕ) → holes ≤ 4 → players ≤ 10 → holes * players ≤ 40
+pub forty : (holes players : ℕ) → holes ≤ 4 → players ≤ 10 → holes * players ≤ 40
 forty holes players few most = grind arith
 
 -- With at most four hole cards each place is one of the deck's 52.

@@ -35,7 +35,7 @@ index-over dealt step steps taken next seat over =
     let left : steps - taken ≡ 0 = omega arith in rw left
 
 -- A test of all numbers below one.
-all_below : (ℕ → Bool) → ℕ → Bool
+unfoldable pub all_below : (ℕ → Bool) → ℕ → Bool
 all_below test zero = true
 all_below test (suc n) = test n && all_below test n
 
@@ -44,7 +44,8 @@ both_true true true both = (refl, refl)
 both_true true false both = absurd cc
 both_true false other both = absurd cc
 
-all_below-at : (test : ℕ → Bool) (n k : ℕ) → all_below test n ≡ true → k < n → test k ≡ true
+-- A test that all numbers below one pass each of them passes.
+pub all_below-at : (test : ℕ → Bool) (n k : ℕ) → all_below test n ≡ true → k < n → test k ≡ true
 unfolding all_below
 all_below-at test zero k all below = absurd (omega arith)
 all_below-at test (suc n) k all below =

@@ -63,3 +63,11 @@ deal_places dealt button seats holes = hole_places dealt button seats holes ++ b
 abbrev pub count_up : ℕ → ℕ → List ℕ
 count_up from zero = []
 count_up from (suc more) = from ∷ count_up (from + 1) more
+
+-- The places of a player's hole cards, in the order of the deal.
+abbrev pub places_of_player : List Bool → ℕ → ℕ → ℕ → ℕ → List ℕ
+places_of_player dealt button seats holes seat = map (hole_card_place dealt button seats seat) (count_up 0 holes)
+
+-- The places of the cards of the board.
+abbrev pub places_of_board : ℕ → ℕ → List ℕ
+places_of_board dealt holes = map (board_card_place dealt holes) (count_up 0 5)

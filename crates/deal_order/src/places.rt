@@ -11,7 +11,8 @@ use rulebook::seat_after;
 fn index_in_deal(dealt: SeatSet, button: u8, seats: u8, seat: u8) -> u8
     requires some { 1 ≤ seats }
     requires most { seats ≤ 10 }
-    ensures { result ≡ index_in seat (dealt_in_order dealt button seats) }
+    ensures index { result ≡ index_in seat (dealt_in_order dealt button seats) }
+    ensures most { result ≤ 10 }
 {
     let mut before = 0;
     let mut next = button;
@@ -33,7 +34,8 @@ pub fn hole_place(dealt: SeatSet, button: u8, seats: u8, holes: u8, seat: u8, k:
     requires some { 1 ≤ seats }
     requires most { seats ≤ 10 }
     requires card { k < holes }
-    ensures { result ≡ hole_card_place dealt button seats seat k }
+    ensures place { result ≡ hole_card_place dealt button seats seat k }
+    ensures within { holes ≤ 4 → result < 52 }
 {
     let index = index_in_deal(dealt, button, seats, seat);
     k as usize * dealt.count() as usize + index as usize
@@ -55,7 +57,8 @@ fn burned_before(i: u8) -> usize
 /// The place in the deck of card `i` of the board, where so many players are dealt in and so many `holes` are dealt
 /// to each: 0 to 2 are the flop, 3 is the turn and 4 the river.
 pub fn board_place(dealt: u8, holes: u8, i: u8) -> usize
-    ensures { result ≡ board_card_place dealt holes i }
+    ensures place { result ≡ board_card_place dealt holes i }
+    ensures within { dealt ≤ 10 → holes ≤ 4 → i ≤ 4 → result < 52 }
 {
     holes as usize * dealt as usize + i as usize + burned_before(i)
 }
