@@ -50,7 +50,7 @@ impl PotTally {
     }
 
     /// The tally of these puts.
-    pub(crate) fn of(puts: &[Put; 10]) -> PotTally
+    pub fn of(puts: &[Put; 10]) -> PotTally
         requires { total_put puts.now < 2 ^ 53 }
         ensures { result ≡ puts.now }
     {
