@@ -108,7 +108,8 @@ sum-award_pot hands unit button seats awards pot ten at =
     (λ halves. low-some hands pot.eligible seats button at.table at.at
     (neither (seat_count (winners Low (in_play pot.eligible hands)) == 0) (are_same_seats (winners High (in_play pot.eligible hands)) (winners Low (in_play pot.eligible hands))) halves))
 
-length-award_pot : (hands : List (Option Hand)) (unit button seats : ℕ) (awards : List ℕ) (pot : Pot) → length (award_pot hands unit button seats awards pot) ≡ length awards
+-- There are as many awards as before.
+pub length-award_pot : (hands : List (Option Hand)) (unit button seats : ℕ) (awards : List ℕ) (pot : Pot) → length (award_pot hands unit button seats awards pot) ≡ length awards
 unfolding award_pot
 length-award_pot hands unit button seats awards pot =
     length-sides pot.amount unit button seats awards (winners High (in_play pot.eligible hands)) (winners Low (in_play pot.eligible hands))

@@ -6,3 +6,4 @@ pub mod PotAwards
 pub mod SameSeats
 pub mod AllPots
 pub mod AwardLaws
+pub mod Each

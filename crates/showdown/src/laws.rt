@@ -1,6 +1,7 @@
 //! What holds of all awards.
 
-ghost use Rattle.std.specs.Prelude.{◌≡◌, ◌≤◌, ℕ, true, false, suc, List, Option, map, is_some, sum, slice_index_or};
+ghost use Rattle.std.specs.Prelude.{◌≡◌, ◌≤◌, ◌%◌, ◌==◌, ℕ, true, false, suc, List, Option, map, is_some, sum, slice_index_or};
+ghost use Rattle.std.specs.List.{list_all};
 ghost use Rattle.card_set.specs.declared.card.Card.{Card};
 ghost use Rattle.card_set.specs.declared.game.Game.{Game};
 ghost use Rattle.button_blinds.specs.SeatSets.{has_seat, AreSeatsOf};
@@ -25,4 +26,17 @@ pub fn only_eligible_players_are_awarded()
         → has_seat pot.eligible (suc index) ≡ false
         → slice_index_or (award_pot (hands_of game board live) unit button seats awards pot) index 0
         ≡ slice_index_or awards index 0 }
+{}
+
+/// Each award is a multiple of the unit.
+pub fn awards_are_whole_units()
+    ensures { (game : Game) (board : List Card) (live : List (Option Live)) (unit button seats : ℕ) (pots : List Pot)
+        → list_all (λ award. award % unit == 0) (awards_of (hands_of game board live) unit button seats pots) ≡ true }
+{}
+
+/// Who is not live is awarded nothing, where only live players may win a pot.
+pub fn only_live_players_are_awarded()
+    ensures { (game : Game) (board : List Card) (live : List (Option Live)) (unit button seats : ℕ) (pots : List Pot) (index : ℕ)
+        → has_seat (map is_some live) (suc index) ≡ false → are_for (map is_some live) pots ≡ true
+        → slice_index_or (awards_of (hands_of game board live) unit button seats pots) index 0 ≡ 0 }
 {}
