@@ -11,3 +11,4 @@ pub mod Told
 pub mod PotLaws
 pub mod ShareLaws
 pub mod OwnPot
+pub mod WholeLayers

@@ -14,7 +14,7 @@ use Rattle.pot_layers.proofs.Heights.{total_to-suc, total_to-zero, total_to-grea
 use Rattle.pot_layers.proofs.Stretches.{pot_of}
 
 -- A height's payments go into the pots.
-total_of-lay : (pots : List Pot) (paid : ℕ) (payers : List Bool) → total_of (lay pots paid payers) ≡ total_of pots + paid
+pub total_of-lay : (pots : List Pot) (paid : ℕ) (payers : List Bool) → total_of (lay pots paid payers) ≡ total_of pots + paid
 total_of-lay [] paid payers = refl
 total_of-lay (top ∷ below) paid payers = by_test (are_same_seats top.eligible payers || is_nobody payers)
   where
@@ -30,7 +30,8 @@ total_of-lay (top ∷ below) paid payers = by_test (are_same_seats top.eligible 
         let after = sum_by-cons (λ (pot : Pot). pot.amount) (pot_of paid payers) (top ∷ below) in
         omega (arith, after)
 
-total_of-pots_to : (puts : List Put) (height : ℕ) → total_of (pots_to puts height) ≡ total_to puts height
+-- The pots to a height hold all that was put in up to it.
+pub total_of-pots_to : (puts : List Put) (height : ℕ) → total_of (pots_to puts height) ≡ total_to puts height
 unfolding pots_to
 total_of-pots_to puts zero = sym (total_to-zero puts)
 total_of-pots_to puts (suc height) =
@@ -71,7 +72,8 @@ eligible-lay test (top ∷ below) paid payers all first other = by_nobody (is_no
     by_nobody true is = rw is (joined (are_same_seats top.eligible payers))
     by_nobody false is = by_same (are_same_seats top.eligible payers || is_nobody payers) (other is)
 
-list_all-reverse : {A : Type 0} (test : A → Bool) (items : List A) → list_all test items ≡ true → list_all test (reverse items) ≡ true
+-- What all of a list pass, all of it in reverse pass.
+pub list_all-reverse : {A : Type 0} (test : A → Bool) (items : List A) → list_all test items ≡ true → list_all test (reverse items) ≡ true
 list_all-reverse test [] all = refl
 list_all-reverse test (item ∷ more) all =
     ap (list_all test) (reverse-cons item more)

@@ -17,11 +17,11 @@ use Rattle.pot_layers.proofs.Heights.{is_live_at}
 pub eqb_true : (n unit : ℕ) → n % unit ≡ 0 → (n % unit == 0) ≡ true
 eqb_true n unit is = grind (arith, nat_tests)
 
-true_eqb : (n unit : ℕ) → (n % unit == 0) ≡ true → n % unit ≡ 0
+pub true_eqb : (n unit : ℕ) → (n % unit == 0) ≡ true → n % unit ≡ 0
 true_eqb n unit is = grind (arith, nat_tests)
 
 -- A multiple of the unit added leaves the rest as it is.
-plus-whole : (a b unit : ℕ) → b % unit ≡ 0 → (a + b) % unit ≡ a % unit
+pub plus-whole : (a b unit : ℕ) → b % unit ≡ 0 → (a + b) % unit ≡ a % unit
 plus-whole a b unit whole =
     let quotient : b ≡ b / unit * unit = omega (arith, div-add-mod' b unit, whole) in
     ap (λ n. (a + n) % unit) quotient ∙ add-mul-mod_self_right a (b / unit) unit

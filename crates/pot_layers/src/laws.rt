@@ -3,7 +3,7 @@
 ghost use Rattle.std.specs.Prelude.{◌≡◌, ◌+◌, ◌-◌, ◌%◌, ◌<◌, ◌≤◌, ℕ, true, List, length};
 ghost use Rattle.pot_layers.specs.declared.put.Put.{Put};
 ghost use Rattle.pot_layers.specs.Layers.{layers, is_contested};
-ghost use Rattle.pot_layers.specs.PotTests.{total_of, live_seats, are_for, have_somebody, has_put, are_others_within, IsOwnPot};
+ghost use Rattle.pot_layers.specs.PotTests.{total_of, live_seats, are_for, are_whole_pots, are_whole_puts, have_somebody, has_put, are_others_within, IsOwnPot};
 ghost use Rattle.pot_layers.specs.Shares.{share_of, high_half, low_half, sum_below};
 ghost use Rattle.pot_layers.specs.Tallies.{total_put};
 
@@ -20,6 +20,11 @@ pub fn pots_are_for_live_players()
 /// Each pot can be won by somebody, where a live player has put in chips.
 pub fn pots_have_somebody()
     ensures { (puts : List Put) → is_contested puts ≡ true → have_somebody (layers puts) ≡ true }
+{}
+
+/// Each pot is of whole units, where all that was put in is.
+pub fn pots_are_whole_units()
+    ensures { (puts : List Put) (unit : ℕ) → are_whole_puts unit puts ≡ true → are_whole_pots unit (layers puts) ≡ true }
 {}
 
 /// What a live player has put in above the height that any other player reached comes back to him: it is in the
