@@ -17,7 +17,8 @@ comes-checked : all_below (λ seats. all_below (λ button. all_below
 unfolding all_below
 comes-checked = refl
 
-clockwise-comes : (seats button below : ℕ) → seats ≤ 10 → button ≤ seats → below < seats
+-- A walk round a table comes to each of its seats.
+pub clockwise-comes : (seats button below : ℕ) → seats ≤ 10 → button ≤ seats → below < seats
     → list_any (λ other. other == suc below) (clockwise_after seats button) ≡ true
 clockwise-comes seats button below most at within =
     let checked = all_below-at (λ k. not (nat_lt k seats) || list_any (λ other. other == suc k) (clockwise_after seats button)) 10 below
