@@ -13,7 +13,8 @@ use Rattle.deal_order.proofs.Orders.{all_below, all_below-at, dealt-count}
 
 -- A walk round a table comes to each of its seats.
 comes-checked : all_below (λ seats. all_below (λ button. all_below
-    (λ below. not (nat_lt below seats) || list_any (λ other. other == suc below) (clockwise_after seats button)) 10) 11) 11 ≡ true
+    (λ below. not (nat_lt below seats) || list_any (λ other. other == suc below) (clockwise_after seats button)) 10)
+    11) 11 ≡ true
 unfolding all_below
 comes-checked = refl
 
@@ -21,28 +22,35 @@ comes-checked = refl
 pub clockwise-comes : (seats button below : ℕ) → seats ≤ 10 → button ≤ seats → below < seats
     → list_any (λ other. other == suc below) (clockwise_after seats button) ≡ true
 clockwise-comes seats button below most at within =
-    let checked = all_below-at (λ k. not (nat_lt k seats) || list_any (λ other. other == suc k) (clockwise_after seats button)) 10 below
-        (all_below-at (λ b. all_below (λ k. not (nat_lt k seats) || list_any (λ other. other == suc k) (clockwise_after seats b)) 10) 11 button
-        (all_below-at (λ s. all_below (λ b. all_below (λ k. not (nat_lt k s) || list_any (λ other. other == suc k) (clockwise_after s b)) 10) 11) 11 seats comes-checked (omega arith))
-        (omega arith))
-        (omega arith) in
+    let checked = all_below-at (λ k. not (nat_lt k seats) || list_any (λ other. other == suc k)
+    (clockwise_after seats button)) 10 below
+    (all_below-at (λ b. all_below (λ k. not (nat_lt k seats) || list_any (λ other. other == suc k)
+    (clockwise_after seats b)) 10) 11 button
+    (all_below-at (λ s. all_below (λ b. all_below
+    (λ k. not (nat_lt k s) || list_any (λ other. other == suc k) (clockwise_after s b)) 10) 11) 11 seats
+    comes-checked (omega arith))
+    (omega arith))
+    (omega arith) in
     let inside : nat_lt below seats ≡ true = grind (arith, nat_tests) in
     rw inside at checked
 
 -- Who is in a list and passes a test is among those who pass it.
-kept-has : (kept : ℕ → Bool) (seat : ℕ) (seats : List ℕ) → kept seat ≡ true → list_any (λ other. other == seat) seats ≡ true
+kept-has : (kept : ℕ → Bool) (seat : ℕ) (seats : List ℕ) → kept seat ≡ true
+    → list_any (λ other. other == seat) seats ≡ true
     → list_any (λ other. other == seat) (filter kept seats) ≡ true
 kept-has kept seat [] keeps has = absurd cc
 kept-has kept seat (first ∷ seats) keeps has =
     elim (cases_Bool (first == seat)) [
-      | inl here ↦ let same = eqb-true first seat here in let stays : kept first ≡ true = rw same keeps in rw (stays, here)
+      | inl here ↦ let same = eqb-true first seat here in let stays : kept first ≡ true =
+          rw same keeps in rw (stays, here)
       | inr elsewhere ↦
           let later = kept-has kept seat seats keeps (rw elsewhere at has) in
           elim (cases_Bool (kept first)) [ inl is ↦ rw (is, elsewhere) later | inr out ↦ rw out later ]
     ]
 
 -- Fewer come before who is in a list than are in it.
-index-within : (seat : ℕ) (seats : List ℕ) → list_any (λ other. other == seat) seats ≡ true → index_in seat seats < length seats
+index-within : (seat : ℕ) (seats : List ℕ) → list_any (λ other. other == seat) seats ≡ true
+    → index_in seat seats < length seats
 index-within seat [] has = absurd cc
 index-within seat (first ∷ seats) has =
     elim (cases_Bool (first == seat)) [
@@ -51,22 +59,26 @@ index-within seat (first ∷ seats) has =
     ]
 
 -- Who is dealt in has fewer before him than are dealt in.
-pub index-dealt : (dealt : List Bool) (button seats seat : ℕ) → AreSeatsOf seats dealt → seats ≤ 10 → button ≤ seats → has_seat dealt seat ≡ true
+pub index-dealt : (dealt : List Bool) (button seats seat : ℕ) → AreSeatsOf seats dealt → seats ≤ 10 → button ≤ seats
+    → has_seat dealt seat ≡ true
     → index_in seat (dealt_in_order dealt button seats) < seat_count dealt
 index-dealt dealt button seats zero table most at sits = absurd cc
 index-dealt dealt button seats (suc below) table most at sits =
     let inside = table.within (suc below) sits in
     let comes = clockwise-comes seats button below most at (omega arith) in
-    let within = index-within (suc below) (dealt_in_order dealt button seats) (kept-has (has_seat dealt) (suc below) (clockwise_after seats button) sits comes) in
+    let within = index-within (suc below) (dealt_in_order dealt button seats)
+    (kept-has (has_seat dealt) (suc below) (clockwise_after seats button) sits comes) in
     let count = dealt-count dealt button seats table at in
     omega arith
 
 -- Numbers that rise, with a lower one in front.
-rising-more : (first second : ℕ) (others : List ℕ) → first < second → are_rising (second ∷ others) ≡ true → are_rising (first ∷ second ∷ others) ≡ true
+rising-more : (first second : ℕ) (others : List ℕ) → first < second → are_rising (second ∷ others) ≡ true
+    → are_rising (first ∷ second ∷ others) ≡ true
 rising-more first second others below rising =
     let parts = and_parts (list_all (nat_lt second) others) (are_rising others) rising in
     let here : nat_lt first second ≡ true = grind (arith, nat_tests) in
-    let later = list_all-follows (nat_lt second) (nat_lt first) others (λ other above. lower first second other below above) parts.0 in
+    let later = list_all-follows (nat_lt second) (nat_lt first) others
+    (λ other above. lower first second other below above) parts.0 in
     and_from _ _ (and_from _ _ here later) rising
   where
     lower : (first second other : ℕ) → first < second → nat_lt second other ≡ true → nat_lt first other ≡ true
@@ -77,14 +89,16 @@ board-rising : (n : ℕ) → are_rising ((n + 0 + 1) ∷ (n + 1 + 1) ∷ (n + 2 
 board-rising n =
     rising-more (n + 0 + 1) (n + 1 + 1) ((n + 2 + 1) ∷ (n + 3 + 2) ∷ (n + 4 + 3) ∷ []) (omega arith)
     (rising-more (n + 1 + 1) (n + 2 + 1) ((n + 3 + 2) ∷ (n + 4 + 3) ∷ []) (omega arith)
-    (rising-more (n + 2 + 1) (n + 3 + 2) ((n + 4 + 3) ∷ []) (omega arith) (rising-more (n + 3 + 2) (n + 4 + 3) [] (omega arith) refl)))
+    (rising-more (n + 2 + 1) (n + 3 + 2) ((n + 4 + 3) ∷ []) (omega arith)
+    (rising-more (n + 3 + 2) (n + 4 + 3) [] (omega arith) refl)))
 
 -- The next round of cards is one card of each player further.
 next-round : (from n : ℕ) → (from + 1) * n ≡ from * n + n
 next-round from n = grind arith
 
 -- Hole cards in rising order, with others behind them from a place on that none of them comes to.
-holes-rising : (n index steps from : ℕ) (first : ℕ) (others : List ℕ) → index < n → (from + steps) * n ≤ first → are_rising (first ∷ others) ≡ true
+holes-rising : (n index steps from : ℕ) (first : ℕ) (others : List ℕ) → index < n → (from + steps) * n ≤ first
+    → are_rising (first ∷ others) ≡ true
     → are_rising (map (λ card. card * n + index) (count_up from steps) ++ first ∷ others) ≡ true
 holes-rising n index zero from first others within last rising = rising
 holes-rising n index (suc zero) from first others within last rising =
@@ -93,10 +107,12 @@ holes-rising n index (suc (suc steps)) from first others within last rising =
     let next = next-round from n in
     let same : from + suc (suc steps) ≡ from + 1 + suc steps = omega arith in
     let later = holes-rising n index (suc steps) (from + 1) first others within (rw same at last) rising in
-    rising-more (from * n + index) ((from + 1) * n + index) (map (λ card. card * n + index) (count_up (from + 1 + 1) steps) ++ first ∷ others) (omega arith) later
+    rising-more (from * n + index) ((from + 1) * n + index)
+    (map (λ card. card * n + index) (count_up (from + 1 + 1) steps) ++ first ∷ others) (omega arith) later
 
 -- The places of a player's hole cards, and then those of the board, rise.
-pub player-rising : (dealt : List Bool) (button seats holes seat : ℕ) → AreSeatsOf seats dealt → seats ≤ 10 → button ≤ seats → has_seat dealt seat ≡ true
+pub player-rising : (dealt : List Bool) (button seats holes seat : ℕ) → AreSeatsOf seats dealt → seats ≤ 10
+    → button ≤ seats → has_seat dealt seat ≡ true
     → are_rising (places_of_player dealt button seats holes seat ++ places_of_board (seat_count dealt) holes) ≡ true
 player-rising dealt button seats holes seat table most at sits =
     let n = seat_count dealt in
@@ -104,4 +120,5 @@ player-rising dealt button seats holes seat table most at sits =
     let none : (0 + holes) * n ≡ holes * n = grind arith in
     let first : (0 + holes) * n ≤ holes * n + 0 + 1 = omega arith in
     holes-rising n (index_in seat (dealt_in_order dealt button seats)) holes 0 (holes * n + 0 + 1)
-    ((holes * n + 1 + 1) ∷ (holes * n + 2 + 1) ∷ (holes * n + 3 + 2) ∷ (holes * n + 4 + 3) ∷ []) within first (board-rising (holes * n))
+    ((holes * n + 1 + 1) ∷ (holes * n + 2 + 1) ∷ (holes * n + 3 + 2) ∷ (holes * n + 4 + 3) ∷ []) within first
+    (board-rising (holes * n))

@@ -23,9 +23,11 @@ length-pots : (hands : List (Option Hand)) (unit button seats : ℕ) (awards : L
     → length (fold (award_pot hands unit button seats) awards pots) ≡ length awards
 length-pots hands unit button seats awards [] = refl
 length-pots hands unit button seats awards (pot ∷ pots) =
-    length-pots hands unit button seats (award_pot hands unit button seats awards pot) pots ∙ length-award_pot hands unit button seats awards pot
+    length-pots hands unit button seats (award_pot hands unit button seats awards pot) pots
+    ∙ length-award_pot hands unit button seats awards pot
 
-pub length-awards_of : (hands : List (Option Hand)) (unit button seats : ℕ) (pots : List Pot) → length (awards_of hands unit button seats pots) ≡ 10
+pub length-awards_of : (hands : List (Option Hand)) (unit button seats : ℕ) (pots : List Pot)
+    → length (awards_of hands unit button seats pots) ≡ 10
 unfolding awards_of
 length-awards_of hands unit button seats pots = length-pots hands unit button seats (replicate 10 0) pots
 
@@ -38,7 +40,8 @@ whole-sum : (a b unit : ℕ) → (a % unit == 0) ≡ true → b % unit ≡ 0 →
 whole-sum a b unit first second =
     let own : a % unit ≡ 0 = (let is = first in is-none (a % unit) is) in
     let whole : unit * (a / unit) ≡ a = (let parts = div-add-mod a unit in omega (arith, parts, own)) in
-    eqb_true (a + b) unit (ap (λ (n : ℕ). (n + b) % unit) (sym whole) ∙ mul-add-mod_self_left unit (a / unit) b ∙ second)
+    eqb_true (a + b) unit (ap (λ (n : ℕ). (n + b) % unit) (sym whole) ∙ mul-add-mod_self_left unit (a / unit) b
+    ∙ second)
   where
     is-none : (n : ℕ) → (n == 0) ≡ true → n ≡ 0
     is-none n is = grind (arith, nat_tests)
@@ -54,42 +57,54 @@ whole-set (number ∷ numbers) (suc index) more unit all whole =
     let parts = and_parts (number % unit == 0) (are_whole unit numbers) all in
     and_from _ _ parts.0 (whole-set numbers index more unit parts.1 whole)
 
-whole-award_to : (awards : List ℕ) (seat more unit : ℕ) → are_whole unit awards ≡ true → more % unit ≡ 0 → are_whole unit (award_to awards seat more) ≡ true
+whole-award_to : (awards : List ℕ) (seat more unit : ℕ) → are_whole unit awards ≡ true → more % unit ≡ 0
+    → are_whole unit (award_to awards seat more) ≡ true
 whole-award_to awards zero more unit all whole = all
 whole-award_to awards (suc index) more unit all whole = whole-set awards index more unit all whole
 
-whole-pay_in_turn : (amount unit count : ℕ) (awards : List ℕ) (index : ℕ) (order : List ℕ) → are_whole unit awards ≡ true
+whole-pay_in_turn : (amount unit count : ℕ) (awards : List ℕ) (index : ℕ) (order : List ℕ)
+    → are_whole unit awards ≡ true
     → are_whole unit (pay_in_turn amount unit count awards index order) ≡ true
 whole-pay_in_turn amount unit count awards index [] all = all
 whole-pay_in_turn amount unit count awards index (seat ∷ more) all =
     whole-pay_in_turn amount unit count (award_to awards seat (share_of amount unit count index)) (suc index) more
     (whole-award_to awards seat (share_of amount unit count index) unit all (share_of-whole amount unit count index))
 
-whole-split : (amount unit : ℕ) (awards order : List ℕ) → are_whole unit awards ≡ true → are_whole unit (split amount unit awards order) ≡ true
+whole-split : (amount unit : ℕ) (awards order : List ℕ) → are_whole unit awards ≡ true
+    → are_whole unit (split amount unit awards order) ≡ true
 unfolding split
 whole-split amount unit awards order all = whole-pay_in_turn amount unit (length order) awards 0 order all
 
-whole-sides : (amount unit button seats : ℕ) (awards : List ℕ) (highs lows : List Bool) (once : Bool) → are_whole unit awards ≡ true
+whole-sides : (amount unit button seats : ℕ) (awards : List ℕ) (highs lows : List Bool) (once : Bool)
+    → are_whole unit awards ≡ true
     → are_whole unit (cond once (split amount unit awards (in_turn seats button highs))
-    (split (low_half amount unit) unit (split (high_half amount unit) unit awards (in_turn seats button highs)) (in_turn seats button lows))) ≡ true
-whole-sides amount unit button seats awards highs lows true all = whole-split amount unit awards (in_turn seats button highs) all
+    (split (low_half amount unit) unit (split (high_half amount unit) unit awards (in_turn seats button highs))
+    (in_turn seats button lows))) ≡ true
+whole-sides amount unit button seats awards highs lows true all =
+    whole-split amount unit awards (in_turn seats button highs) all
 whole-sides amount unit button seats awards highs lows false all =
-    whole-split (low_half amount unit) unit (split (high_half amount unit) unit awards (in_turn seats button highs)) (in_turn seats button lows)
+    whole-split (low_half amount unit) unit (split (high_half amount unit) unit awards (in_turn seats button highs))
+    (in_turn seats button lows)
     (whole-split (high_half amount unit) unit awards (in_turn seats button highs) all)
 
-whole-award_pot : (hands : List (Option Hand)) (unit button seats : ℕ) (awards : List ℕ) (pot : Pot) → are_whole unit awards ≡ true
+whole-award_pot : (hands : List (Option Hand)) (unit button seats : ℕ) (awards : List ℕ) (pot : Pot)
+    → are_whole unit awards ≡ true
     → are_whole unit (award_pot hands unit button seats awards pot) ≡ true
 unfolding award_pot
 whole-award_pot hands unit button seats awards pot all =
-    whole-sides pot.amount unit button seats awards (winners High (in_play pot.eligible hands)) (winners Low (in_play pot.eligible hands))
-    (seat_count (winners Low (in_play pot.eligible hands)) == 0 || are_same_seats (winners High (in_play pot.eligible hands)) (winners Low (in_play pot.eligible hands)))
+    whole-sides pot.amount unit button seats awards (winners High (in_play pot.eligible hands))
+    (winners Low (in_play pot.eligible hands))
+    (seat_count (winners Low (in_play pot.eligible hands)) == 0 || are_same_seats
+    (winners High (in_play pot.eligible hands)) (winners Low (in_play pot.eligible hands)))
     all
 
-whole-pots : (hands : List (Option Hand)) (unit button seats : ℕ) (awards : List ℕ) (pots : List Pot) → are_whole unit awards ≡ true
+whole-pots : (hands : List (Option Hand)) (unit button seats : ℕ) (awards : List ℕ) (pots : List Pot)
+    → are_whole unit awards ≡ true
     → are_whole unit (fold (award_pot hands unit button seats) awards pots) ≡ true
 whole-pots hands unit button seats awards [] all = all
 whole-pots hands unit button seats awards (pot ∷ pots) all =
-    whole-pots hands unit button seats (award_pot hands unit button seats awards pot) pots (whole-award_pot hands unit button seats awards pot all)
+    whole-pots hands unit button seats (award_pot hands unit button seats awards pot) pots
+    (whole-award_pot hands unit button seats awards pot all)
 
 whole-none : (unit count : ℕ) → are_whole unit (replicate count 0) ≡ true
 whole-none unit zero = refl
@@ -99,12 +114,15 @@ whole-none unit (suc count) = and_from _ _ (eqb_true 0 unit (zero-mod unit)) (wh
 pub whole-awards_of : (hands : List (Option Hand)) (unit button seats : ℕ) (pots : List Pot)
     → list_all (λ award. award % unit == 0) (awards_of hands unit button seats pots) ≡ true
 unfolding awards_of
-whole-awards_of hands unit button seats pots = whole-pots hands unit button seats (replicate 10 0) pots (whole-none unit 10)
+whole-awards_of hands unit button seats pots = whole-pots hands unit button seats (replicate 10 0) pots
+    (whole-none unit 10)
 
 -- A seat that is not in a set is in no set all of whose seats are in it.
-out-of_all : (one other : List Bool) (index : ℕ) → are_all_in one other ≡ true → get_or other index false ≡ false → get_or one index false ≡ false
+out-of_all : (one other : List Bool) (index : ℕ) → are_all_in one other ≡ true → get_or other index false ≡ false
+    → get_or one index false ≡ false
 out-of_all [] other index all out = refl
-out-of_all (is_in ∷ more) [] zero all out = let parts = and_parts (not is_in) (are_all_in more []) all in not-is is_in parts.0
+out-of_all (is_in ∷ more) [] zero all out = let parts =
+    and_parts (not is_in) (are_all_in more []) all in not-is is_in parts.0
   where
     not-is : (b : Bool) → not b ≡ true → b ≡ false
     not-is true is = absurd cc
@@ -128,7 +146,8 @@ none-pots hands unit button seats awards [] index out own = refl
 none-pots hands unit button seats awards (pot ∷ pots) index out own =
     let parts = and_parts (are_all_in pot.eligible (map is_some hands)) (are_for (map is_some hands) pots) own in
     none-pots hands unit button seats (award_pot hands unit button seats awards pot) pots index out parts.1
-    ∙ award_pot-other hands unit button seats awards pot index (out-of_all pot.eligible (map is_some hands) index parts.0 out)
+    ∙ award_pot-other hands unit button seats awards pot index
+    (out-of_all pot.eligible (map is_some hands) index parts.0 out)
 
 none-replicate : (count index : ℕ) → get_or (replicate count zero) index zero ≡ zero
 none-replicate zero index = refl
