@@ -1,5 +1,5 @@
 -- The players of a start by their seats, and numbers of them in the one order and in the other.
-use Rattle.std.proofs.Common.{◌≡◌, ◌∙◌, ℕ, zero, suc, ◌+◌, ◌-◌, ◌≤◌, ◌<◌, true, false, cond, List, [], ◌∷◌, map, Some, None, refl, ap, sym, inl, inr, arith}
+use Rattle.std.proofs.Common.{◌≡◌, ◌∙◌, ℕ, zero, suc, ◌+◌, ◌-◌, ◌≤◌, ◌<◌, true, false, cond, List, [], ◌∷◌, length, map, Some, None, refl, ap, sym, inl, inr, arith}
 use Rattle.std.specs.Prelude.{Option, ◌==◌, ◌&&◌, find, nat_le, nat_lt, slice_index_or, sum_by}
 use Rattle.std.specs.List.{list_all}
 use Rattle.std.specs.Option.{is_some, option_map_or}
@@ -123,7 +123,7 @@ sum-by_seats number (player ∷ players) rising within =
     mine ∙ ap (λ (n : ℕ). number player + n) later ∙ sym all
 
 -- A seat of a lawful start is one of ten.
-lawful-seats : (start : HandStart) → IsLawfulStart start
+pub lawful-seats : (start : HandStart) → IsLawfulStart start
     → list_all (λ player. is_between 1 10 player.seat) start.seats ≡ true
 lawful-seats start lawful =
     let most : start.seat_count ≤ 10 = lawful.most_seats in
@@ -271,3 +271,20 @@ sum-of_street start number slots lawful there =
   where
     none : (index : ℕ) → 0 + index ≡ index
     none index = omega arith
+
+-- The seat of who is listed at an index is one of ten, where all are.
+pub seat-within : (players : List StartSeat) (index : ℕ) (other : StartSeat)
+    → list_all (λ player. is_between 1 10 player.seat) players ≡ true
+    → index < length players → (1 ≤ (slice_index_or players index other).seat) ×
+    ((slice_index_or players index other).seat ≤ 10)
+seat-within [] index other all within = absurd (omega arith)
+seat-within (player ∷ players) zero other all within =
+    let parts = and_parts (is_between 1 10 player.seat) (list_all (λ (p : StartSeat). is_between 1 10 p.seat) players)
+    all in
+    let low : 1 ≤ player.seat = grind (arith, nat_tests) in
+    let high : player.seat ≤ 10 = grind (arith, nat_tests) in
+    (low, high)
+seat-within (player ∷ players) (suc index) other all within =
+    let parts = and_parts (is_between 1 10 player.seat) (list_all (λ (p : StartSeat). is_between 1 10 p.seat) players)
+    all in
+    seat-within players index other parts.1 (omega arith)

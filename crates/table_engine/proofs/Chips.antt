@@ -15,17 +15,17 @@ use Rattle.table_engine.specs.Hands.{HandTerms, StreetPlayed, behind, is_live as
 use Rattle.table_engine.specs.declared.standing.Standing.{Standing}
 use Rattle.table_engine.specs.Standings.{IsAt}
 use Rattle.table_engine.specs.Plays.{IsLawfulPlay}
-use Rattle.table_engine.specs.Results.{pot, award, is_won_by_folds, stack_after, stack_after_hand, stacks_after_hand, with_stack, players_after, starting_stacks}
+use Rattle.table_engine.specs.Results.{pot, award, is_won_by_folds, starting_stacks}
 use Rattle.table_engine.proofs.BySeat.{AreFound, found-all, found-within, number_of, player_in-there, sum-of_street, there-at}
 use Rattle.table_engine.proofs.Sound.{AreThere, IsSound, sound-play}
 
 -- A sum over a list that is made of another.
-sum_by-map : {X Y : Type 0} (f : Y → ℕ) (g : X → Y) (xs : List X) → sum_by f (map g xs) ≡ sum_by (λ x. f (g x)) xs
+pub sum_by-map : {X Y : Type 0} (f : Y → ℕ) (g : X → Y) (xs : List X) → sum_by f (map g xs) ≡ sum_by (λ x. f (g x)) xs
 sum_by-map f g [] = refl
 sum_by-map f g (x ∷ xs) = rw (sum_by-cons f (g x) (map g xs), sum_by-cons (λ y. f (g y)) x xs, sum_by-map f g xs)
 
 -- The sum of sums.
-sum_by-plus : {X : Type 0} (f g h : X → ℕ) (xs : List X) → ((x : X) → f x + g x ≡ h x)
+pub sum_by-plus : {X : Type 0} (f g h : X → ℕ) (xs : List X) → ((x : X) → f x + g x ≡ h x)
     → sum_by f xs + sum_by g xs ≡ sum_by h xs
 sum_by-plus f g h [] each = refl
 sum_by-plus f g h (x ∷ xs) each =
@@ -181,7 +181,7 @@ sum-live n (Some player ∷ slots) =
     rw (count, sum-live n slots) (counted_again n (count_by (is_there is_live) slots) player.bettor.live)
 
 -- Where one player alone is live, one player gets the pot.
-one-gets : (hand : HandTerms) → IsLawfulStart hand.start → IsLawfulPlay hand → is_won_by_folds hand ≡ true
+pub one-gets : (hand : HandTerms) → IsLawfulStart hand.start → IsLawfulPlay hand → is_won_by_folds hand ≡ true
     → sum_by (award hand) hand.start.seats ≡ pot hand
 one-gets hand lawful play won =
     let sound = sound-play hand lawful play in
@@ -191,7 +191,7 @@ one-gets hand lawful play won =
     (pot hand) 0) slots lawful sound.there in
     let awards = sum_by-alike (award hand) (number_of
     (λ (player : Player). cond player.bettor.live (pot hand) 0) slots) hand.start.seats
-    (λ player. award-slot (player_in slots player.seat) (pot hand)) in
+    (λ player. rw won (award-slot (player_in slots player.seat) (pot hand))) in
     let once : 1 * pot hand ≡ pot hand = omega arith in
     awards ∙ by_slots ∙ sum-live (pot hand) slots ∙ ap (λ (n : ℕ). n * pot hand) one ∙ once
   where
@@ -208,56 +208,3 @@ one-gets hand lawful play won =
         let here = each player in
         let later = sum_by-alike f g players each in
         omega (arith, sum_by-cons f player players, sum_by-cons g player players)
-
--- After a hand that is won without a showdown the stacks sum to the starting stacks.
-pub chips-after : (hand : HandTerms) → IsLawfulStart hand.start → IsLawfulPlay hand → is_won_by_folds hand ≡ true
-    → sum (stacks_after_hand hand) ≡ sum (starting_stacks hand)
-chips-after hand lawful play won =
-    let stacks = sum-map (stack_after_hand hand) hand.start.seats in
-    let parts = sum_by-plus (behind hand) (award hand) (stack_after_hand hand) hand.start.seats (λ player. refl) in
-    let all = chips-in_play hand lawful play in
-    let gets = one-gets hand lawful play won in
-    omega arith
-
--- After such a hand its players have the chips with which they began.
-pub chips-players : (hand : HandTerms) → IsLawfulStart hand.start → IsLawfulPlay hand → is_won_by_folds hand ≡ true
-    → chips_of (players_after hand) ≡ chips_of hand.start.seats
-chips-players hand lawful play won =
-    let after = sum_by-map (λ (player : StartSeat). player.stack)
-    (λ (player : StartSeat). with_stack player (stack_after_hand hand player)) hand.start.seats in
-    let stacks = sum-map (stack_after_hand hand) hand.start.seats in
-    let start = sum-map (λ (player : StartSeat). player.stack) hand.start.seats in
-    after ∙ sym stacks ∙ chips-after hand lawful play won ∙ start
-
--- What the players of the street have after the hand are its stacks.
-pub street-stacks : (hand : HandTerms) → IsLawfulStart hand.start → IsLawfulPlay hand
-    → map (λ player. stack_after (put_so_far (streets_of hand))
-    (player_in (street_of hand).players player.seat)) hand.start.seats ≡ stacks_after_hand hand
-street-stacks hand lawful play =
-    let sound = sound-play hand lawful play in
-    let all = pot-is hand lawful play in
-    map-found hand.start.seats (λ player. stack_after (put_so_far (streets_of hand))
-    (player_in (street_of hand).players player.seat)) (stack_after_hand hand)
-    hand.start.seats (found-all hand.start lawful)
-    (λ player found.
-    let his = stands hand player lawful sound found in
-    let now = his.0 in
-    let so_far = put_so_far (streets_of hand) in
-    let live : is_live_in hand player ≡ now.bettor.live =
-    ap (λ (slot : Option Player). option_map_or (λ (other : Player). other.bettor.live) slot false) his.1.there in
-    ap (stack_after so_far) his.1.there
-    ∙ ap (λ (n : ℕ). n + cond now.bettor.live so_far 0) (sym his.1.behind)
-    ∙ ap (λ (is : Bool). behind hand player + cond is so_far 0) (sym live)
-    ∙ ap (λ (n : ℕ). behind hand player + cond (is_live_in hand player) n 0) (sym all))
-
--- The same by what a hand keeps: its street, and what was put in before.
-pub standing-stacks : (hand : HandTerms) (standing : Standing) → IsLawfulStart hand.start → IsLawfulPlay hand
-    → IsAt (streets_of hand) standing
-    → map (λ player. stack_after (standing.before + put_by_all standing.round)
-    (player_in standing.round.players player.seat)) hand.start.seats
-    ≡ stacks_after_hand hand
-standing-stacks hand standing lawful play at =
-    let put = ap put_by_all at.round in
-    let before = at.before in
-    let pot : standing.before + put_by_all standing.round ≡ put_so_far (streets_of hand) = omega arith in
-    rw (pot, at.round) (street-stacks hand lawful play)

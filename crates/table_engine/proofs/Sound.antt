@@ -80,7 +80,7 @@ pub record IsSound (start : HandStart) (streets : Streets) (acts : ℕ) : Type 0
   pub short : acts + (sum_over still (street_now streets).players + 10 * streets.left) ≤ chips_of start.seats + 50
 
 -- What a player of a street has put in on it.
-put_from-there : (played : StreetPlayed) (seat : ℕ) (now : Player) → 1 ≤ seat
+pub put_from-there : (played : StreetPlayed) (seat : ℕ) (now : Player) → 1 ≤ seat
     → player_at (street_after played.start played.acts).players seat ≡ Some now → put_from seat played ≡ now.bettor.put
 put_from-there played seat now low there =
     ap (λ (slot : Option Player). option_map_or (λ (p : Player). p.bettor.put) slot 0)
@@ -158,7 +158,7 @@ player-kept start street later before after seat now grows is sound =
     }
 
 -- The street after an act that is not refused.
-placed-is : (limits : Limits) (start : StreetStart) (acts : List SeatAct) (entry : SeatAct) (now : Player)
+pub placed-is : (limits : Limits) (start : StreetStart) (acts : List SeatAct) (entry : SeatAct) (now : Player)
     → IsStreetStart start
     → Acts limits (street_after start acts) entry.seat entry.act now
     → street_after start (entry ∷ acts) ≡ placed (street_after start acts) entry.seat now entry.act
@@ -176,7 +176,7 @@ least-of_game Omaha facing = refl
 least-of_game Hilo facing = refl
 
 -- What holds of the streets after an act that is not refused.
-sound-act : (start : HandStart) (streets : Streets) (acts : ℕ) (seat : ℕ) (act : Act) → IsSound start streets acts
+pub sound-act : (start : HandStart) (streets : Streets) (acts : ℕ) (seat : ℕ) (act : Act) → IsSound start streets acts
     → act_refusal (limits_of start.game) (street_now streets) seat act ≡ None
     → IsSound start (with_act streets (record { seat = seat; act = act })) (acts + 1)
 sound-act start streets acts seat act sound free =
@@ -270,7 +270,7 @@ made-from f None found is = absurd cc
 made-from f (Some was) found is = let same : found ≡ f was = cc in (was, (refl, same))
 
 -- The greatest number is at least the least, and the least where no number is greater.
-greatest-least : {A : Type 0} (least : ℕ) (number : A → ℕ) (slots : List (Option A))
+pub greatest-least : {A : Type 0} (least : ℕ) (number : A → ℕ) (slots : List (Option A))
     → least ≤ greatest least number slots
 greatest-least least number [] = omega arith
 greatest-least least number (None ∷ slots) = greatest-least least number slots
@@ -349,7 +349,7 @@ each-next start streets acts seat now sound low there =
     subst (λ (p : Player). IsPlayerSound start (street_now after) (put_by_seat seat after) seat p) (sym is) sound_so
 
 -- What holds of the streets where the next one begins.
-sound-next : (start : HandStart) (streets : Streets) (acts : ℕ) → IsLawfulStart start → IsSound start streets acts
+pub sound-next : (start : HandStart) (streets : Streets) (acts : ℕ) → IsLawfulStart start → IsSound start streets acts
     → 1 ≤ streets.left
     → IsSound start (with_next_street start streets) acts
 sound-next start streets acts lawful sound some =
@@ -464,7 +464,7 @@ each-first start seat now lawful low there =
         ]
 
 -- What holds of the streets before any act, where the first alone has begun.
-sound-first : (start : HandStart) → IsLawfulStart start → IsSound start (first_streets start) 0
+pub sound-first : (start : HandStart) → IsLawfulStart start → IsSound start (first_streets start) 0
 sound-first start lawful =
     let first = first_street start in
     let began = street_start_is first in

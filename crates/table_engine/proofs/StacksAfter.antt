@@ -40,7 +40,7 @@ each-in_sum number (player ∷ players) =
     and_from _ _ here later
 
 -- What a player who is found at his seat put in is a multiple of the unit.
-put-whole : (hand : HandTerms) (player : StartSeat) → IsLawfulStart hand.start → IsLawfulPlay hand
+pub put-whole : (hand : HandTerms) (player : StartSeat) → IsLawfulStart hand.start → IsLawfulPlay hand
     → player_of hand.start player.seat ≡ Some player
     → player.stack % hand.start.unit ≡ 0 → put_in_hand hand player % hand.start.unit ≡ 0
 put-whole hand player lawful play found whole =
@@ -54,7 +54,7 @@ put-whole hand player lawful play found whole =
     rw put (multiple-sub hand.start.unit player.stack his.0.bettor.behind (omega arith) whole now.behind)
 
 -- The pot is a multiple of the unit.
-pot-whole : (hand : HandTerms) → IsLawfulStart hand.start → IsLawfulPlay hand → pot hand % hand.start.unit ≡ 0
+pub pot-whole : (hand : HandTerms) → IsLawfulStart hand.start → IsLawfulPlay hand → pot hand % hand.start.unit ≡ 0
 pot-whole hand lawful play =
     multiple-sum hand.start.unit (put_in_hand hand) hand.start.seats
     (all-found hand.start.seats (λ (player : StartSeat). is_playable_stack hand.start.unit player.stack)
@@ -84,8 +84,8 @@ whole-after unit behind pot false first second = multiple-add unit behind 0 firs
 playable-after : (hand : HandTerms) (player : StartSeat) → IsLawfulStart hand.start → IsLawfulPlay hand
     → player_of hand.start player.seat ≡ Some player
     → is_playable_stack hand.start.unit player.stack ≡ true → put_in_hand hand player ≤ pot hand
-    → is_playable_stack hand.start.unit (stack_after_hand hand player) ≡ true
-playable-after hand player lawful play found playable within =
+    → is_won_by_folds hand ≡ true → is_playable_stack hand.start.unit (stack_after_hand hand player) ≡ true
+playable-after hand player lawful play found playable within won =
     let sound = sound-play hand lawful play in
     let his = stands hand player lawful sound found in
     let now = his.0 in
@@ -99,8 +99,10 @@ playable-after hand player lawful play found playable within =
     (pot hand) player.stack now.bettor.live sound_now.more his.1.stack some within in
     let whole = whole-after hand.start.unit now.bettor.behind (pot hand) now.bettor.live sound_now.behind
     (pot-whole hand lawful play) in
+    let by_folds : stack_after_hand hand player ≡ behind hand player + cond (is_live hand player) (pot hand) 0 =
+    rw won in
     let is : stack_after_hand hand player ≡ now.bettor.behind + cond now.bettor.live (pot hand) 0 =
-    ap (λ (n : ℕ). n + cond (is_live hand player) (pot hand) 0) his.1.behind
+    by_folds ∙ ap (λ (n : ℕ). n + cond (is_live hand player) (pot hand) 0) his.1.behind
     ∙ ap (λ (b : Bool). now.bettor.behind + cond b (pot hand) 0) live in
     ap (is_playable_stack hand.start.unit) is ∙ playable-from hand.start.unit
     (now.bettor.behind + cond now.bettor.live (pot hand) 0) above whole
@@ -123,5 +125,6 @@ stacks-playable hand lawful play won =
     hand.start.seats (found-all hand.start lawful)
     (λ player found passes.
     let parts = and_parts (within player) (can_play player) passes in
-    playable-after hand player lawful play found parts.1 (leb-true (put_in_hand hand player) (pot hand) parts.0))
+    playable-after hand player lawful play found parts.1 (leb-true (put_in_hand hand player) (pot hand) parts.0)
+    won)
     both

@@ -1,7 +1,10 @@
 pub mod Acts
+pub mod Awards
+pub mod Deals
 pub mod Hands
 pub mod Kept
 pub mod Plays
 pub mod Results
 pub mod Standings
 pub mod Starts
+pub mod Tellings

@@ -5,7 +5,7 @@ use Rattle.table_engine.specs.declared.record.ActOf.{ActOf}
 use Rattle.table_engine.specs.declared.record.HandRecord.{HandRecord}
 use Rattle.table_engine.specs.Hands.{HandTerms, is_over}
 use Rattle.table_engine.specs.Acts.{refusal_of_act}
-use Rattle.table_engine.specs.Results.{is_won_by_folds, stacks_after_hand}
+use Rattle.table_engine.specs.Results.{stacks_after_hand}
 
 -- After the acts before them, each of these acts is refused by no check on the acts that are before it.
 abbrev pub are_lawful_after : HandStart → List ActOf → List ActOf → Bool
@@ -23,9 +23,8 @@ abbrev pub hand_of : HandRecord → HandTerms
 hand_of done = record { start = done.start; acts = done.acts }
 
 -- A record is a complete play of its start where its acts are a lawful play that is over, and its stacks are those that
--- this play comes to. So far a hand is played to its end only where it is won by folds.
+-- this play comes to.
 pub record IsCompletePlay (done : HandRecord) : Type 0 where
   pub play : IsLawfulPlay (hand_of done)
   pub over : is_over (hand_of done) ≡ true
-  pub won : is_won_by_folds (hand_of done) ≡ true
   pub stacks : done.stacks ≡ stacks_after_hand (hand_of done)

@@ -1,18 +1,24 @@
 //! A hand that is played.
 
-ghost use Rattle.std.specs.Prelude.{◌≡◌, [], Some, None, IsTrue, false, true, sum, is_none, unwrap_or, IfOk, IfErr, OnOk, OnErr};
+ghost use Rattle.std.specs.Prelude.{◌≡◌, ◌<◌, ◌^◌, [], Some, None, IsTrue, false, true, sum, is_none, unwrap_or, IfOk, IfErr, OnOk, OnErr};
 ghost use Rattle.table_engine.specs.Starts.{IsLawfulStart};
 ghost use Rattle.table_engine.specs.Hands.{due_in_hand, due_name, is_over, seat_of_name};
 ghost use Rattle.table_engine.specs.Acts.{refusal_in_seat, refusal_of_act, refusal_of_time, act_in_time, done_in_seat, done_of_act, done_of_time, hand_after, hand_after_time, IsAnswer};
+ghost use Rattle.table_engine.specs.Awards.{awards_in_hand, most_awarded};
 ghost use Rattle.table_engine.specs.Results.{is_won_by_folds, starting_stacks};
 ghost use Rattle.table_engine.specs.Plays.{IsLawfulPlay, IsCompletePlay};
 
+use crate::awards::Awards;
+use crate::dealing::{all_live, board_of, dealt_seats};
 use crate::players::pay;
 use crate::record::{ActFault, ActOf, HandRecord};
 use crate::standing::Standing;
 use crate::start::HandStart;
+use crate::telling::{first_puts, tell};
 use betting_round::{Act, Done};
 use floor_text::{List, Name, Refusal};
+use pot_layers::PotTally;
+use showdown::award;
 use std::alloc::Global;
 use std::marker::Model;
 
@@ -23,6 +29,7 @@ pub struct Hand {
     start: HandStart,
     acts: List<ActOf>,
     standing: Standing,
+    tally: PotTally,
     /// Room for the stacks after the hand.
     stacks: Vec<u64>,
 }
@@ -35,7 +42,7 @@ impl Model for Hand {
 
     ghost view = { λ h. record { start = h.start; acts = h.acts } };
 
-    ghost invariant = { λ h. IsHandKept (record { start = h.start; acts = h.acts }) h.standing h.stacks.items };
+    ghost invariant = { λ h. IsHandKept (record { start = h.start; acts = h.acts }) h.standing h.tally h.stacks.items };
 }
 
 impl Hand {
@@ -50,10 +57,12 @@ impl Hand {
             return Err(start);
         };
         let standing = Standing::first(&start).deal_on(&start);
+        let tally = PotTally::of(&first_puts(&start));
         Ok(Hand {
             start,
             acts: List::new(alloc),
             standing,
+            tally,
             stacks,
         })
     }
@@ -114,7 +123,9 @@ impl Hand {
     {
         let mut standing = self.standing;
         let done = standing.apply(self.start.game, seat, act)?;
+        let put_in = standing.round.facing(seat).put - self.standing.round.facing(seat).put;
         self.acts.push(ActOf { name, act, by_time })?;
+        tell(&mut self.tally, seat, put_in, act);
         self.standing = standing.deal_on(&self.start);
         Ok(done)
     }
@@ -167,22 +178,44 @@ impl Hand {
         self.act_in_seat(name, seat, act, true)
     }
 
-    /// Ends a hand that is over and won by folds: the player who alone is live gets everything. It takes no memory.
+    /// What the players get of the pots of a hand that is over.
+    fn awards(&self) -> Awards
+        requires { IsTrue (is_over self.now) }
+        ensures awards { result ≡ awards_in_hand self.now }
+        ensures most { most_awarded result < 2 ^ 53 }
+    {
+        if self.is_won_by_folds() {
+            return Awards::Sole(self.standing.before + self.standing.round.put());
+        }
+        let dealt = dealt_seats(&self.start);
+        let live = all_live(&self.start, dealt, &self.standing.round);
+        Awards::BySeat(award(
+            &self.tally.pots(),
+            &live,
+            board_of(&self.start, dealt),
+            self.start.game,
+            self.start.unit,
+            self.start.marks.button,
+            self.start.seat_count,
+        ))
+    }
+
+    /// Ends a hand that is over: where one player alone is live he gets everything, else each pot goes to the best
+    /// hands of those who are eligible for it. It takes no memory.
     pub fn finish(self) -> HandRecord
-        requires over { IsTrue (is_over self) }
-        requires won { IsTrue (is_won_by_folds self) }
+        requires { IsTrue (is_over self) }
         ensures start { result.start ≡ self.start }
         ensures acts { result.acts ≡ self.acts }
         ensures complete { IsCompletePlay result }
         ensures kept { sum result.stacks ≡ sum (starting_stacks self) }
     {
-        let pot = self.standing.before + self.standing.round.put();
+        let awards = self.awards();
         let mut stacks = self.stacks;
         pay(
             &mut stacks,
             self.start.seats.items(),
             &self.standing.round,
-            pot,
+            &awards,
         );
         HandRecord {
             start: self.start,

@@ -1,28 +1,33 @@
 //! Laws of a hand: over every lawful start and every lawful play of it.
 
-ghost use Rattle.std.specs.Prelude.{◌≡◌, ◌+◌, ◌<◌, ◌≤◌, ℕ, List, [], ◌∷◌, ◌++◌, Some, None, IsSome, false, true, map, nat_le, length, sum, sum_by};
+ghost use Rattle.std.specs.Prelude.{◌≡◌, ◌+◌, ◌%◌, ◌==◌, ◌<◌, ◌≤◌, ℕ, List, [], ◌∷◌, ◌++◌, Some, None, IsSome, false, true, map, nat_le, length, sum, sum_by};
 ghost use Rattle.std.specs.List.{list_all};
 ghost use Rattle.betting_round.specs.declared.act.Act.TheVariants as acts;
+ghost use Rattle.pot_layers.specs.Layers.{is_contested, layers};
+ghost use Rattle.pot_layers.specs.PotTests.{total_of};
 ghost use Rattle.table_engine.specs.declared.record.ActOf.{ActOf};
 ghost use Rattle.table_engine.specs.declared.start.StartSeat.{StartSeat};
 ghost use Rattle.table_engine.specs.Starts.{IsLawfulStart, chips_of, have_playable_stacks};
 ghost use Rattle.table_engine.specs.Hands.{HandTerms, behind, due_in_hand, due_name, is_over, player_of, put_in_hand, street_of, streets_of};
 ghost use Rattle.table_engine.specs.Acts.{refusal_of_act};
-ghost use Rattle.table_engine.specs.Results.{is_won_by_folds, players_after, stacks_after_hand, starting_stacks};
+ghost use Rattle.table_engine.specs.Results.{award, is_won_by_folds, players_after, pot, puts_in_hand, stacks_after_hand, starting_stacks};
 ghost use Rattle.table_engine.specs.Plays.{IsLawfulPlay};
 
 /// The chips of a hand are kept. At each moment, all that the players have behind and all that they have put in
-/// sum to their starting stacks, and nobody has put in more than his stack. The stacks after a hand that is won
-/// without a showdown sum to the starting stacks.
+/// sum to their starting stacks, and nobody has put in more than his stack. The pots of a hand that is over sum to all
+/// that was put in, what its players get sums to the same, and the stacks after it sum to the starting stacks.
 pub fn chips_of_a_hand()
     ensures in_play { (hand : HandTerms) → IsLawfulStart hand.start → IsLawfulPlay hand
         → sum_by (behind hand) hand.start.seats + sum_by (put_in_hand hand) hand.start.seats
         ≡ sum (starting_stacks hand) }
     ensures within { (hand : HandTerms) → IsLawfulStart hand.start → IsLawfulPlay hand
         → list_all (λ player. nat_le (put_in_hand hand player) player.stack) hand.start.seats ≡ true }
-    ensures after { (hand : HandTerms) → IsLawfulStart hand.start → IsLawfulPlay hand → is_won_by_folds hand ≡ true
+    ensures pots { (hand : HandTerms) → IsLawfulStart hand.start → total_of (layers (puts_in_hand hand)) ≡ pot hand }
+    ensures awards { (hand : HandTerms) → IsLawfulStart hand.start → IsLawfulPlay hand → is_over hand ≡ true
+        → sum_by (award hand) hand.start.seats ≡ pot hand }
+    ensures after { (hand : HandTerms) → IsLawfulStart hand.start → IsLawfulPlay hand → is_over hand ≡ true
         → sum (stacks_after_hand hand) ≡ sum (starting_stacks hand) }
-    ensures players { (hand : HandTerms) → IsLawfulStart hand.start → IsLawfulPlay hand → is_won_by_folds hand ≡ true
+    ensures players { (hand : HandTerms) → IsLawfulStart hand.start → IsLawfulPlay hand → is_over hand ≡ true
         → chips_of (players_after hand) ≡ chips_of hand.start.seats }
 {}
 
@@ -58,8 +63,8 @@ pub fn length_of_a_hand()
         → length hand.acts ≤ chips_of hand.start.seats + 50 }
 {}
 
-/// The players after a hand are those who were dealt in: they have their numbers, names and seats. After a hand that
-/// is won by folds each of them has a stack above 0 that is a multiple of the unit, as he had before it: a player
+/// The players after a hand are those who were dealt in: they have their numbers, names and seats. Each of them has a
+/// stack that is a multiple of the unit. After a hand that is won by folds it is above 0, as before the hand: a player
 /// who folds was due, so he has chips behind.
 pub fn players_of_a_hand()
     ensures numbers { (hand : HandTerms)
@@ -69,6 +74,15 @@ pub fn players_of_a_hand()
     ensures seats { (hand : HandTerms)
         → map (λ player. player.seat) (players_after hand) ≡ map (λ player. player.seat) hand.start.seats }
     ensures stacks { (hand : HandTerms) → map (λ player. player.stack) (players_after hand) ≡ stacks_after_hand hand }
+    ensures whole { (hand : HandTerms) → IsLawfulStart hand.start → IsLawfulPlay hand
+        → list_all (λ player. player.stack % hand.start.unit == 0) (players_after hand) ≡ true }
     ensures playable { (hand : HandTerms) → IsLawfulStart hand.start → IsLawfulPlay hand → is_won_by_folds hand ≡ true
         → have_playable_stacks hand.start.unit (players_after hand) ≡ true }
+{}
+
+/// A hand that is over and not won by folds comes to a showdown: a live player has put in chips, so that each of its
+/// pots can be won.
+pub fn showdown_of_a_hand()
+    ensures { (hand : HandTerms) → IsLawfulStart hand.start → IsLawfulPlay hand → is_over hand ≡ true
+        → is_won_by_folds hand ≡ false → is_contested (puts_in_hand hand) ≡ true }
 {}

@@ -1,25 +1,29 @@
 //! One hand: its start and its acts, and what they come to.
 //!
-//! It stands on floor_text, card_set, rulebook, level_plan, button_blinds and betting_round. A `Hand` is made of a
-//! `HandStart` that is lawful, takes acts from the players who are due and called times on all streets (`act` answers
-//! just by `refusal_of_act`, `time` by `refusal_of_time`), and ends by `finish`, whose record is a complete play of its
-//! start, or by `void`, which gives its start back. So far a hand is finished where it is won by folds.
+//! It stands on floor_text, card_set, rulebook, level_plan, button_blinds, betting_round, deal_order, pot_layers and
+//! showdown. A `Hand` is made of a `HandStart` that is lawful, takes acts from the players who are due and called times
+//! on all streets (`act` answers just by `refusal_of_act`, `time` by `refusal_of_time`), and ends by `finish`, whose
+//! record is a complete play of its start, or by `void`, which gives its start back.
 //!
 //! Laws of every lawful play: `chips_of_a_hand` at each moment, `acts_of_a_hand`, `turns_of_a_hand`,
-//! `levels_of_a_hand`, `length_of_a_hand`, and `players_of_a_hand` of the players and their stacks after it.
+//! `levels_of_a_hand`, `length_of_a_hand`, `showdown_of_a_hand`, and `players_of_a_hand` of the players and their stacks
+//! after it.
 #![tactic(auto)]
 
+mod awards;
+mod dealing;
 mod hand;
 mod laws;
 mod players;
 mod record;
 mod standing;
 mod start;
+mod telling;
 
 pub use hand::Hand;
 pub use laws::{
     acts_of_a_hand, chips_of_a_hand, length_of_a_hand, levels_of_a_hand, players_of_a_hand,
-    turns_of_a_hand,
+    showdown_of_a_hand, turns_of_a_hand,
 };
 pub use record::{ActFault, ActOf, HandRecord};
 pub use start::{HandStart, StartSeat};

@@ -40,7 +40,7 @@ fn blind_of(start: &HandStart, seat: u8) -> u64
 }
 
 /// What a player posts, in chips.
-fn posted(start: &HandStart, player: &StartSeat) -> u64
+pub(crate) fn posted(start: &HandStart, player: &StartSeat) -> u64
     ensures posted { result ≡ posted start.now player.now }
     ensures covered { result ≤ player.now.stack }
 {
@@ -96,7 +96,7 @@ fn all_seated(start: &HandStart) -> [Option<Bettor>; 10]
 }
 
 /// The players who are dealt in, by the seats 1 to 10.
-fn players_by_seat(start: &HandStart) -> [Option<StartSeat>; 10]
+pub(crate) fn players_by_seat(start: &HandStart) -> [Option<StartSeat>; 10]
     ensures { result ≡ players_by_seat start.now }
 {
     [

@@ -1,4 +1,5 @@
 use Rattle.table_engine.proofs.Stacks.{numbers-after, names-after, seats-after, stacks-after}
+use Rattle.table_engine.proofs.ChipsAfter.{stacks-whole}
 use Rattle.table_engine.proofs.StacksAfter.{stacks-playable}
 use Rattle.table_engine.proofs.laws.players_of_a_hand.Goals as goal
 
@@ -16,3 +17,6 @@ returns-clause-stacks c = stacks-after
 
 pub returns-clause-playable : goal.returns-clause-playable
 returns-clause-playable c = stacks-playable
+
+pub returns-clause-whole : goal.returns-clause-whole
+returns-clause-whole c = stacks-whole

@@ -1,7 +1,14 @@
-use Rattle.std.proofs.Common.{◌∙◌, rules}
+use Rattle.std.proofs.Common.{◌∙◌, sym, arith, rules}
 use Rattle.table_engine.proofs.Plays.{lawful_play-none}
+use Rattle.table_engine.proofs.Puts.{begun-few, puts-begun}
 use Rattle.table_engine.proofs.Standings.{streets-none}
 use Rattle.table_engine.proofs.hand.Hand.new.Goals as goal
+
+pub of-tally-requires : goal.of-tally-requires
+of-tally-requires c =
+    let few = begun-few c.args.start c.requires in
+    let chips = c.requires.chips in
+    rw c.first_puts.ensures (omega arith)
 
 pub invariant_of-result : goal.invariant_of-result
 invariant_of-result c = record {
@@ -9,6 +16,7 @@ invariant_of-result c = record {
       (rw c.first.ensures.at.left at (c.deal_on-standing.ensures.at _ c.first.ensures.at));
   ready = c.deal_on-standing.ensures.ready;
   there = c.deal_on-standing.ensures.there ∙ c.first.ensures.there;
+  told = rw c.new.ensures (c.of-tally.ensures ∙ c.first_puts.ensures ∙ sym (puts-begun c.args.start c.requires));
   room = search rules;
   lawful = c.requires;
   played = rw c.new.ensures (lawful_play-none c.args.start);

@@ -1,0 +1,165 @@
+//! The cards of a hand.
+
+ghost use Rattle.std.specs.Prelude.{◌≡◌, ◌≤◌, ◌<◌, None, Some, map};
+ghost use Rattle.button_blinds.specs.SeatSets.{seat_count};
+ghost use Rattle.card_set.specs.Decks.{IsDeck};
+ghost use Rattle.table_engine.specs.Starts.{IsLawfulStart};
+ghost use Rattle.table_engine.specs.Hands.{players_by_seat};
+ghost use Rattle.table_engine.specs.Deals.{board_card, board_of, dealt_seats, hole_card, hole_count, listed, tabled};
+ghost use Rattle.table_engine.specs.Results.{live_on};
+
+use crate::standing::players_by_seat;
+use crate::start::{HandStart, StartSeat};
+use betting_round::Round;
+use button_blinds::SeatSet;
+use card_set::{Card, Game};
+use deal_order::{board_place, hole_place};
+use showdown::Live;
+
+/// The seats that are dealt in.
+pub(crate) fn dealt_seats(start: &HandStart) -> SeatSet
+    ensures { result ≡ dealt_seats start.now }
+{
+    let mut dealt = SeatSet::empty();
+    let players = players_by_seat(start);
+    for (index, player) in players.iter().enumerate() {
+        if player.is_some() {
+            dealt = dealt.with(index as u8 + 1);
+        }
+    }
+    dealt
+}
+
+/// How many hole cards each player is dealt.
+fn hole_count(game: Game) -> u8
+    ensures count { result ≡ hole_count game }
+    ensures some { 2 ≤ result }
+    ensures most { result ≤ 4 }
+{
+    match game {
+        Game::Holdem => 2,
+        Game::Omaha | Game::Hilo => 4,
+    }
+}
+
+/// A player's hole card, counted from 0, by his seat.
+fn hole_card(start: &HandStart, dealt: SeatSet, seat: u8, card: u8) -> Card
+    requires lawful { IsLawfulStart start.now }
+    requires dealt { dealt ≡ dealt_seats start.now }
+    requires card { card < hole_count start.now.game }
+    ensures { result ≡ hole_card start.now seat card }
+{
+    let holes = hole_count(start.game);
+    start.deck.card(hole_place(
+        dealt,
+        start.marks.button,
+        start.seat_count,
+        holes,
+        seat,
+        card,
+    ))
+}
+
+/// Which of a player's hole cards stands at a place of the four that a showdown lists: in hold'em his two stand twice.
+fn listed(game: Game, place: u8) -> u8
+    requires { place < 4 }
+    ensures card { result ≡ listed game place }
+    ensures dealt { result < hole_count game }
+{
+    match game {
+        Game::Holdem => place % 2,
+        Game::Omaha | Game::Hilo => place,
+    }
+}
+
+/// The card at a place of the four that a showdown lists of a player.
+fn listed_card(start: &HandStart, dealt: SeatSet, seat: u8, place: u8) -> Card
+    requires lawful { IsLawfulStart start.now }
+    requires dealt { dealt ≡ dealt_seats start.now }
+    requires place { place < 4 }
+    ensures { result ≡ hole_card start.now seat (listed start.now.game place) }
+{
+    hole_card(start, dealt, seat, listed(start.game, place))
+}
+
+/// A player at the showdown, with his hole cards.
+fn tabled(start: &HandStart, dealt: SeatSet, seat: u8) -> Live
+    requires lawful { IsLawfulStart start.now }
+    requires dealt { dealt ≡ dealt_seats start.now }
+    ensures { result ≡ tabled start.now seat }
+{
+    Live {
+        seat,
+        hole: [
+            listed_card(start, dealt, seat, 0),
+            listed_card(start, dealt, seat, 1),
+            listed_card(start, dealt, seat, 2),
+            listed_card(start, dealt, seat, 3),
+        ],
+    }
+}
+
+/// A card of the board, counted from 0.
+fn board_card(start: &HandStart, dealt: SeatSet, card: u8) -> Card
+    requires dealt { dealt ≡ dealt_seats start.now }
+    requires card { card ≤ 4 }
+    ensures card { result ≡ board_card start.now card }
+    ensures deck { IsDeck start.now.deck }
+{
+    let holes = hole_count(start.game);
+    start.deck.card(board_place(dealt.count(), holes, card))
+}
+
+/// The board: the flop, the turn and the river.
+pub(crate) fn board_of(start: &HandStart, dealt: SeatSet) -> [Card; 5]
+    requires { dealt ≡ dealt_seats start.now }
+    ensures board { result ≡ board_of start.now }
+    ensures deck { IsDeck start.now.deck }
+{
+    [
+        board_card(start, dealt, 0),
+        board_card(start, dealt, 1),
+        board_card(start, dealt, 2),
+        board_card(start, dealt, 3),
+        board_card(start, dealt, 4),
+    ]
+}
+
+/// A player of the start who is live, with his hole cards.
+fn live_on(
+    start: &HandStart,
+    dealt: SeatSet,
+    round: &Round,
+    player: Option<StartSeat>,
+) -> Option<Live>
+    requires lawful { IsLawfulStart start.now }
+    requires dealt { dealt ≡ dealt_seats start.now }
+    ensures { result ≡ live_on start.now round.now player }
+{
+    let player = player?;
+    let bettor = round.bettor(player.seat)?;
+    if !bettor.live {
+        return None;
+    }
+    Some(tabled(start, dealt, player.seat))
+}
+
+/// The live players with their hole cards, by the seats 1 to 10.
+pub(crate) fn all_live(start: &HandStart, dealt: SeatSet, round: &Round) -> [Option<Live>; 10]
+    requires lawful { IsLawfulStart start.now }
+    requires dealt { dealt ≡ dealt_seats start.now }
+    ensures { result ≡ map (live_on start.now round.now) (players_by_seat start.now) }
+{
+    [
+        live_on(start, dealt, round, start.player_of(1)),
+        live_on(start, dealt, round, start.player_of(2)),
+        live_on(start, dealt, round, start.player_of(3)),
+        live_on(start, dealt, round, start.player_of(4)),
+        live_on(start, dealt, round, start.player_of(5)),
+        live_on(start, dealt, round, start.player_of(6)),
+        live_on(start, dealt, round, start.player_of(7)),
+        live_on(start, dealt, round, start.player_of(8)),
+        live_on(start, dealt, round, start.player_of(9)),
+        live_on(start, dealt, round, start.player_of(10)),
+    ]
+}

@@ -1,0 +1,59 @@
+//! What a hand tells its tally of the pots.
+
+ghost use Rattle.std.specs.Prelude.{◌≡◌, ◌+◌, ◌-◌, ◌≤◌, ◌<◌, ◌^◌, map};
+ghost use Rattle.betting_round.specs.Acts.{is_fold};
+ghost use Rattle.pot_layers.specs.Tallies.{total_put};
+ghost use Rattle.table_engine.specs.Hands.{player_of, players_by_seat};
+ghost use Rattle.table_engine.specs.Tellings.{first_put, told};
+
+use crate::standing::posted;
+use crate::start::HandStart;
+use betting_round::Act;
+use pot_layers::{PotTally, Put};
+
+/// What was put in at a seat before any act.
+fn first_put(start: &HandStart, seat: u8) -> Put
+    ensures { result ≡ first_put start.now (player_of start.now seat) }
+{
+    match start.player_of(seat) {
+        Some(player) => Put {
+            amount: posted(start, &player),
+            live: true,
+        },
+        None => Put {
+            amount: 0,
+            live: false,
+        },
+    }
+}
+
+/// What was put in before any act, by the seats 1 to 10.
+pub(crate) fn first_puts(start: &HandStart) -> [Put; 10]
+    ensures { result ≡ map (first_put start.now) (players_by_seat start.now) }
+{
+    [
+        first_put(start, 1),
+        first_put(start, 2),
+        first_put(start, 3),
+        first_put(start, 4),
+        first_put(start, 5),
+        first_put(start, 6),
+        first_put(start, 7),
+        first_put(start, 8),
+        first_put(start, 9),
+        first_put(start, 10),
+    ]
+}
+
+/// Tells the tally that the player in a seat has acted, and has put in so much, in chips.
+pub(crate) fn tell(tally: &mut PotTally, seat: u8, put_in: u64, act: Act)
+    requires first { 1 ≤ seat }
+    requires last { seat ≤ 10 }
+    requires fits { total_put tally.old + put_in < 2 ^ 53 }
+    ensures { tally.new ≡ told tally.old (seat - 1) put_in (is_fold act) }
+{
+    tally.add(seat, put_in);
+    if matches!(act, Act::Fold) {
+        tally.fold(seat);
+    }
+}
