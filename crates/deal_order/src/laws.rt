@@ -26,5 +26,6 @@ pub fn the_deal_takes_the_top_cards()
 pub fn a_player_and_the_board_have_other_cards()
     ensures { (dealt : List Bool) (button seats holes seat : ℕ) → AreSeatsOf seats dealt → seats ≤ 10 → button ≤ seats
         → has_seat dealt seat ≡ true
-        → are_rising (places_of_player dealt button seats holes seat ++ places_of_board (seat_count dealt) holes) ≡ true }
+        → are_rising (places_of_player dealt button seats holes seat ++ places_of_board (seat_count dealt) holes)
+        ≡ true }
 {}

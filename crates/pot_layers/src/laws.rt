@@ -24,7 +24,8 @@ pub fn pots_have_somebody()
 
 /// Each pot is of whole units, where all that was put in is.
 pub fn pots_are_whole_units()
-    ensures { (puts : List Put) (unit : ℕ) → are_whole_puts unit puts ≡ true → are_whole_pots unit (layers puts) ≡ true }
+    ensures { (puts : List Put) (unit : ℕ) → are_whole_puts unit puts ≡ true
+        → are_whole_pots unit (layers puts) ≡ true }
 {}
 
 /// What a live player has put in above the height that any other player reached comes back to him: it is in the

@@ -36,7 +36,7 @@ pub fn awards_are_whole_units()
 
 /// Who is not live is awarded nothing, where only live players may win a pot.
 pub fn only_live_players_are_awarded()
-    ensures { (game : Game) (board : List Card) (live : List (Option Live)) (unit button seats : ℕ) (pots : List Pot) (index : ℕ)
-        → has_seat (map is_some live) (suc index) ≡ false → are_for (map is_some live) pots ≡ true
+    ensures { (game : Game) (board : List Card) (live : List (Option Live)) (unit button seats : ℕ) (pots : List Pot)
+        (index : ℕ) → has_seat (map is_some live) (suc index) ≡ false → are_for (map is_some live) pots ≡ true
         → slice_index_or (awards_of (hands_of game board live) unit button seats pots) index 0 ≡ 0 }
 {}

@@ -6,8 +6,8 @@
 //! record is a complete play of its start, or by `void`, which gives its start back.
 //!
 //! Laws of every lawful play: `chips_of_a_hand` at each moment, `acts_of_a_hand`, `turns_of_a_hand`,
-//! `levels_of_a_hand`, `length_of_a_hand`, `showdown_of_a_hand`, and `players_of_a_hand` of the players and their stacks
-//! after it.
+//! `levels_of_a_hand`, `length_of_a_hand`, `showdown_of_a_hand`, and `players_of_a_hand` of the players and their
+//! stacks after it.
 #![tactic(auto)]
 
 mod awards;
