@@ -35,6 +35,7 @@ use Rattle.tournament_rules.specs.Dealing.{next_at, next_start}
 use Rattle.tournament_rules.specs.Effects.{playing_from, begun_book}
 use Rattle.tournament_rules.specs.Valid.{IsValid, IsPlanned, IsStartAt, is_lent, without_stack}
 use Rattle.tournament_rules.proofs.Restacked.{entered_changed}
+use Rattle.tournament_rules.proofs.Names.{seated_names}
 use Rattle.tournament_rules.proofs.Passed.{none_holds, is_so, none_there}
 use Rattle.tournament_rules.proofs.Entries.{right_has}
 use Rattle.tournament_rules.proofs.Fitting.{table_range, each_status, fitting_changed, out_changed, play_changed, chips_out}
@@ -170,7 +171,8 @@ lawful_start book table cards valid may =
       names = ap (are_distinct bytes_eq) (keys_dealt (λ player. player.name) (λ player. player.name) (λ player. refl)
           found)
           ∙ is_pairwise-filter (λ one other. not (bytes_eq one other)) (λ player. player.name)
-          (is_dealt_in table waiting) players valid.entries.apart;
+          (is_dealt_in table waiting) players
+          (seated_names book.entries players valid.entries.names valid.entries.named lawful.apart);
       stacks = ap (λ (unit : ℕ). have_playable_stacks unit (dealt_seats table waiting players)) (unit_now book)
           ∙ playable-dealt (unit_of_level book.plan.blinds book.level) table waiting players
           (all_rest book table valid may.rests) valid.chips.whole;
@@ -206,7 +208,7 @@ valid_begun book table row valid free =
     let marks = subst (λ (seats : ℕ). AreMarksOf seats next.marks) (sym valid.tables.seats) lawful.marks in
     record {
       plan = valid.plan;
-      entries = entered_changed book.entries players (as_dealt table next.waiting) (dealt-stacks table next.waiting)
+      entries = entered_changed book.entries players book.busts (as_dealt table next.waiting) (dealt-stacks table next.waiting)
           valid.entries;
       tables = fitting_changed book.plan book.seating book.out table
           (playing_from next.marks (status_at book.seating.tables table)) (Some start) (as_dealt table next.waiting)
@@ -237,5 +239,7 @@ valid_begun book table row valid free =
             (omega (arith, range.1, count, size))
             (valid.chips.units table) other (valid.chips.units other) listed;
       };
+      busts = valid.busts;
       counted = let counted = valid.counted in omega (arith, counted);
+      raised = let raised = valid.raised in omega (arith, raised);
     }

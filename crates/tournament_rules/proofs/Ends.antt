@@ -1,34 +1,36 @@
 -- A book is valid once a hand has ended: it is settled, or it is void.
-use Rattle.std.proofs.Common.{◌≡◌, ◌∙◌, refl, sym, ap, subst, ℕ, zero, suc, ◌+◌, ◌%◌, ◌<◌, ◌≤◌, Bool, true, ◌==◌, List, [], ◌∷◌, map, length, set, inl, inr, arith}
-use Rattle.std.specs.Prelude.{nat_lt, filter, Option, Some, None}
+use Rattle.std.proofs.Common.{◌≡◌, ◌∙◌, refl, sym, ap, subst, ℕ, zero, suc, ◌+◌, ◌%◌, ◌<◌, ◌≤◌, Bool, true, false, cond, ◌==◌, List, [], ◌∷◌, ◌++◌, map, length, set, inl, inr, arith}
+use Rattle.std.specs.Prelude.{nat_lt, filter, slice_set, Option, Some, None}
 use Rattle.std.specs.List.{list_all}
 use Rattle.std.specs.Option.{option_map_or}
 use Rattle.std.proofs.lemmas.Bool.{and_parts, and_from, cases_lt, eqb-true}
 use Rattle.std.proofs.lemmas.List.{get_or_past}
 use Rattle.level_plan.specs.Items.{is_between}
 use Rattle.level_plan.specs.Plans.{unit_of_level}
+use Rattle.place_list.specs.declared.bust.Bust.{Bust}
 use Rattle.seat_book.specs.declared.seated.Seated.{Seated}
-use Rattle.seat_book.specs.Tables.{status_at}
+use Rattle.seat_book.specs.Tables.{status_at, with_status}
 use Rattle.table_engine.specs.declared.start.HandStart.{HandStart}
 use Rattle.table_engine.specs.declared.start.StartSeat.{StartSeat}
 use Rattle.table_engine.specs.Starts.{is_playable_stack, have_playable_stacks, chips_of}
-use Rattle.table_engine.specs.Hands.{HandTerms}
-use Rattle.table_engine.specs.Results.{with_stack, is_won_by_folds, stack_after_hand, players_after}
+use Rattle.table_engine.specs.Hands.{HandTerms, is_over}
+use Rattle.table_engine.specs.Results.{with_stack, stack_after_hand, players_after}
 use Rattle.table_engine.specs.Plays.{IsLawfulPlay}
-use Rattle.table_engine.proofs.Chips.{chips-players}
-use Rattle.table_engine.proofs.StacksAfter.{stacks-playable}
+use Rattle.table_engine.proofs.ChipsAfter.{chips-players, stacks-whole}
 use Rattle.tournament_rules.specs.Books.{BookState, start_at, players_out}
 use Rattle.tournament_rules.specs.Players.{start_seat, paid, put_back}
-use Rattle.tournament_rules.specs.Effects.{at_rest, ended, settled, void_at, void_first, stopped_book}
-use Rattle.tournament_rules.specs.Valid.{IsValid, is_lent, without_stack}
-use Rattle.tournament_rules.proofs.Restacked.{entered_changed}
+use Rattle.tournament_rules.specs.Effects.{with_table, at_rest, ended, broke_by, bust_of, settled, void_at, void_first, stopped_book}
+use Rattle.tournament_rules.specs.Valid.{IsValid, AreOnce, AreGrouped, is_lent, without_stack}
+use Rattle.tournament_rules.proofs.Restacked.{entered_changed, apart_changed}
 use Rattle.tournament_rules.proofs.Paying.{numbers_of, paid-stacks, picked_numbers, ArePayees, rest-put_back, none_lent, lent_elsewhere, all-put_back}
+use Rattle.tournament_rules.proofs.DealtIn.{none_first}
+use Rattle.tournament_rules.proofs.Stayed.{without, who_stay, all_stay, fitting_left, entered_left, none_lent-stay, lent_elsewhere-stay, rest-stay, stayed-lent, with_nothing, lent_after, once_left, grouped_left}
 use Rattle.tournament_rules.proofs.Fitting.{table_range, each_status, fitting_changed, table_out, out_changed, play_changed, chips_out}
 
--- The payees are a start's players with other stacks, of the same sum, that can be played with.
+-- The payees are a start's players with other stacks, of the same sum, that are multiples of the unit.
 pub record GoBackTo (start : HandStart) (payees : List StartSeat) : Type 0 where
   pub same : map without_stack payees ≡ map without_stack start.seats
-  pub playable : have_playable_stacks start.unit payees ≡ true
+  pub whole : list_all (λ payee. payee.stack % start.unit == 0) payees ≡ true
   pub kept : chips_of payees ≡ chips_of start.seats
 
 numbers_without : (starters : List StartSeat) → numbers_of (map without_stack starters) ≡ numbers_of starters
@@ -48,14 +50,14 @@ playable_parts unit (payee ∷ payees) playable =
 
 -- The players of the start that is out at a table are those who have nothing at rest there.
 payees_lent : (book : BookState) (table : ℕ) (start : HandStart) (payees : List StartSeat) → IsValid book
-    → start_at book.out table ≡ Some start → GoBackTo start payees
+    → start_at book.out table ≡ Some start → map without_stack payees ≡ map without_stack start.seats
     → ArePayees (is_lent table) book.seating.players payees
 payees_lent book table start payees valid is back = record {
   numbers =
       let out : map start_seat (filter (is_lent table) book.seating.players)
       ≡ map without_stack start.seats = valid.hands.lent table
       ∙ ap (λ (start : Option HandStart). map without_stack (players_out start)) is in
-      sym (numbers_without payees) ∙ (ap numbers_of (back.same ∙ sym out) ∙ picked_numbers
+      sym (numbers_without payees) ∙ (ap numbers_of (back ∙ sym out) ∙ picked_numbers
       (filter (is_lent table) book.seating.players));
 }
 
@@ -63,64 +65,117 @@ lent_nothing : (table : ℕ) (player : Seated) → is_lent table player ≡ true
 lent_nothing table player lent =
     eqb-true player.stack 0 (and_parts (player.place.table == table) (player.stack == 0) lent).1
 
--- A book is valid once the hand at a table has ended and stacks of its start's sum went back to its players.
-pub valid_ended : (book : BookState) (table : ℕ) (start : HandStart) (payees : List StartSeat) → IsValid book
-    → start_at book.out table ≡ Some start → GoBackTo start payees → IsValid (ended book table payees)
-valid_ended book table start payees valid is back =
+-- the players once stacks went back and those who have nothing at the table have left
+abbrev left_with : BookState → ℕ → List StartSeat → List Seated
+left_with book table payees = who_stay table (put_back payees book.seating.players)
+
+-- a book once the hand at a table has ended, with these players, who are out, and counts
+abbrev closed : BookState → ℕ → List Seated → List Bust → ℕ → ℕ → BookState
+closed book table players busts group accepted = record book {
+  seating = record (with_table book.seating table at_rest) { players = players };
+  out = slice_set book.out table None;
+  busts = busts;
+  group = group;
+  accepted = accepted;
+}
+
+-- A book is valid once the hand at a table has ended, stacks of its start's sum went back to its players, and those who
+-- have none have left.
+valid_closed : (book : BookState) (table : ℕ) (start : HandStart) (payees : List StartSeat) (busts : List Bust)
+    (group accepted : ℕ) → IsValid book → start_at book.out table ≡ Some start → GoBackTo start payees
+    → AreOnce book.entries (left_with book table payees) busts → AreGrouped busts group → book.begun ≤ accepted
+    → group ≤ accepted → IsValid (closed book table (left_with book table payees) busts group accepted)
+valid_closed book table start payees busts group accepted valid is back once grouped counted raised =
     let there = table_out book.plan book.seating book.out table start valid.tables is in
     let range = table_range 1 book.plan.tables table there in
     let count = valid.tables.tables in
     let size = valid.tables.lawful.tables in
     let room = valid.tables.room in
     let within : table < length book.out = omega (arith, range.1, room) in
-    let those = payees_lent book table start payees valid is back in
+    let those = payees_lent book table start payees valid is back.same in
     let apart = valid.tables.lawful.apart in
-    let parts = playable_parts start.unit payees back.playable in
     let began = valid.hands.starts table start is in
     let stands = valid.tables.lawful.statuses table in
+    let players = put_back payees book.seating.players in
+    let status = at_rest (status_at book.seating.tables table) in
+    let unit = unit_of_level book.plan.blinds book.level in
+    let is_whole : ℕ → Bool = λ stack. stack % unit == 0 in
     record {
       plan = valid.plan;
-      entries = entered_changed book.entries book.seating.players (paid payees) (paid-stacks payees) valid.entries;
-      tables = fitting_changed book.plan book.seating book.out table (at_rest (status_at book.seating.tables table))
-          None (paid payees) valid.tables there
-          (record { marks = stands.marks; unit = stands.unit; race = stands.race }) refl (paid-stacks payees);
-      hands = out_changed book.plan book.level book.seating.players (put_back payees book.seating.players) book.out
+      entries = entered_left book.entries players book.busts busts (is_lent table)
+          (entered_changed book.entries book.seating.players book.busts (paid payees) (paid-stacks payees)
+          valid.entries) once;
+      tables = fitting_left book.plan (record book.seating {
+        players = players;
+        tables = with_status book.seating.tables table status;
+      }) (slice_set book.out table None) (is_lent table)
+          (fitting_changed book.plan book.seating book.out table status None (paid payees) valid.tables there
+          (record { marks = stands.marks; unit = stands.unit; race = stands.race }) refl (paid-stacks payees));
+      hands = out_changed book.plan book.level book.seating.players (who_stay table players) book.out
           table None valid.hands within
           (λ start none. absurd cc)
-          (ap (λ (found : List Seated). map start_seat found)
-          (none_lent table book.seating.players payees apart those parts.0))
-          (λ other differ. lent_elsewhere table other book.seating.players payees apart those differ);
+          (ap (λ (found : List Seated). map start_seat found) (none_lent-stay table players))
+          (λ other differ. lent_elsewhere-stay table other players differ
+          ∙ lent_elsewhere table other book.seating.players payees apart those differ);
+      busts = grouped;
       chips = record {
         kept =
             let kept = valid.chips.kept in
             let rest = rest-put_back (is_lent table) book.seating.players payees apart those (lent_nothing table) in
+            let stay = rest-stay table players in
             let play = play_changed book.out table None within in
             let his : chips_out (start_at book.out table) ≡ chips_of start.seats = ap chips_out is in
             let same = back.kept in
-            omega (arith, kept, rest, play, his, same);
-        whole = all-put_back (λ stack. stack % unit_of_level book.plan.blinds book.level == 0) payees
-            book.seating.players
+            omega (arith, kept, rest, stay, play, his, same);
+        whole = all_stay (λ player. is_whole player.stack) (is_lent table) players
+            (all-put_back is_whole payees book.seating.players
             (ap (λ (unit : ℕ). list_all (λ (payee : StartSeat). payee.stack % unit == 0) payees) (sym began.unit)
-            ∙ parts.1)
-            valid.chips.whole;
+            ∙ back.whole)
+            valid.chips.whole);
         units = λ other listed. each_status (λ number status. is_between 1 book.plan.tables number ≡ true →
-            status.unit ≡ unit_of_level book.plan.blinds book.level) book.seating.tables table
-            (at_rest (status_at book.seating.tables table)) range.0 (omega (arith, range.1, count, size))
+            status.unit ≡ unit) book.seating.tables table status range.0 (omega (arith, range.1, count, size))
             (valid.chips.units table) other (valid.chips.units other) listed;
       };
-      counted = valid.counted;
+      counted = counted;
+      raised = raised;
     }
+
+-- Where nobody passes a test, all stay.
+nobody_left : {A : Type 0} (gone : A → Bool) (items : List A) → filter gone items ≡ [] → without gone items ≡ items
+nobody_left gone [] none = refl
+nobody_left gone (item ∷ items) none =
+    let parts = none_first gone item items none in
+    rw parts.0 (ap (◌∷◌ item) (nobody_left gone items parts.1))
+
+-- A book is valid once the hand at a table has ended and stacks that can be played with, of its start's sum, went back
+-- to its players.
+valid_ended : (book : BookState) (table : ℕ) (start : HandStart) (payees : List StartSeat) → IsValid book
+    → start_at book.out table ≡ Some start → GoBackTo start payees
+    → list_all (λ payee. nat_lt 0 payee.stack) payees ≡ true → IsValid (ended book table payees)
+valid_ended book table start payees valid is back above =
+    let those = payees_lent book table start payees valid is back.same in
+    let players = put_back payees book.seating.players in
+    let none = none_lent table book.seating.players payees valid.tables.lawful.apart those above in
+    let all : left_with book table payees ≡ players = nobody_left (is_lent table) players none in
+    let entered = entered_changed book.entries book.seating.players book.busts (paid payees) (paid-stacks payees)
+    valid.entries in
+    let once = subst (λ (players : List Seated). AreOnce book.entries players book.busts) (sym all) entered.once in
+    subst (λ (players : List Seated). IsValid (closed book table players book.busts book.group book.accepted)) all
+    (valid_closed book table start payees book.busts book.group book.accepted valid is back once valid.busts
+    valid.counted valid.raised)
 
 -- A book is valid with another count of accepted events, if it is no lower, whether it is stopped or not.
 pub valid_counted : (book : BookState) (accepted : ℕ) (stopped : Bool) → IsValid book → book.begun ≤ accepted
-    → IsValid (record book { accepted = accepted; stopped = stopped })
-valid_counted book accepted stopped valid enough = record {
+    → book.group ≤ accepted → IsValid (record book { accepted = accepted; stopped = stopped })
+valid_counted book accepted stopped valid enough raised = record {
   plan = valid.plan;
   entries = valid.entries;
   tables = valid.tables;
   hands = valid.hands;
   chips = record { kept = valid.chips.kept; whole = valid.chips.whole; units = valid.chips.units };
+  busts = valid.busts;
   counted = enough;
+  raised = raised;
 }
 
 after_without : (hand : HandTerms) (players : List StartSeat)
@@ -130,20 +185,56 @@ after_without hand [] = refl
 after_without hand (player ∷ players) =
     ap (λ (others : List StartSeat). without_stack player ∷ others) (after_without hand players)
 
--- A book is valid once a hand that is won by folds is settled.
+-- Those whom a hand leaves without chips are, in number, its players after it who have none.
+broke_numbers : (hand : HandTerms) (starters : List StartSeat)
+    → numbers_of (filter (λ player. stack_after_hand hand player == 0) starters)
+    ≡ numbers_of (with_nothing (map (λ player. with_stack player (stack_after_hand hand player)) starters))
+broke_numbers hand [] = refl
+broke_numbers hand (player ∷ starters) =
+    by_test (stack_after_hand hand player == 0) (broke_numbers hand starters)
+  where
+    after : List StartSeat
+    after = map (λ player. with_stack player (stack_after_hand hand player)) starters
+
+    by_test : (b : Bool)
+        → numbers_of (filter (λ player. stack_after_hand hand player == 0) starters) ≡ numbers_of (with_nothing after)
+        → numbers_of (cond b (player ∷ filter (λ player. stack_after_hand hand player == 0) starters)
+        (filter (λ player. stack_after_hand hand player == 0) starters))
+        ≡ numbers_of (cond b (with_stack player (stack_after_hand hand player) ∷ with_nothing after)
+        (with_nothing after))
+    by_test true rest = ap (◌∷◌ player.player) rest
+    by_test false rest = rest
+
+-- A book is valid once a hand that is over is settled.
 pub valid_settled : (book : BookState) (hand : HandTerms) → IsValid book
-    → start_at book.out hand.start.table ≡ Some hand.start → IsLawfulPlay hand → is_won_by_folds hand ≡ true
+    → start_at book.out hand.start.table ≡ Some hand.start → IsLawfulPlay hand → is_over hand ≡ true
     → IsValid (settled book hand)
-valid_settled book hand valid is play won =
-    let began = valid.hands.starts hand.start.table hand.start is in
-    let back : GoBackTo hand.start (players_after hand) = record {
-      same = after_without hand hand.start.seats;
-      playable = stacks-playable hand began.lawful play won;
-      kept = chips-players hand began.lawful play won;
+valid_settled book hand valid is play over =
+    let start = hand.start in
+    let began = valid.hands.starts start.table start is in
+    let payees = players_after hand in
+    let back : GoBackTo start payees = record {
+      same = after_without hand start.seats;
+      whole = stacks-whole hand began.lawful play;
+      kept = chips-players hand began.lawful play over;
     } in
+    let apart = valid.tables.lawful.apart in
+    let players = put_back payees book.seating.players in
+    let those = payees_lent book start.table start payees valid is back.same in
+    let same = broke_numbers hand start.seats ∙ lent_after start.table book.seating.players payees apart those in
+    let entered = entered_changed book.entries book.seating.players book.busts (paid payees) (paid-stacks payees)
+    valid.entries in
+    let once = once_left book.entries start.table book.group (broke_by hand) players book.busts entered.once same in
+    let stay = stayed-lent start.table (broke_by hand) players
+    (apart_changed (paid payees) (paid-stacks payees) book.seating.players ∙ apart) same in
     let counted = valid.counted in
-    valid_counted (ended book hand.start.table (players_after hand)) (book.accepted + 1) book.stopped
-    (valid_ended book hand.start.table hand.start (players_after hand) valid is back) (omega (arith, counted))
+    let raised = valid.raised in
+    let busts = book.busts ++ map (bust_of book.group) (broke_by hand) in
+    subst (λ (players : List Seated). IsValid
+    (closed book start.table players busts (book.group + 1) (book.accepted + 1))) (sym stay)
+    (valid_closed book start.table start payees busts (book.group + 1) (book.accepted + 1) valid is back once
+    (grouped_left book.group (broke_by hand) book.busts valid.busts) (omega (arith, counted))
+    (omega (arith, raised)))
 
 -- A book is valid once the hand at a table is void.
 pub valid_void_at : (book : BookState) (table : ℕ) → IsValid book → IsValid (void_at book table)
@@ -154,8 +245,9 @@ valid_void_at book table valid = by_start (start_at book.out table) refl
     by_start None is = valid
     by_start (Some start) is =
         let began = valid.hands.starts table start is in
-        valid_ended book table start start.seats valid is (record
-        { same = refl; playable = began.lawful.stacks; kept = refl })
+        let parts = playable_parts start.unit start.seats began.lawful.stacks in
+        valid_ended book table start start.seats valid is
+        (record { same = refl; whole = parts.1; kept = refl }) parts.0
 
 -- A book is valid once the hands at the first so many tables are void.
 pub valid_void_first : (book : BookState) (tables : ℕ) → IsValid book → IsValid (void_first book tables)
@@ -223,9 +315,12 @@ pub valid_stopped : (book : BookState) → IsValid book → IsValid (stopped_boo
 valid_stopped book valid =
     let begun = left-void_first (λ book. book.begun) (record { same = λ book table payees. refl }) book
     book.plan.tables in
+    let group = left-void_first (λ book. book.group) (record { same = λ book table payees. refl }) book
+    book.plan.tables in
     let counted = valid.counted in
+    let raised = valid.raised in
     valid_counted (void_first book book.plan.tables) (book.accepted + 1) true
-    (valid_void_first book book.plan.tables valid) (omega (arith, begun, counted))
+    (valid_void_first book book.plan.tables valid) (omega (arith, begun, counted)) (omega (arith, group, raised))
 
 -- Once the tournament is stopped, no hand is out at any table.
 pub none_out-stopped : (book : BookState) (table : ℕ) → IsValid book → start_at (stopped_book book).out table ≡ None

@@ -1,17 +1,13 @@
 -- A book is valid before any entry, and after each.
-use Rattle.std.proofs.Common.{◌≡◌, ◌∙◌, refl, sym, ap, subst, ℕ, zero, suc, ◌+◌, ◌%◌, ◌<◌, ◌≤◌, ◌⊎◌, inl, inr, Bool, true, false, cond, ◌==◌, ◌&&◌, eq-eqb, List, [], ◌∷◌, ◌++◌, map, length, get_or, arith, length-append}
-use Rattle.std.specs.Prelude.{not, nat_lt, count_by, sum_by, replicate, slice_get, Some, None, is_some}
-use Rattle.std.specs.List.{list_all, All}
-use Rattle.std.specs.Str.{bytes_eq}
-use Rattle.std.proofs.lemmas.Bool.{and_parts, and_from, or_parts, cases_lt, eqb-true}
+use Rattle.std.proofs.Common.{◌≡◌, ◌∙◌, refl, sym, ap, ℕ, zero, suc, ◌+◌, ◌%◌, ◌<◌, ◌≤◌, ◌⊎◌, inl, inr, Bool, true, false, cond, ◌==◌, ◌&&◌, eq-eqb, List, [], ◌∷◌, ◌++◌, map, length, arith, length-append}
+use Rattle.std.specs.Prelude.{nat_lt, count_by, sum_by, replicate, slice_get, Some, None, is_some}
+use Rattle.std.proofs.lemmas.Bool.{and_parts, and_from, cases_lt, eqb-true}
 use Rattle.std.proofs.lemmas.Bool.Decides.{nat_tests}
 use Rattle.std.proofs.lemmas.List.{get_or-replicate, get_or_past, length-replicate}
 use Rattle.std.proofs.lemmas.List.Folds.{sum_by-replicate}
-use Rattle.std.proofs.lemmas.List.Sums.{sum_by-insert, list_all-from_AllPass}
-use Rattle.std.proofs.lemmas.Option.{same_Some}
-use Rattle.std.proofs.lemmas.Slice.Eq.{bytes_eq-Decides}
+use Rattle.std.proofs.lemmas.List.Sums.{sum_by-insert}
 use Rattle.std.proofs.lemmas.List.Elements.{All-nil, All-weaker}
-use Rattle.rulebook.specs.Pairs.{is_pairwise, are_distinct}
+use Rattle.place_list.specs.declared.bust.Bust.{Bust}
 use Rattle.level_plan.specs.Items.{is_between, greatest_amount, are_levels}
 use Rattle.level_plan.specs.Plans.{PlanTerms, is_right, unit_of_level}
 use Rattle.entry_list.specs.Entries.{is_known}
@@ -26,11 +22,12 @@ use Rattle.tournament_rules.specs.Books.{BookState, start_at, players_out}
 use Rattle.tournament_rules.specs.Checks.{book_refusal}
 use Rattle.tournament_rules.specs.Players.{start_seat}
 use Rattle.tournament_rules.specs.Effects.{first_book, first_status, newcomer, entered}
-use Rattle.tournament_rules.specs.Valid.{IsValid, AreEntered, seats_owed, without_stack, is_lent}
+use Rattle.tournament_rules.specs.Valid.{IsValid, AreEntered, rows_owed, without_stack, is_lent}
 use Rattle.tournament_rules.proofs.Fitting.{table_range}
-use Rattle.tournament_rules.proofs.Insertions.{list_all-insert, All-insert, filter-insert_no, is_pairwise-map, is_pairwise-insert}
+use Rattle.tournament_rules.proofs.Insertions.{list_all-insert, All-insert, filter-insert_no}
 use Rattle.tournament_rules.proofs.SitDown.{seating-sit_down, none_numbered}
 use Rattle.tournament_rules.proofs.Passed.{entry_passed}
+use Rattle.tournament_rules.proofs.Names.{IsNamed, names-entered}
 use Rattle.tournament_rules.proofs.Units.{whole_earlier}
 
 -- What a right plan has.
@@ -108,9 +105,9 @@ valid_first plan right =
       plan = record { right = right; first = omega arith; last = omega arith };
       entries = record {
         few = omega arith;
-        seated = λ number. none_owed number;
+        names = refl;
+        once = λ number. none_owed number;
         named = All-nil _;
-        apart = refl;
       };
       tables = record {
         lawful = record {
@@ -142,13 +139,15 @@ valid_first plan right =
         whole = refl;
         units = λ table there. unit_of_many (first_status plan) plan.tables table there;
       };
+      busts = record { groups = refl; past = refl };
       counted = omega arith;
+      raised = omega arith;
     }
   where
     fresh : (unit : ℕ) → 1 ≤ unit → IsStatusOf plan.seats (record fresh_status { unit = unit })
     fresh unit some = record { marks = λ marks is. absurd cc; unit = some; race = λ race is. absurd cc }
 
-    none_owed : (number : ℕ) → 0 ≡ seats_owed [] number
+    none_owed : (number : ℕ) → 0 ≡ rows_owed [] number
     none_owed number = grind (arith, nat_tests)
 
     none_out : (count : ℕ)
@@ -166,26 +165,6 @@ slice_get-new : {A : Type 0} (items : List A) (new : A) → slice_get (items ++ 
 slice_get-new [] new = refl
 slice_get-new (first ∷ items) new = slice_get-new items new
 
--- A name that is not known differs from each that is.
-unknown_differs : (entries : List (List ℕ)) (name : List ℕ) (i : ℕ) (other : List ℕ) → is_known entries name ≡ false
-    → slice_get entries i ≡ Some other → bytes_eq name other ≡ false
-unknown_differs [] name i other unknown is = cc
-unknown_differs (first ∷ entries) name zero other unknown is =
-    subst (λ (other : List ℕ). bytes_eq name other ≡ false) (same_Some first other is)
-    (or_parts (bytes_eq name first) (is_known entries name) unknown).0
-unknown_differs (first ∷ entries) name (suc i) other unknown is =
-    unknown_differs entries name i other (or_parts (bytes_eq name first) (is_known entries name) unknown).1 is
-
-other_way : (name other : List ℕ) → bytes_eq name other ≡ false → bytes_eq other name ≡ false
-other_way name other differ = by_test (bytes_eq other name) refl
-  where
-    by_test : (b : Bool) → bytes_eq other name ≡ b → b ≡ false
-    by_test true same =
-        let back : bytes_eq name other ≡ true = (bytes_eq-Decides name other).1
-        (sym ((bytes_eq-Decides other name).0 same)) in
-        absurd cc
-    by_test false apart = refl
-
 -- The player of a new entry has a seat, and the others have theirs.
 owed_more : (count number : ℕ)
     → cond (nat_lt number count) 1 0 + cond (count == number) 1 0 ≡ cond {A = ℕ} (nat_lt number (count + 1)) 1 0
@@ -194,58 +173,19 @@ owed_more count number = grind (arith, nat_tests)
 nobody_yet : (count : ℕ) → cond {A = ℕ} (nat_lt count count) 1 0 ≡ 0
 nobody_yet count = grind (arith, nat_tests)
 
--- the name of a player in the entry list is his
-abbrev IsNamed : List (List ℕ) → Seated → Type 0
-IsNamed entries player = slice_get entries player.player ≡ Some player.name
-
--- The names of players who entered differ from a new one.
-names_differ : (entries : List (List ℕ)) (name : List ℕ) (players : List Seated) → is_known entries name ≡ false
-    → All (IsNamed entries) players
-    → (list_all (λ other. not (bytes_eq other.name name)) players ≡ true)
-    × (list_all (λ other. not (bytes_eq name other.name)) players ≡ true)
-names_differ entries name players unknown named = (
-  list_all-from_AllPass (λ other. not (bytes_eq other.name name)) players
-      (λ k d within. back (get_or players k d) (named k d within)),
-  list_all-from_AllPass (λ other. not (bytes_eq name other.name)) players
-      (λ k d within. ap not (differ (get_or players k d) (named k d within))),
-)
-  where
-    differ : (player : Seated) → IsNamed entries player → bytes_eq name player.name ≡ false
-    differ player is = unknown_differs entries name player.player player.name unknown is
-
-    back : (player : Seated) → IsNamed entries player → not (bytes_eq player.name name) ≡ true
-    back player is = ap not
-        (other_way name player.name (unknown_differs entries name player.player player.name unknown is))
-
--- No two players have one name once one with a new name sits down.
-names-sit_down : (entries : List (List ℕ)) (players : List Seated) (new : Seated) → is_known entries new.name ≡ false
-    → All (IsNamed entries) players → are_distinct bytes_eq (map (λ player. player.name) players) ≡ true
-    → are_distinct bytes_eq (map (λ player. player.name) (sit_down new players)) ≡ true
-names-sit_down entries players new unknown named apart =
-    let differ = names_differ entries new.name players unknown named in
-    by_names (sit_down new players)
-    ∙ is_pairwise-insert (λ one other. not (bytes_eq one.name other.name)) players
-    (count_by (λ other. comes_before other.place new.place) players) new
-    (sym (by_names players) ∙ apart) differ.0 differ.1
-  where
-    by_names : (players : List Seated)
-        → are_distinct bytes_eq (map (λ player. player.name) players) ≡ is_pairwise
-        (λ one other. not (bytes_eq one.name other.name)) players
-    by_names players = is_pairwise-map (λ one other. not (bytes_eq one other))
-        (λ (player : Seated). player.name) players
-
--- The entries and the players agree once one more entered.
-entered-agree : (entries : List (List ℕ)) (players : List Seated) (new : Seated) → AreEntered entries players
-    → length entries < 640 → is_known entries new.name ≡ false → new.player ≡ length entries
-    → AreEntered (entries ++ new.name ∷ []) (sit_down new players)
-entered-agree entries players new agree room unknown number =
+-- The entries, the players and those who are out agree once one more entered.
+entered-agree : (entries : List (List ℕ)) (players : List Seated) (busts : List Bust) (new : Seated)
+    → AreEntered entries players busts → length entries < 640 → is_known entries new.name ≡ false
+    → new.player ≡ length entries → AreEntered (entries ++ new.name ∷ []) (sit_down new players) busts
+entered-agree entries players busts new agree room unknown number =
     let behind = count_by (λ other. comes_before other.place new.place) players in
     let added = length-append entries (new.name ∷ []) in
     record {
       few = omega (arith, added);
-      seated = λ n.
+      names = names-entered entries new.name unknown agree.names;
+      once = λ n.
           let counted = sum_by-insert (λ player. cond (is_numbered n player) 1 0) players behind new in
-          let old = agree.seated n in
+          let old = agree.once n in
           let more = owed_more (length entries) n in
           let size : length entries + 1 ≡ length (entries ++ new.name ∷ []) = omega (arith, added) in
           let here = ap (λ (m : ℕ). cond {A = ℕ} (m == n) 1 0) number in
@@ -255,7 +195,6 @@ entered-agree entries players new agree room unknown number =
           (All-weaker (IsNamed entries) (IsNamed (entries ++ new.name ∷ []))
           (λ player is. slice_get-more entries player.player player.name new.name is) players agree.named)
           (rw number (slice_get-new entries new.name));
-      apart = names-sit_down entries players new unknown agree.named agree.apart;
     }
 
 -- A book is valid after an entry that is not refused.
@@ -268,14 +207,15 @@ valid_entered book name table seat valid none =
     let behind = count_by (λ other. comes_before other.place new.place) book.seating.players in
     record {
       plan = valid.plan;
-      entries = entered-agree book.entries book.seating.players new valid.entries may.room may.new refl;
+      entries = entered-agree book.entries book.seating.players book.busts new valid.entries may.room may.new refl;
       tables = record {
         lawful = seating-sit_down book.seating new valid.tables.lawful
             (rw (valid.tables.tables, valid.tables.seats) (and_from _ _ may.there may.within))
             (below (length book.entries) may.room)
             may.free
-            (none_numbered new book.seating.players
-            (valid.entries.seated (length book.entries) ∙ nobody_yet (length book.entries)));
+            (none_numbered (length book.entries) book.seating.players
+            (let his = valid.entries.once (length book.entries) in
+            omega (arith, his, nobody_yet (length book.entries))));
         tables = valid.tables.tables;
         seats = valid.tables.seats;
         room = valid.tables.room;
@@ -296,7 +236,9 @@ valid_entered book name table seat valid none =
             (early book.plan.late book.level may.early) has.most_late has.whole));
         units = valid.chips.units;
       };
+      busts = valid.busts;
       counted = omega (arith, valid.counted);
+      raised = omega (arith, valid.raised);
     }
   where
     below : (count : ℕ) → count < 640 → nat_lt count 640 ≡ true

@@ -24,16 +24,16 @@ use Rattle.floor_events.specs.declared.answer.Answer.TheVariants.{Ok}
 use Rattle.floor_events.specs.declared.event.Event.TheVariants.{Begin}
 use Rattle.tournament_rules.specs.Dealing.{next_start}
 use Rattle.tournament_rules.specs.States.{State, PlayState, acts_at, hand_at, refusal_of, answered, answer_to, is_accepted}
-use Rattle.tournament_rules.specs.Valid.{IsValid, IsValidPlay, IsStartAt, is_lent, without_stack}
+use Rattle.tournament_rules.specs.Valid.{IsValid, IsValidPlay, IsStartAt, is_bust_of, is_lent, without_stack}
 use Rattle.tournament_rules.proofs.Passed.{passed-parts}
 use Rattle.tournament_rules.proofs.Steps.{accepted_none}
 use Rattle.tournament_rules.proofs.Begins.{start_is_lawful}
 use Rattle.tournament_rules.proofs.Members.{in_hand-lent}
 
--- Each entered player has exactly one seat.
-pub one_seat : (book : BookState) → IsValid book → (number : ℕ) → number < length book.entries
-    → count_by (is_numbered number) book.seating.players ≡ 1
-one_seat book valid number within = valid.entries.seated number ∙ owed number (length book.entries) within
+-- Each entered player has exactly one seat or one row of those who are out.
+pub in_or_out : (book : BookState) → IsValid book → (number : ℕ) → number < length book.entries
+    → count_by (is_numbered number) book.seating.players + count_by (is_bust_of number) book.busts ≡ 1
+in_or_out book valid number within = valid.entries.once number ∙ owed number (length book.entries) within
   where
     owed : (number count : ℕ) → number < count → cond {A = ℕ} (nat_lt number count) 1 0 ≡ 1
     owed number count within = grind (arith, nat_tests)

@@ -1,7 +1,9 @@
 pub mod ByNumber
 pub mod Members
+pub mod Outs
 pub mod Restacked
 pub mod Paying
+pub mod Leaving
 pub mod Fitting
 pub mod Ends
 pub mod NextMarks
@@ -11,8 +13,10 @@ pub mod WhoIsDealt
 pub mod Begins
 pub mod Insertions
 pub mod SitDown
+pub mod Stayed
 pub mod Passed
 pub mod Units
+pub mod Names
 pub mod Entries
 pub mod DealtBelow
 pub mod Drafts

@@ -13,7 +13,6 @@ use Rattle.rulebook.proofs.Checks.{first_that_holds-append}
 use Rattle.level_plan.specs.declared.line.PlanLine.{PlanLine}
 use Rattle.betting_round.specs.declared.act.Act.{Act}
 use Rattle.table_engine.specs.Hands.{HandTerms, is_over}
-use Rattle.table_engine.specs.Results.{is_won_by_folds}
 use Rattle.floor_events.specs.declared.event.Event.{Event}
 use Rattle.floor_events.specs.declared.event.Event.TheVariants.{Plan, Go, Enter, Act as Acts, Time, Settle}
 use Rattle.tournament_rules.specs.Books.{BookState, has_table, has_seat_number}
@@ -138,14 +137,9 @@ pub settle_passed : (book : BookState) (table : ℕ) → book_refusal book (Sett
 unfolding book_refusal
 settle_passed book table none = goes_on book table none
 
--- A hand that may be settled is over and won by folds.
-pub end_passed : (hand : HandTerms) → first_that_holds (end_checks hand) ≡ None
-    → (is_over hand ≡ true) × (is_won_by_folds hand ≡ true)
-end_passed hand none =
-    let all = none_holds (end_checks hand) none in
-    let over = and_parts _ _ all in
-    let won = and_parts _ _ over.1 in
-    (is_so _ over.0, is_so _ won.0)
+-- A hand that may be settled is over.
+pub end_passed : (hand : HandTerms) → first_that_holds (end_checks hand) ≡ None → is_over hand ≡ true
+end_passed hand none = is_so _ (and_parts _ _ (none_holds (end_checks hand) none)).0
 
 -- No line of a plan, and no end of it, is taken once the plan is whole.
 pub plan_late : (book : BookState) (line : PlanLine) → book_refusal book (Plan line) ≡ None → ⊥

@@ -70,7 +70,7 @@ put_back-later payee payees (player ∷ players) none =
     let rest = put_back-later payee payees players parts.1 in
     cc
 
-any_number : (number : ℕ) (payees : List StartSeat)
+pub any_number : (number : ℕ) (payees : List StartSeat)
     → list_any (has_number number) payees ≡ list_any (λ other. other == number) (numbers_of payees)
 any_number number [] = refl
 any_number number (payee ∷ payees) = ap (λ (b : Bool). (payee.player == number) || b) (any_number number payees)

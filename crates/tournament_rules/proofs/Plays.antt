@@ -12,10 +12,9 @@ use Rattle.betting_round.specs.declared.act.Act.{Act}
 use Rattle.level_plan.specs.Plans.{PlanTerms, is_right}
 use Rattle.table_engine.specs.declared.start.HandStart.{HandStart}
 use Rattle.table_engine.specs.declared.record.ActOf.{ActOf}
-use Rattle.table_engine.specs.Hands.{HandTerms}
+use Rattle.table_engine.specs.Hands.{HandTerms, is_over}
 use Rattle.table_engine.specs.Acts.{hand_after_time}
 use Rattle.table_engine.specs.Plays.{IsLawfulPlay}
-use Rattle.table_engine.specs.Results.{is_won_by_folds}
 use Rattle.table_engine.proofs.Plays.{lawful_play-none, lawful_play-more}
 use Rattle.table_engine.proofs.TurnLaws.{lawful_play-time}
 use Rattle.floor_events.specs.declared.event.Event.{Event}
@@ -155,9 +154,9 @@ settled_at play table hand = record { book = settled play.book hand; acts = slic
 -- After a settle of the hand with the start that is out.
 settled_from : (play : PlayState) (table : ℕ) (start : HandStart) → IsValidPlay play
     → start_at play.book.out table ≡ Some start
-    → is_won_by_folds (record { start = start; acts = acts_at play.acts table }) ≡ true
+    → is_over (record { start = start; acts = acts_at play.acts table }) ≡ true
     → IsValidPlay (settled_at play table (record { start = start; acts = acts_at play.acts table }))
-settled_from play table start valid is won =
+settled_from play table start valid is over =
     let hand : HandTerms = record { start = start; acts = acts_at play.acts table } in
     let here : start.table ≡ table = (valid.book.hands.starts table start is).here in
     let there : start_at play.book.out start.table ≡ Some start = ap (start_at play.book.out) here ∙ is in
@@ -169,7 +168,7 @@ settled_from play table start valid is won =
     let plays = plays_changed play.book.out play.acts table None [] (omega (arith, range.1, out))
     (omega (arith, range.1, room)) valid.plays (λ hand is. absurd cc) in
     record {
-      book = valid_settled play.book hand valid.book there (valid.plays table hand found) won;
+      book = valid_settled play.book hand valid.book there (valid.plays table hand found) over;
       room = length-set play.acts table [] ∙ valid.room;
       plays = λ other. subst
           (λ (number : ℕ). IsLawfulAt (slice_set play.book.out number None) (slice_set play.acts table []) other)
@@ -186,11 +185,11 @@ play_settled play table valid none free =
     let hand : HandTerms = record { start = found.0; acts = acts_at play.acts table } in
     let is : hand_at play table ≡ Some hand = ap
     (λ (start : Option HandStart). hand_from start (acts_at play.acts table)) found.1 in
-    let ends = end_passed hand (rw is at free) in
+    let over = end_passed hand (rw is at free) in
     subst (λ (hand : Option HandTerms). IsValidPlay
     (record { book = option_map_or (settled play.book) hand play.book; acts = slice_set play.acts table [] }))
     (sym is)
-    (settled_from play table found.0 valid found.1 ends.1)
+    (settled_from play table found.0 valid found.1 over)
 
 -- After the end.
 play_stopped : (play : PlayState) → IsValidPlay play → IsValidPlay (play_effect play events.Stop)

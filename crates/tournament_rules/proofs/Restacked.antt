@@ -1,16 +1,15 @@
 -- What stays of the players and of their tables where stacks at rest alone change.
-use Rattle.std.proofs.Common.{◌≡◌, ◌∙◌, refl, sym, ap, subst, ℕ, Bool, cond, List, [], ◌∷◌, map, get_or}
+use Rattle.std.proofs.Common.{◌≡◌, ◌∙◌, refl, sym, ap, subst, ℕ, ◌+◌, Bool, cond, List, [], ◌∷◌, map, get_or}
 use Rattle.std.specs.Prelude.{not, count_by, slice_get, Some}
-use Rattle.std.specs.List.{list_all}
-use Rattle.std.specs.Str.{bytes_eq}
+use Rattle.std.specs.List.{list_all, list_any}
 use Rattle.std.proofs.lemmas.List.Sums.{sum_by-cons}
 use Rattle.std.proofs.lemmas.List.Elements.{All-map}
-use Rattle.rulebook.specs.Pairs.{are_distinct}
+use Rattle.place_list.specs.declared.bust.Bust.{Bust}
 use Rattle.seat_book.specs.declared.seated.Seated.{Seated}
 use Rattle.seat_book.specs.Places.{are_rising}
 use Rattle.seat_book.specs.Players.{is_numbered, are_in_order, are_apart}
 use Rattle.tournament_rules.specs.Players.{with_rest}
-use Rattle.tournament_rules.specs.Valid.{AreEntered}
+use Rattle.tournament_rules.specs.Valid.{AreEntered, is_bust_of}
 
 -- A change of players changes their stacks at rest and nothing else.
 pub record ChangesStacks (change : Seated → Seated) : Type 0 where
@@ -39,6 +38,13 @@ all_changed test change keeps stacks [] = refl
 all_changed test change keeps stacks (player ∷ players) =
     rw (key_changed test change keeps stacks player, all_changed test change keeps stacks players) refl
 
+-- It passes for some of them where it did.
+pub any_changed : (test : Seated → Bool) (change : Seated → Seated) → IsKey test → ChangesStacks change
+    → (players : List Seated) → list_any test (map change players) ≡ list_any test players
+any_changed test change keeps stacks [] = refl
+any_changed test change keeps stacks (player ∷ players) =
+    rw (key_changed test change keeps stacks player, any_changed test change keeps stacks players) refl
+
 -- It passes for as many.
 pub count_changed : (test : Seated → Bool) (change : Seated → Seated) → IsKey test → ChangesStacks change
     → (players : List Seated) → count_by test (map change players) ≡ count_by test players
@@ -66,17 +72,17 @@ apart_changed change stacks (player ∷ players) =
     let rest = apart_changed change stacks players in
     rw (number, others, rest) refl
 
--- The entries and the players agree where they did.
-pub entered_changed : (entries : List (List ℕ)) (players : List Seated) (change : Seated → Seated)
-    → ChangesStacks change → AreEntered entries players → AreEntered entries (map change players)
-entered_changed entries players change stacks entered = record {
+-- The entries, the players and those who are out agree where they did.
+pub entered_changed : (entries : List (List ℕ)) (players : List Seated) (busts : List Bust) (change : Seated → Seated)
+    → ChangesStacks change → AreEntered entries players busts → AreEntered entries (map change players) busts
+entered_changed entries players busts change stacks entered = record {
   few = entered.few;
-  seated = λ number. count_changed (is_numbered number) change (record { same = λ player stack. refl }) stacks
-      players ∙ entered.seated number;
+  names = entered.names;
+  once = λ number. ap (λ (count : ℕ). count + count_by (is_bust_of number) busts)
+      (count_changed (is_numbered number) change (record { same = λ player stack. refl }) stacks players)
+      ∙ entered.once number;
   named = All-map (λ player. slice_get entries player.player ≡ Some player.name) change players
       (λ k d within. named_one (get_or players k d) (entered.named k d within));
-  apart = ap (are_distinct bytes_eq) (keys_changed (λ player. player.name) change
-      (record { same = λ player stack. refl }) stacks players) ∙ entered.apart;
 }
   where
     named_one : (player : Seated) → slice_get entries player.player ≡ Some player.name

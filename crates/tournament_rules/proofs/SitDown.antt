@@ -169,13 +169,14 @@ seating-sit_down seating new lawful within entry free differ = record {
 }
 
 -- Where no player counts as having a number, all have others.
-pub none_numbered : (new : Seated) (players : List Seated) → count_by (is_numbered new.player) players ≡ 0
-    → list_all (differs new) players ≡ true
-none_numbered new [] none = refl
-none_numbered new (player ∷ players) none = by_test (is_numbered new.player player) refl (none_numbered new players)
+pub none_numbered : (number : ℕ) (players : List Seated) → count_by (is_numbered number) players ≡ 0
+    → list_all (λ other. not (is_numbered number other)) players ≡ true
+none_numbered number [] none = refl
+none_numbered number (player ∷ players) none = by_test (is_numbered number player) refl (none_numbered number players)
   where
-    by_test : (b : Bool) → is_numbered new.player player ≡ b
-        → (count_by (is_numbered new.player) players ≡ 0 → list_all (differs new) players ≡ true)
-        → (not b && list_all (differs new) players) ≡ true
-    by_test true is rest = let one = count-first (is_numbered new.player) player players true is in absurd (omega arith)
-    by_test false is rest = let one = count-first (is_numbered new.player) player players false is in rest (omega arith)
+    by_test : (b : Bool) → is_numbered number player ≡ b
+        → (count_by (is_numbered number) players ≡ 0
+        → list_all (λ other. not (is_numbered number other)) players ≡ true)
+        → (not b && list_all (λ other. not (is_numbered number other)) players) ≡ true
+    by_test true is rest = let one = count-first (is_numbered number) player players true is in absurd (omega arith)
+    by_test false is rest = let one = count-first (is_numbered number) player players false is in rest (omega arith)

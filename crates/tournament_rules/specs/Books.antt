@@ -4,6 +4,7 @@ use Rattle.std.specs.Option.{option_map_or}
 use Rattle.level_plan.specs.declared.plan.Blind.{Blind}
 use Rattle.level_plan.specs.Items.{is_between}
 use Rattle.level_plan.specs.Plans.{PlanTerms}
+use Rattle.place_list.specs.declared.bust.Bust.{Bust}
 use Rattle.seat_book.specs.Seatings.{Seating}
 use Rattle.table_engine.specs.declared.start.HandStart.{HandStart}
 use Rattle.table_engine.specs.declared.start.StartSeat.{StartSeat}
@@ -17,6 +18,10 @@ pub record BookState : Type 0 where
   pub seating : Seating
   -- by table number, the start of the hand that is out; there is no table 0, and no hand
   pub out : List (Option HandStart)
+  -- the players who are out, in the order in which they went out
+  pub busts : List Bust
+  -- the number of the group of those who go out next, from 0
+  pub group : ℕ
   -- the current level, from 1
   pub level : ℕ
   -- how many hands have begun

@@ -2,7 +2,7 @@
 use Rattle.std.specs.Prelude.{ℕ, Bool, true, not, nat_lt, ◌==◌, ◌&&◌, ◌||◌, List, [], ◌∷◌, ◌++◌, length, Option, is_some}
 use Rattle.rulebook.specs.Checks.{first_that_holds}
 use Rattle.floor_text.specs.declared.refusal.Refusal.{Refusal}
-use Rattle.floor_text.specs.declared.refusal.Refusal.TheVariants.{PlanLate, Stopped, NameKnown, NameUnknown, NoTable, NoSeat, SeatTaken, LateClosed, Playing, NotPlaying, Lone, DeckWrong, NotOver, Over, ListFull, NotBuilt}
+use Rattle.floor_text.specs.declared.refusal.Refusal.TheVariants.{PlanLate, Stopped, NameKnown, NameUnknown, NoTable, NoSeat, SeatTaken, LateClosed, Playing, NotPlaying, Lone, DeckWrong, NotOver, Over, ListFull}
 use Rattle.card_set.specs.declared.card.CardRow.{CardRow}
 use Rattle.card_set.specs.Decks.{repeats_a_card}
 use Rattle.entry_list.specs.Entries.{is_known, is_full}
@@ -11,7 +11,6 @@ use Rattle.seat_book.specs.Players.{player_at}
 use Rattle.seat_book.specs.Tables.{status_at}
 use Rattle.table_engine.specs.Hands.{HandTerms, is_over}
 use Rattle.table_engine.specs.Acts.{act_checks, time_checks}
-use Rattle.table_engine.specs.Results.{is_won_by_folds}
 use Rattle.floor_events.specs.declared.event.Event.{Event}
 use Rattle.floor_events.specs.declared.event.Event.TheVariants as events
 use Rattle.tournament_rules.specs.Books.{BookState, has_table, has_seat_number}
@@ -36,9 +35,9 @@ is_taken book table seat = is_some (player_at book.seating.players (record { tab
 abbrev pub is_late : BookState → Bool
 is_late book = nat_lt book.plan.late book.level
 
--- whether the tournament is over: exactly one player is in, and somebody who entered is out
+-- whether the tournament is over: somebody is out, and exactly one player is in
 abbrev pub is_over_for_all : BookState → Bool
-is_over_for_all book = length book.seating.players == 1 && nat_lt 1 (length book.entries)
+is_over_for_all book = nat_lt 0 (length book.busts) && length book.seating.players == 1
 
 -- whether a hand is played at a table: from `begin` to `settle` or `stop`
 abbrev pub is_playing : BookState → ℕ → Bool
@@ -107,11 +106,9 @@ before_act_checks book table name = going_checks book ++ known_checks book name 
 abbrev pub before_hand_checks : BookState → ℕ → List Check
 before_hand_checks book table = going_checks book ++ playing_checks book table
 
--- The hand may be settled. One that is over and not won by folds is not settled yet.
+-- the hand may be settled
 abbrev pub end_checks : HandTerms → List Check
-end_checks hand =
-    (NotOver, not (is_over hand)) ∷
-    (NotBuilt, not (is_won_by_folds hand)) ∷ []
+end_checks hand = (NotOver, not (is_over hand)) ∷ []
 
 -- The checks that the book makes of an event, in their order. With one table and one level, that another table has
 -- fewer players, that a table is halted, that a race is pending and that a round is open cannot hold.

@@ -1,9 +1,10 @@
 -- What an accepted event makes of the book. This project's own.
-use Rattle.std.specs.Prelude.{ℕ, zero, suc, ◌+◌, true, false, List, [], ◌∷◌, ◌++◌, length, replicate, slice_set, Option, Some, None}
+use Rattle.std.specs.Prelude.{ℕ, zero, suc, ◌+◌, ◌==◌, true, false, List, [], ◌∷◌, ◌++◌, length, map, filter, replicate, slice_set, Option, Some, None}
 use Rattle.std.specs.Option.{option_map_or}
 use Rattle.card_set.specs.declared.card.Card.{Card}
 use Rattle.level_plan.specs.Plans.{PlanTerms, unit_of_level}
 use Rattle.button_blinds.specs.declared.marks.Marks.{Marks}
+use Rattle.place_list.specs.declared.bust.Bust.{Bust}
 use Rattle.seat_book.specs.declared.seated.Seated.{Seated}
 use Rattle.seat_book.specs.declared.table_status.TableStatus.{TableStatus}
 use Rattle.seat_book.specs.Seatings.{Seating, empty_seating}
@@ -11,11 +12,11 @@ use Rattle.seat_book.specs.Players.{sit_down}
 use Rattle.seat_book.specs.Tables.{status_at, with_status, fresh_status}
 use Rattle.table_engine.specs.declared.start.StartSeat.{StartSeat}
 use Rattle.table_engine.specs.Hands.{HandTerms}
-use Rattle.table_engine.specs.Results.{players_after}
+use Rattle.table_engine.specs.Results.{stack_after_hand, players_after}
 use Rattle.floor_events.specs.declared.event.Event.{Event}
 use Rattle.floor_events.specs.declared.event.Event.TheVariants as events
 use Rattle.tournament_rules.specs.Books.{BookState, start_at, no_hands}
-use Rattle.tournament_rules.specs.Players.{dealt_in, put_back}
+use Rattle.tournament_rules.specs.Players.{dealt_in, put_back, stayed}
 use Rattle.tournament_rules.specs.Dealing.{next_at, next_start}
 
 -- a table before any hand, with the unit of the first level
@@ -34,6 +35,8 @@ first_book plan = record {
   entries = [];
   seating = first_seating plan;
   out = no_hands plan.tables;
+  busts = [];
+  group = 0;
   level = 1;
   begun = 0;
   accepted = 0;
@@ -88,9 +91,25 @@ ended book table payees = record book {
   out = slice_set book.out table None;
 }
 
--- the book once a hand is settled: its players have the stacks that they have after it
+-- those whom a hand leaves without chips, as they began it, in rising seat
+abbrev pub broke_by : HandTerms → List StartSeat
+broke_by hand = filter (λ player. stack_after_hand hand player == 0) hand.start.seats
+
+-- a player who goes out in a group, with the stack that he began his last hand with
+abbrev pub bust_of : ℕ → StartSeat → Bust
+bust_of group player = record { player = player.player; stack = player.stack; group = group }
+
+-- the book once a hand is settled: its players have the stacks that they have after it, those with none leave their
+-- seats and are out, and who goes out later is in a later group
 abbrev pub settled : BookState → HandTerms → BookState
-settled book hand = record (ended book hand.start.table (players_after hand)) { accepted = book.accepted + 1 }
+settled book hand =
+    let after = ended book hand.start.table (players_after hand) in
+    record after {
+      seating = record after.seating { players = stayed (broke_by hand) after.seating.players };
+      busts = book.busts ++ map (bust_of book.group) (broke_by hand);
+      group = book.group + 1;
+      accepted = book.accepted + 1;
+    }
 
 -- the book once the hand at a table is void, if one is out: its players have the stacks with which they began it
 abbrev pub void_at : BookState → ℕ → BookState

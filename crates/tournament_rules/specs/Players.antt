@@ -9,9 +9,13 @@ use Rattle.table_engine.specs.declared.start.HandStart.{HandStart}
 use Rattle.table_engine.specs.declared.start.StartSeat.{StartSeat}
 use Rattle.tournament_rules.specs.Books.{start_at, players_out}
 
+-- whether the player of a number is among those with whom a hand started
+abbrev pub is_among : ℕ → List StartSeat → Bool
+is_among number starters = list_any (λ starter. starter.player == number) starters
+
 -- whether a player is one of those with whom a hand started: he has the number of one of them
 abbrev pub is_one_of : List StartSeat → Seated → Bool
-is_one_of starters player = list_any (λ starter. starter.player == player.player) starters
+is_one_of starters player = is_among player.player starters
 
 -- whether a player is in the hand that is out at his table
 abbrev pub is_in_hand : List (Option HandStart) → Seated → Bool
@@ -51,6 +55,10 @@ paid payees player =
 -- stacks go back to those to whom they belong, by their numbers; all others stay as they are
 abbrev pub put_back : List StartSeat → List Seated → List Seated
 put_back payees players = map (paid payees) players
+
+-- the players who stay when some leave their seats
+abbrev pub stayed : List StartSeat → List Seated → List Seated
+stayed leaving players = filter (λ player. not (is_one_of leaving player)) players
 
 -- one stack goes back to the player to whom it belongs, by his number
 abbrev pub pay_one : List Seated → StartSeat → List Seated

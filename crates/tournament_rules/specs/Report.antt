@@ -18,8 +18,7 @@ reported out player = record {
   stack = if is_in_hand out player then None else Some player.stack;
 }
 
--- The report of a book. There are no races yet, so nothing is removed or added; and a hand that ends by folds takes
--- all chips from nobody, so nobody is out.
+-- The report of a book. There are no races yet, so nothing is removed or added; who is out is not reported yet.
 abbrev pub book_report : BookState → Report
 book_report book = record {
   level = book.level;

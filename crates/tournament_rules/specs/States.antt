@@ -4,7 +4,6 @@ use Rattle.std.specs.Option.{option_map_or}
 use Rattle.rulebook.specs.Checks.{first_that_holds}
 use Rattle.floor_text.specs.declared.refusal.Refusal.{Refusal}
 use Rattle.floor_text.specs.declared.refusal.Refusal.TheVariants.{NoPlan, NotBuilt}
-use Rattle.card_set.specs.declared.game.Game.TheVariants.{Holdem, Omaha, Hilo}
 use Rattle.level_plan.specs.declared.bounds.TheConstants.{MOST_TABLES}
 use Rattle.level_plan.specs.declared.line.PlanLine.{PlanLine}
 use Rattle.level_plan.specs.declared.line.PlanLine.TheVariants as lines
@@ -20,7 +19,7 @@ use Rattle.floor_events.specs.declared.answer.Answer.TheVariants.{Ok, No, PlanWr
 use Rattle.floor_events.specs.declared.event.Event.{Event}
 use Rattle.floor_events.specs.declared.event.Event.TheVariants as events
 use Rattle.tournament_rules.specs.Books.{BookState, start_at}
-use Rattle.tournament_rules.specs.Checks.{book_checks, hand_checks}
+use Rattle.tournament_rules.specs.Checks.{book_checks, hand_checks, is_over_for_all}
 use Rattle.tournament_rules.specs.Effects.{first_book, book_effect}
 
 -- a tournament whose plan is whole: its book, and the acts of the hands that are out
@@ -86,11 +85,9 @@ refusal_of play event =
     first_that_holds
     (book_checks play.book event ++ option_map_or (λ hand. hand_checks hand event) (hand_of play event) [])
 
--- games other than hold'em and more tables than one are not carried out yet
+-- more tables than one are not carried out yet
 abbrev pub is_not_built : PlanLine → Bool
-is_not_built (lines.Game Holdem) = false
-is_not_built (lines.Game Omaha) = true
-is_not_built (lines.Game Hilo) = true
+is_not_built (lines.Game game) = false
 is_not_built (lines.Tables n) = is_between 2 MOST_TABLES n
 is_not_built (lines.Seats n) = false
 is_not_built (lines.Stack n) = false
@@ -179,6 +176,10 @@ state_after state event = if is_accepted (answer_to state event) then accepted s
 abbrev pub run : State → List Event → State
 run state [] = state
 run state (event ∷ events) = run (state_after state event) events
+
+-- whether the tournament is over, which it is not before there is a plan
+abbrev pub is_over_state : State → Bool
+is_over_state state = option_map_or (λ play. is_over_for_all play.book) state.play false
 
 -- the players who are in, and nobody before there is a plan
 abbrev pub players_of : State → List Seated

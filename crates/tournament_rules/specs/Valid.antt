@@ -1,13 +1,14 @@
 -- What holds of a book and of a state at every moment, in parts, each over its own fields. This project's own.
-use Rattle.std.specs.Prelude.{◌≡◌, ◌≤◌, ℕ, ◌+◌, ◌%◌, Bool, true, ◌==◌, ◌&&◌, nat_lt, List, length, map, filter, count_by, slice_get, Option, Some, None, is_some, if◌then◌else◌}
+use Rattle.std.specs.Prelude.{◌≡◌, ◌≤◌, ℕ, ◌+◌, ◌%◌, Bool, true, ◌==◌, ◌&&◌, nat_lt, nat_le, List, length, map, filter, count_by, slice_get, Option, Some, None, is_some, if◌then◌else◌}
 use Rattle.std.specs.List.{list_all, All}
 use Rattle.std.specs.Option.{ForSome}
 use Rattle.std.specs.Str.{bytes_eq}
-use Rattle.rulebook.specs.Pairs.{are_distinct}
+use Rattle.rulebook.specs.Pairs.{is_pairwise, are_distinct}
 use Rattle.level_plan.specs.Items.{is_between}
 use Rattle.level_plan.specs.Plans.{PlanTerms, is_right, unit_of_level}
 use Rattle.level_plan.specs.Drafts.{IsLawful}
 use Rattle.entry_list.specs.declared.entries.TheConstants.{MOST_ENTRIES}
+use Rattle.place_list.specs.declared.bust.Bust.{Bust}
 use Rattle.seat_book.specs.declared.seated.Seated.{Seated}
 use Rattle.seat_book.specs.Players.{sits_at, is_numbered}
 use Rattle.seat_book.specs.Tables.{status_at}
@@ -27,20 +28,29 @@ pub record IsPlanned (plan : PlanTerms) (level : ℕ) : Type 0 where
   pub first : 1 ≤ level
   pub last : level ≤ length plan.blinds
 
--- how many seats the player of a number has: one where he entered, and else none
-abbrev pub seats_owed : List (List ℕ) → ℕ → ℕ
-seats_owed entries number = if nat_lt number (length entries) then 1 else 0
+-- how many seats and rows of those who are out the player of a number has: one where he entered, and else none
+abbrev pub rows_owed : List (List ℕ) → ℕ → ℕ
+rows_owed entries number = if nat_lt number (length entries) then 1 else 0
 
--- The entries and the players who sit agree.
-pub record AreEntered (entries : List (List ℕ)) (players : List Seated) : Type 0 where
+-- whether a player who is out has this number
+abbrev pub is_bust_of : ℕ → Bust → Bool
+is_bust_of number bust = bust.player == number
+
+-- Each entered player has exactly one seat or exactly one row of those who are out, and nobody else has any.
+abbrev pub AreOnce : List (List ℕ) → List Seated → List Bust → Type 0
+AreOnce entries players busts = (number : ℕ)
+    → count_by (is_numbered number) players + count_by (is_bust_of number) busts ≡ rows_owed entries number
+
+-- The entries, the players who sit and those who are out agree.
+pub record AreEntered (entries : List (List ℕ)) (players : List Seated) (busts : List Bust) : Type 0 where
   -- the entry list is not overfull
   pub few : length entries ≤ MOST_ENTRIES
-  -- each entered player has exactly one seat, and nobody else has one
-  pub seated : (number : ℕ) → count_by (is_numbered number) players ≡ seats_owed entries number
+  -- no two entered under one name
+  pub names : are_distinct bytes_eq entries ≡ true
+  -- everyone who entered is in or out, once
+  pub once : AreOnce entries players busts
   -- everyone sits under the name with which they entered
   pub named : All (λ player. slice_get entries player.player ≡ Some player.name) players
-  -- no two have one name
-  pub apart : are_distinct bytes_eq (map (λ player. player.name) players) ≡ true
 
 -- The seating is that of the plan's tables, and a table is playing just where a start is out.
 pub record IsFitting (plan : PlanTerms) (seating : Seating) (out : List (Option HandStart)) : Type 0 where
@@ -75,6 +85,11 @@ pub record AreOut (plan : PlanTerms) (level : ℕ) (players : List Seated) (out 
   pub lent : (table : ℕ) → map start_seat (filter (is_lent table) players)
       ≡ map without_stack (players_out (start_at out table))
 
+-- Who went out later is in the same group or in a later one, and nobody is in a later group than those who go out next.
+pub record AreGrouped (busts : List Bust) (group : ℕ) : Type 0 where
+  pub groups : is_pairwise (λ earlier later. nat_le earlier.group later.group) busts ≡ true
+  pub past : list_all (λ bust. nat_le bust.group group) busts ≡ true
+
 -- Chips are neither made nor lost, and every stack at rest is a multiple of the unit.
 pub record AreChips (book : BookState) : Type 0 where
   pub kept : sold_by book ≡ rest_in book + play_of book
@@ -87,12 +102,14 @@ pub record AreChips (book : BookState) : Type 0 where
 -- What holds of a book at every moment.
 pub record IsValid (book : BookState) : Type 0 where
   pub plan : IsPlanned book.plan book.level
-  pub entries : AreEntered book.entries book.seating.players
+  pub entries : AreEntered book.entries book.seating.players book.busts
   pub tables : IsFitting book.plan book.seating book.out
   pub hands : AreOut book.plan book.level book.seating.players book.out
+  pub busts : AreGrouped book.busts book.group
   pub chips : AreChips book
-  -- a hand that began was an event
+  -- a hand that began was an event, and so was what raised the group
   pub counted : book.begun ≤ book.accepted
+  pub raised : book.group ≤ book.accepted
 
 -- What holds of a tournament whose plan is whole at every moment: each hand that is out is a lawful play of its start.
 pub record IsValidPlay (play : PlayState) : Type 0 where

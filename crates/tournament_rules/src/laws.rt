@@ -1,6 +1,6 @@
 //! Laws of the tournament, over every list of events, lawful or not.
 
-ghost use Rattle.std.specs.Prelude.{◌≡◌, ◌≢◌, ◌+◌, ◌<◌, ◌≤◌, ◌%◌, ℕ, List, true, false, Some, None, length, map, filter, count_by, slice_get};
+ghost use Rattle.std.specs.Prelude.{◌≡◌, ◌≢◌, ◌+◌, ◌<◌, ◌%◌, ℕ, List, true, false, Some, None, length, map, filter, count_by, slice_get};
 ghost use Rattle.std.specs.List.{All};
 ghost use Rattle.std.specs.Option.{ForSome};
 ghost use Rattle.level_plan.specs.Plans.{PlanTerms, is_right};
@@ -18,7 +18,7 @@ ghost use Rattle.tournament_rules.specs.Players.{is_in_hand, start_seat};
 ghost use Rattle.tournament_rules.specs.Dealing.{next_start};
 ghost use Rattle.tournament_rules.specs.States.{PlayState, first_state, first_play, hand_at, act_table, play_after, answer_to, answers, answers_in_play, state_after, run, players_of};
 ghost use Rattle.tournament_rules.specs.Chips.{sold, rest, play};
-ghost use Rattle.tournament_rules.specs.Valid.{without_stack};
+ghost use Rattle.tournament_rules.specs.Valid.{is_bust_of, without_stack};
 ghost use Rattle.tournament_rules.specs.Apart.{first_apart, answers_apart};
 
 /// After any list of events, lawful or not, the chips sold are those at rest and those in play.
@@ -33,10 +33,12 @@ pub fn players_are_in_order()
     ensures { (events : List Event) → are_in_order (players_of (run first_state events)) ≡ true }
 {}
 
-/// After any list of events, each entered player has exactly one seat, under the name with which they entered.
-pub fn each_entry_has_one_seat()
+/// After any list of events, each entered player has exactly one seat or exactly one row of those who are out, and
+/// never both. Who has a seat sits there under the name with which they entered.
+pub fn each_entry_is_in_or_out()
     ensures one { (events : List Event) → ForSome (run first_state events).play (λ play. (number : ℕ)
-        → number < length play.book.entries → count_by (is_numbered number) play.book.seating.players ≡ 1) }
+        → number < length play.book.entries → count_by (is_numbered number) play.book.seating.players
+        + count_by (is_bust_of number) play.book.busts ≡ 1) }
     ensures named { (events : List Event) → ForSome (run first_state events).play (λ play.
         All (λ player. slice_get play.book.entries player.player ≡ Some player.name) play.book.seating.players) }
 {}

@@ -8,6 +8,6 @@ mod laws;
 
 pub use laws::{
     a_book_and_its_hands_answer_alike, acts_stay_at_their_table, chips_are_kept,
-    each_entry_has_one_seat, hands_are_lawful_plays, hands_have_their_players,
+    each_entry_is_in_or_out, hands_are_lawful_plays, hands_have_their_players,
     players_are_in_order, stacks_are_lawful, starts_are_lawful,
 };

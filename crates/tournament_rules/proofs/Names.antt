@@ -1,0 +1,105 @@
+-- Names of those who entered: no two are the same, and so no two who sit have one name.
+use Rattle.std.proofs.Common.{◌≡◌, sym, ap, subst, refl, ℕ, zero, suc, Bool, true, false, ◌==◌, List, [], ◌∷◌, ◌++◌, map, arith}
+use Rattle.std.specs.Prelude.{not, slice_get, Some}
+use Rattle.std.specs.List.{list_all, All}
+use Rattle.std.specs.Str.{bytes_eq}
+use Rattle.std.proofs.lemmas.Bool.{and_parts, and_from, or_parts, not-true}
+use Rattle.std.proofs.lemmas.Bool.Decides.{nat_tests}
+use Rattle.std.proofs.lemmas.List.{append-nil}
+use Rattle.std.proofs.lemmas.List.Elements.{All-head, All-tail}
+use Rattle.std.proofs.lemmas.Option.{same_Some}
+use Rattle.std.proofs.lemmas.Slice.Eq.{bytes_eq-Decides}
+use Rattle.rulebook.specs.Pairs.{are_distinct}
+use Rattle.rulebook.proofs.Pairs.{is_pairwise-between}
+use Rattle.entry_list.specs.Entries.{is_known}
+use Rattle.seat_book.specs.declared.seated.Seated.{Seated}
+use Rattle.seat_book.specs.Players.{is_numbered, are_apart}
+
+other_way : (name other : List ℕ) → bytes_eq name other ≡ false → bytes_eq other name ≡ false
+other_way name other differ = by_test (bytes_eq other name) refl
+  where
+    by_test : (b : Bool) → bytes_eq other name ≡ b → b ≡ false
+    by_test true same =
+        let back : bytes_eq name other ≡ true = (bytes_eq-Decides name other).1
+        (sym ((bytes_eq-Decides other name).0 same)) in
+        absurd cc
+    by_test false apart = refl
+
+-- No two entered under one name once one more entered under a new one.
+pub names-entered : (entries : List (List ℕ)) (name : List ℕ) → is_known entries name ≡ false
+    → are_distinct bytes_eq entries ≡ true → are_distinct bytes_eq (entries ++ name ∷ []) ≡ true
+names-entered entries name unknown apart =
+    is_pairwise-between (λ one other. not (bytes_eq one other)) entries name [] (rw (append-nil entries) apart)
+    (all_differ entries unknown) refl
+  where
+    all_differ : (entries : List (List ℕ)) → is_known entries name ≡ false
+        → list_all (λ other. not (bytes_eq other name)) entries ≡ true
+    all_differ [] unknown = refl
+    all_differ (first ∷ entries) unknown =
+        let parts = or_parts (bytes_eq name first) (is_known entries name) unknown in
+        and_from _ _ (ap not (other_way name first parts.0)) (all_differ entries parts.1)
+
+-- a name that differs from all of a list differs from each
+differs_from : (name : List ℕ) (entries : List (List ℕ)) (i : ℕ) (other : List ℕ)
+    → list_all (λ later. not (bytes_eq name later)) entries ≡ true → slice_get entries i ≡ Some other
+    → bytes_eq name other ≡ false
+differs_from name [] i other all is = absurd cc
+differs_from name (first ∷ entries) zero other all is =
+    let parts = and_parts (not (bytes_eq name first)) (list_all (λ later. not (bytes_eq name later)) entries) all in
+    subst (λ (other : List ℕ). bytes_eq name other ≡ false) (same_Some first other is) (not-true _ parts.0)
+differs_from name (first ∷ entries) (suc i) other all is =
+    let parts = and_parts (not (bytes_eq name first)) (list_all (λ later. not (bytes_eq name later)) entries) all in
+    differs_from name entries i other parts.1 is
+
+-- Entries with different numbers have different names where no two entered under one.
+pub names_differ : (entries : List (List ℕ)) (i j : ℕ) (one other : List ℕ) → are_distinct bytes_eq entries ≡ true
+    → slice_get entries i ≡ Some one → slice_get entries j ≡ Some other → (i == j) ≡ false
+    → bytes_eq one other ≡ false
+names_differ [] i j one other distinct his hers apart = absurd cc
+names_differ (first ∷ entries) zero zero one other distinct his hers apart = absurd cc
+names_differ (first ∷ entries) zero (suc j) one other distinct his hers apart =
+    let parts = and_parts (list_all (λ later. not (bytes_eq first later)) entries) (are_distinct bytes_eq entries)
+    distinct in
+    subst (λ (one : List ℕ). bytes_eq one other ≡ false) (same_Some first one his)
+    (differs_from first entries j other parts.0 hers)
+names_differ (first ∷ entries) (suc i) zero one other distinct his hers apart =
+    let parts = and_parts (list_all (λ later. not (bytes_eq first later)) entries) (are_distinct bytes_eq entries)
+    distinct in
+    other_way other one (subst (λ (other : List ℕ). bytes_eq other one ≡ false) (same_Some first other hers)
+    (differs_from first entries i one parts.0 his))
+names_differ (first ∷ entries) (suc i) (suc j) one other distinct his hers apart =
+    let parts = and_parts (list_all (λ later. not (bytes_eq first later)) entries) (are_distinct bytes_eq entries)
+    distinct in
+    names_differ entries i j one other parts.1 his hers (one_less i j apart)
+  where
+    one_less : (i j : ℕ) → (suc i == suc j) ≡ false → (i == j) ≡ false
+    one_less i j apart = grind (arith, nat_tests)
+
+-- a player sits under the name with which he entered
+abbrev pub IsNamed : List (List ℕ) → Seated → Type 0
+IsNamed entries player = slice_get entries player.player ≡ Some player.name
+
+-- No two who sit have one name.
+pub seated_names : (entries : List (List ℕ)) (players : List Seated) → are_distinct bytes_eq entries ≡ true
+    → All (IsNamed entries) players → are_apart players ≡ true
+    → are_distinct bytes_eq (map (λ player. player.name) players) ≡ true
+seated_names entries [] distinct named apart = refl
+seated_names entries (player ∷ players) distinct named apart =
+    let parts = and_parts (list_all (λ other. not (is_numbered player.player other)) players) (are_apart players)
+    apart in
+    let his = All-head (IsNamed entries) player players named in
+    let others = All-tail (IsNamed entries) player players named in
+    and_from _ _ (all_differ players his others parts.0) (seated_names entries players distinct others parts.1)
+  where
+    all_differ : (players : List Seated) → IsNamed entries player → All (IsNamed entries) players
+        → list_all (λ other. not (is_numbered player.player other)) players ≡ true
+        → list_all (λ name. not (bytes_eq player.name name)) (map (λ player. player.name) players) ≡ true
+    all_differ [] his others apart = refl
+    all_differ (other ∷ players) his others apart =
+        let parts = and_parts (not (is_numbered player.player other))
+        (list_all (λ other. not (is_numbered player.player other)) players) apart in
+        let hers = All-head (IsNamed entries) other players others in
+        let later = All-tail (IsNamed entries) other players others in
+        let differ = names_differ entries other.player player.player other.name player.name distinct hers his
+        (not-true _ parts.0) in
+        and_from _ _ (ap not (other_way other.name player.name differ)) (all_differ players his later parts.1)
