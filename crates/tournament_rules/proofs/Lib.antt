@@ -26,3 +26,6 @@ pub mod Holds
 pub mod Layers
 pub mod Apart
 pub mod Elsewhere
+pub mod WhoIsOut
+pub mod Growing
+pub mod TheLast

@@ -1,23 +1,27 @@
 //! Laws of the tournament, over every list of events, lawful or not.
 
-ghost use Rattle.std.specs.Prelude.{◌≡◌, ◌≢◌, ◌+◌, ◌<◌, ◌%◌, ℕ, List, true, false, Some, None, length, map, filter, count_by, slice_get};
+ghost use Rattle.std.specs.Prelude.{◌≡◌, ◌≢◌, ◌+◌, ◌<◌, ◌%◌, ℕ, nat_le, List, [], ◌∷◌, true, false, Some, None, length, map, filter, take, count_by, slice_get};
 ghost use Rattle.std.specs.List.{All};
 ghost use Rattle.std.specs.Option.{ForSome};
+ghost use Rattle.rulebook.specs.Pairs.{is_pairwise};
 ghost use Rattle.level_plan.specs.Plans.{PlanTerms, is_right};
 ghost use Rattle.level_plan.specs.Drafts.{plan_of};
+ghost use Rattle.card_set.specs.declared.card.Card.{Card};
 ghost use Rattle.card_set.specs.declared.card.CardRow.{CardRow};
+ghost use Rattle.betting_round.specs.declared.act.Act.{Act};
 ghost use Rattle.floor_events.specs.declared.event.Event.{Event};
-ghost use Rattle.floor_events.specs.declared.event.Event.TheVariants.{Go, Begin};
+ghost use Rattle.floor_events.specs.declared.event.Event.TheVariants.{Go, Begin, Act as Acts};
 ghost use Rattle.floor_events.specs.declared.answer.Answer.TheVariants.{Ok};
 ghost use Rattle.seat_book.specs.Players.{is_numbered, sits_at, are_in_order};
 ghost use Rattle.seat_book.specs.Tables.{status_at};
 ghost use Rattle.table_engine.specs.Starts.{IsLawfulStart};
 ghost use Rattle.table_engine.specs.Plays.{IsLawfulPlay};
 ghost use Rattle.tournament_rules.specs.Books.{start_at, players_out};
-ghost use Rattle.tournament_rules.specs.Players.{is_in_hand, start_seat};
+ghost use Rattle.tournament_rules.specs.Players.{is_among, is_in_hand, start_seat};
+ghost use Rattle.tournament_rules.specs.Checks.{is_over_for_all};
 ghost use Rattle.tournament_rules.specs.Dealing.{next_start};
 ghost use Rattle.tournament_rules.specs.States.{PlayState, first_state, first_play, hand_at, act_table, play_after, answer_to, answers, answers_in_play, state_after, run, players_of};
-ghost use Rattle.tournament_rules.specs.Chips.{sold, rest, play};
+ghost use Rattle.tournament_rules.specs.Chips.{sold, rest, play, sold_by};
 ghost use Rattle.tournament_rules.specs.Valid.{is_bust_of, without_stack};
 ghost use Rattle.tournament_rules.specs.Apart.{first_apart, answers_apart};
 
@@ -76,6 +80,37 @@ pub fn acts_stay_at_their_table()
         → (play_after play event).book ≡ play.book }
     ensures others { (play : PlayState) (event : Event) (table other : ℕ) → act_table event ≡ Some table
         → other ≢ table → hand_at (play_after play event) other ≡ hand_at play other }
+{}
+
+/// After any list of events, who is out has no seat, is in no hand that is out, is dealt into no hand that begins and
+/// makes no act that is accepted. Whatever events follow, he stays out, with the same stack and in the same group.
+pub fn who_is_out_stays_out()
+    ensures seat { (events : List Event) → ForSome (run first_state events).play (λ play.
+        All (λ bust. count_by (is_numbered bust.player) play.book.seating.players ≡ 0) play.book.busts) }
+    ensures hand { (events : List Event) (table : ℕ) → ForSome (run first_state events).play (λ play.
+        All (λ bust. is_among bust.player (players_out (start_at play.book.out table)) ≡ false) play.book.busts) }
+    ensures dealt { (events : List Event) (table : ℕ) (cards : List Card)
+        → ForSome (run first_state events).play (λ play.
+        All (λ bust. is_among bust.player (next_start play.book table cards).seats ≡ false) play.book.busts) }
+    ensures act { (events : List Event) (table : ℕ) (act : Act) → ForSome (run first_state events).play (λ play.
+        All (λ bust. (name : List ℕ) → slice_get play.book.entries bust.player ≡ Some name
+        → answer_to (run first_state events) (Acts table name act) ≢ Ok) play.book.busts) }
+    ensures stays { (before after : List Event) → ForSome (run first_state before).play (λ earlier.
+        ForSome (run (run first_state before) after).play (λ later.
+        take (length earlier.book.busts) later.book.busts ≡ earlier.book.busts)) }
+{}
+
+/// After any list of events, who went out later is in the same group or in a later one.
+pub fn groups_never_fall()
+    ensures { (events : List Event) → ForSome (run first_state events).play (λ play.
+        is_pairwise (λ earlier later. nat_le earlier.group later.group) play.book.busts ≡ true) }
+{}
+
+/// After any list of events, where the tournament is over one player is in, with all chips that were sold.
+pub fn the_last_player_has_all_chips()
+    ensures { (events : List Event) → ForSome (run first_state events).play (λ play.
+        is_over_for_all play.book ≡ true → map (λ player. player.stack) play.book.seating.players
+        ≡ sold_by play.book ∷ []) }
 {}
 
 /// After any list of events, a hand that begins starts lawfully.

@@ -8,6 +8,7 @@ mod laws;
 
 pub use laws::{
     a_book_and_its_hands_answer_alike, acts_stay_at_their_table, chips_are_kept,
-    each_entry_is_in_or_out, hands_are_lawful_plays, hands_have_their_players,
-    players_are_in_order, stacks_are_lawful, starts_are_lawful,
+    each_entry_is_in_or_out, groups_never_fall, hands_are_lawful_plays, hands_have_their_players,
+    players_are_in_order, stacks_are_lawful, starts_are_lawful, the_last_player_has_all_chips,
+    who_is_out_stays_out,
 };

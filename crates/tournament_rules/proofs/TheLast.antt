@@ -1,0 +1,60 @@
+-- Where one player alone is in, he has all chips that were sold.
+use Rattle.std.proofs.Common.{◌≡◌, ◌∙◌, refl, sym, ap, ℕ, suc, true, ◌==◌, List, [], ◌∷◌, length, map, arith}
+use Rattle.std.specs.Prelude.{nat_lt, filter, sum_by, Option, Some, None}
+use Rattle.std.proofs.lemmas.Bool.{and_parts, eqb-true}
+use Rattle.std.proofs.lemmas.List.{length-map}
+use Rattle.std.proofs.lemmas.List.Sums.{sum_by-cons, length-filter, count_by-le-length}
+use Rattle.seat_book.specs.declared.seated.Seated.{Seated}
+use Rattle.table_engine.specs.declared.start.HandStart.{HandStart}
+use Rattle.tournament_rules.specs.Books.{BookState, start_at, players_out}
+use Rattle.tournament_rules.specs.Checks.{is_over_for_all}
+use Rattle.tournament_rules.specs.Players.{start_seat}
+use Rattle.tournament_rules.specs.Chips.{sold_by}
+use Rattle.tournament_rules.specs.Valid.{IsValid, is_lent, without_stack}
+use Rattle.tournament_rules.proofs.Fitting.{chips_out}
+use Rattle.tournament_rules.proofs.Paying.{stack_of}
+
+-- Where one player alone is in, no hand is out: two are dealt into one.
+nothing_out : (book : BookState) (table : ℕ) → IsValid book → length book.seating.players ≡ 1
+    → start_at book.out table ≡ None
+nothing_out book table valid one = by_start (start_at book.out table) refl
+  where
+    by_start : (found : Option HandStart) → start_at book.out table ≡ found → found ≡ None
+    by_start None is = refl
+    by_start (Some start) is =
+        let two = (valid.hands.starts table start is).lawful.two in
+        let here = filter (is_lent table) book.seating.players in
+        let out : map start_seat here ≡ map without_stack start.seats = valid.hands.lent table
+        ∙ ap (λ (start : Option HandStart). map without_stack (players_out start)) is in
+        let many = sym (length-map here start_seat) ∙ (ap length out ∙ length-map start.seats without_stack) in
+        let few = count_by-le-length (is_lent table) book.seating.players in
+        let counted = length-filter (is_lent table) book.seating.players in
+        absurd (omega (arith, two, many, few, counted, one))
+
+-- Where no hand is out, no chips are in play.
+none_in_play : (out : List (Option HandStart)) → ((table : ℕ) → start_at out table ≡ None)
+    → sum_by chips_out out ≡ 0
+none_in_play [] none = refl
+none_in_play (start ∷ out) none =
+    let first = sum_by-cons chips_out start out in
+    let here = ap chips_out (none 0) in
+    let rest = none_in_play out (λ table. none (suc table)) in
+    omega (arith, first, here, rest)
+
+-- Where the tournament is over, the last player has all chips that were sold.
+pub last_has_all : (book : BookState) → IsValid book → is_over_for_all book ≡ true
+    → map (λ player. player.stack) book.seating.players ≡ sold_by book ∷ []
+last_has_all book valid over =
+    let one = eqb-true (length book.seating.players) 1
+    (and_parts (nat_lt 0 (length book.busts)) (length book.seating.players == 1) over).1 in
+    let none = none_in_play book.out (λ table. nothing_out book table valid one) in
+    let kept = valid.chips.kept in
+    by_players book.seating.players one (omega (arith, kept, none))
+  where
+    by_players : (players : List Seated) → length players ≡ 1 → sold_by book ≡ sum_by stack_of players
+        → map (λ player. player.stack) players ≡ sold_by book ∷ []
+    by_players [] one kept = absurd cc
+    by_players (player ∷ []) one kept =
+        let his = sum_by-cons stack_of player [] in
+        ap (λ (stack : ℕ). stack ∷ []) (omega (arith, his, kept))
+    by_players (player ∷ other ∷ players) one kept = absurd (omega (arith, one))
