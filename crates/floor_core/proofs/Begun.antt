@@ -1,5 +1,5 @@
 -- The book once a hand has begun, and once one has ended, as its fields are written.
-use Rattle.std.proofs.Common.{◌≡◌, ◌∙◌, refl, sym, ap, ◌≤◌, ◌<◌, ℕ, zero, suc, ◌+◌, Bool, true, false, cond, List, [], ◌∷◌, length, get_or, map}
+use Rattle.std.proofs.Common.{◌≡◌, ◌∙◌, refl, sym, ap, ◌≤◌, ◌<◌, ℕ, zero, suc, ◌+◌, Bool, true, false, cond, List, [], ◌∷◌, ◌++◌, length, get_or, map}
 use Rattle.std.specs.Prelude.{not, nat_le, ◌&&◌, filter, slice_set, Option, Some, None}
 use Rattle.std.proofs.lemmas.Bool.{and_parts, and_from}
 use Rattle.std.specs.List.{list_all}
@@ -13,6 +13,7 @@ use Rattle.level_plan.specs.Items.{is_between}
 use Rattle.rulebook.proofs.Tests.{list_all-follows}
 use Rattle.button_blinds.specs.SeatSets.{has_seat}
 use Rattle.button_blinds.specs.declared.marks.NextMarks.{NextMarks}
+use Rattle.place_list.specs.declared.bust.Bust.{Bust}
 use Rattle.seat_book.specs.declared.seated.Seated.{Seated}
 use Rattle.seat_book.specs.declared.table_status.TableStatus.{TableStatus}
 use Rattle.seat_book.specs.Players.{sits_at, players_at}
@@ -26,10 +27,10 @@ use Rattle.table_engine.specs.Results.{players_after}
 use Rattle.floor_events.specs.declared.event.Event.TheVariants.{Begin}
 use Rattle.rulebook.specs.Checks.{first_that_holds}
 use Rattle.tournament_rules.specs.Books.{BookState, start_at, blind_now}
-use Rattle.tournament_rules.specs.Players.{start_seat, dealt_seats, dealt_in, put_back}
+use Rattle.tournament_rules.specs.Players.{start_seat, dealt_seats, dealt_in, put_back, stayed}
 use Rattle.tournament_rules.specs.Dealing.{next_at, next_start}
 use Rattle.tournament_rules.specs.Checks.{begin_checks, book_refusal}
-use Rattle.tournament_rules.specs.Effects.{with_table, playing_from, at_rest, begun_book, ended, settled, void_at, void_first, stopped_book}
+use Rattle.tournament_rules.specs.Effects.{with_table, playing_from, at_rest, begun_book, ended, broke_by, bust_of, settled, void_at, void_first, stopped_book}
 use Rattle.tournament_rules.proofs.Ends.{left-void_first}
 use Rattle.floor_core.specs.Pay.{ArePayees}
 use Rattle.floor_core.specs.Seats.{has_lawful_seat, dealt_of}
@@ -70,13 +71,21 @@ pub ended_state : (book : BookState) (table : ℕ) (payees : List StartSeat) (pa
 ended_state book table payees paid rested out paid_is rested_is out_is = rw (rested_is, paid_is, out_is) refl
 
 -- The fields that a settle writes make the book of the definition.
-pub settled_state : (book : BookState) (hand : HandTerms) (payees : List StartSeat) (paid rested : Seating)
-    (out : List (Option HandStart)) → payees ≡ players_after hand
+pub settled_state : (book : BookState) (hand : HandTerms) (payees : List StartSeat) (paid rested left : Seating)
+    (busts : List Bust) (out : List (Option HandStart)) → payees ≡ players_after hand
     → paid ≡ record book.seating { players = put_back payees book.seating.players } → rested
-    ≡ with_table paid hand.start.table at_rest → out ≡ slice_set book.out hand.start.table None
-    → record book { seating = rested; out = out; accepted = book.accepted + 1 } ≡ settled book hand
-settled_state book hand payees paid rested out payees_is paid_is rested_is out_is =
-    rw (rested_is, paid_is, out_is, payees_is) refl
+    ≡ with_table paid hand.start.table at_rest
+    → left ≡ record rested { players = stayed (broke_by hand) rested.players }
+    → busts ≡ book.busts ++ map (bust_of book.group) (broke_by hand) → out ≡ slice_set book.out hand.start.table None
+    → record book {
+      seating = left;
+      out = out;
+      busts = busts;
+      group = book.group + 1;
+      accepted = book.accepted + 1;
+    } ≡ settled book hand
+settled_state book hand payees paid rested left busts out payees_is paid_is rested_is left_is busts_is out_is =
+    rw (left_is, busts_is, rested_is, paid_is, out_is, payees_is) refl
 
 seat_known : (tables seats at seat : ℕ) → seats ≤ 10
     → ((nat_le 1 at && nat_le at tables) && (nat_le 1 seat && nat_le seat seats)) ≡ true → is_between 1 10 seat ≡ true

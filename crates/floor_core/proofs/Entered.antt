@@ -2,6 +2,7 @@
 use Rattle.std.proofs.Common.{◌≡◌, ◌∙◌, refl, sym, ℕ, ◌+◌, Bool, true, false, cond, List, [], ◌∷◌, ◌++◌, length, arith}
 use Rattle.std.specs.Prelude.{Option, None, count_by}
 use Rattle.std.proofs.lemmas.Bool.Decides.{nat_tests}
+use Rattle.place_list.specs.declared.bust.Bust.{Bust}
 use Rattle.seat_book.specs.declared.place.Place.{Place}
 use Rattle.seat_book.specs.declared.seated.Seated.{Seated}
 use Rattle.seat_book.specs.Players.{is_numbered, place_of, sit_down}
@@ -11,7 +12,7 @@ use Rattle.level_plan.specs.Plans.{PlanTerms}
 use Rattle.table_engine.specs.declared.start.HandStart.{HandStart}
 use Rattle.tournament_rules.specs.Books.{BookState, no_hands}
 use Rattle.tournament_rules.specs.Effects.{entered, first_book, first_seating}
-use Rattle.tournament_rules.specs.Valid.{AreEntered, seats_owed}
+use Rattle.tournament_rules.specs.Valid.{AreEntered, rows_owed}
 
 -- The fields that an entry writes make the book of the definition.
 pub entered_state : (book : BookState) (name : List ℕ) (table seat player stack : ℕ) (place : Place)
@@ -42,26 +43,31 @@ none_counted number (player ∷ players) none =
         ≡ 0 = rw is at counted in rw is (rest (omega arith))
 
 -- The next number is that of nobody who sits.
-pub next_stands : (entries : List (List ℕ)) (players : List Seated) → AreEntered entries players
-    → place_of players (length entries) ≡ None
-next_stands entries players entered =
-    none_counted (length entries) players (entered.seated (length entries) ∙ none_owed (length entries))
+pub next_stands : (entries : List (List ℕ)) (players : List Seated) (busts : List Bust)
+    → AreEntered entries players busts → place_of players (length entries) ≡ None
+next_stands entries players busts agree =
+    let his = agree.once (length entries) in
+    let none = none_owed (length entries) in
+    none_counted (length entries) players (omega (arith, his, none))
   where
-    none_owed : (n : ℕ) → seats_owed entries (length entries) ≡ 0
+    none_owed : (n : ℕ) → rows_owed entries (length entries) ≡ 0
     none_owed n = grind (arith, nat_tests)
 
 -- The fields of a new book make the book before any entry.
 pub first_state_of : (plan : PlanTerms) (entries : List (List ℕ)) (seating : Seating) (out : List (Option HandStart))
-    → entries ≡ [] → seating ≡ first_seating plan → out ≡ no_hands plan.tables
+    (busts : List Bust) → entries ≡ [] → seating ≡ first_seating plan → out ≡ no_hands plan.tables → busts ≡ []
     → (let book : BookState = record {
       plan = plan;
       entries = entries;
       seating = seating;
       out = out;
+      busts = busts;
+      group = 0;
       level = 1;
       begun
           = 0;
       accepted = 0;
       stopped = false;
     } in book) ≡ first_book plan
-first_state_of plan entries seating out entries_is seating_is out_is = rw (entries_is, seating_is, out_is) refl
+first_state_of plan entries seating out busts entries_is seating_is out_is busts_is =
+    rw (entries_is, seating_is, out_is, busts_is) refl

@@ -1,6 +1,6 @@
 -- The players in a list of slots.
-use Rattle.std.proofs.Common.{◌≡◌, ◌∙◌, refl, sym, ap, ◌<◌, ℕ, ◌+◌, Bool, true, List, [], ◌∷◌, ◌++◌, length, take, drop, get_or, map, zero-add, arith}
-use Rattle.std.specs.Prelude.{not, filter, count_by, is_some, Option, Some, None}
+use Rattle.std.proofs.Common.{◌≡◌, ◌∙◌, sym, ap, ◌<◌, ℕ, ◌+◌, Bool, true, List, [], ◌∷◌, ◌++◌, length, take, drop, get_or, map}
+use Rattle.std.specs.Prelude.{not, filter, Option}
 use Rattle.std.specs.List.{list_all}
 use Rattle.std.proofs.lemmas.Bool.{and_parts}
 use Rattle.std.proofs.lemmas.List.{take_more, take-append-drop, map-append}
@@ -9,7 +9,6 @@ use Rattle.std.proofs.lemmas.List.Folds.{list_all-append}
 use Rattle.button_blinds.specs.SeatSets.{has_seat}
 use Rattle.seat_book.specs.declared.seated.Seated.{Seated}
 use Rattle.seat_book.specs.Players.{players_in}
-use Rattle.seat_book.proofs.Passing.{count_by-cons}
 use Rattle.tournament_rules.specs.Players.{start_seat}
 use Rattle.floor_core.specs.Seats.{dealt_of}
 
@@ -33,16 +32,6 @@ passes_front test slots count all =
     ≡ true = rw split at all in
     (and_parts (list_all test (players_in (take count slots))) (list_all test (players_in (drop count slots)))
     (sym (list_all-append test (players_in (take count slots)) (players_in (drop count slots))) ∙ both)).0
-
--- There are as many players as slots that are taken.
-pub length_players : (slots : List (Option Seated)) → length (players_in slots) ≡ count_by is_some slots
-length_players [] = refl
-length_players (None ∷ slots) = length_players slots
-    ∙ sym (count_by-cons is_some None slots ∙ zero-add (count_by is_some slots))
-length_players (Some player ∷ slots) =
-    let rest : length (players_in slots) ≡ count_by is_some slots = length_players slots in
-    let more = count_by-cons is_some (Some player) slots in
-    omega (arith, rest, more)
 
 -- What passes for all players passes for the one of a slot.
 pub passes_at : (test : Seated → Bool) (slots : List (Option Seated)) (index : ℕ) (slot : Option Seated)

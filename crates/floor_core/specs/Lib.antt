@@ -1,3 +1,4 @@
+pub mod Busts
 pub mod Fields
 pub mod Orders
 pub mod Pay

@@ -1,7 +1,6 @@
 //! The book of a tournament.
 
 ghost use Rattle.std.specs.Prelude.{◌≡◌, length, IfOk};
-ghost use Rattle.seat_book.specs.Players.{players_in};
 ghost use Rattle.seat_book.specs.Tables.{IsStatusOf};
 ghost use Rattle.tournament_rules.specs.Effects.{first_book, first_seating, first_status};
 ghost use Rattle.tournament_rules.specs.Checks.{is_over_for_all};
@@ -10,13 +9,14 @@ ghost use Rattle.tournament_rules.specs.Valid.{IsValid};
 use crate::slots::empty_slots;
 use entry_list::EntryList;
 use level_plan::Plan;
-use seat_book::{SeatBook, Seated, TableStatus};
+use place_list::PlaceList;
+use seat_book::{SeatBook, TableStatus};
 use std::alloc::{AllocError, Global};
 use std::marker::Model;
 use table_engine::HandStart;
 
-/// The book: who entered, who sits where, and the starts of the hands that are out. It keeps no acts. Contracts see
-/// it as a `BookState`.
+/// The book: who entered, who sits where, who is out, and the starts of the hands that are out. It keeps no acts.
+/// Contracts see it as a `BookState`.
 #[derive(Debug, Drop)]
 pub struct Book {
     pub(crate) alloc: Global,
@@ -25,6 +25,9 @@ pub struct Book {
     pub(crate) seats: SeatBook,
     /// By table number, the start of the hand that is out. There is no table 0, so its slot stays empty.
     pub(crate) out: Vec<Option<HandStart>>,
+    pub(crate) busts: PlaceList,
+    /// The number of the group of those who go out next.
+    pub(crate) group: u64,
     pub(crate) level: u64,
     pub(crate) begun: u64,
     pub(crate) accepted: u64,
@@ -68,14 +71,6 @@ fn first_seats(alloc: Global, plan: &Plan) -> Result<SeatBook, AllocError>
     Ok(seats)
 }
 
-/// Counts the players who sit in these slots.
-#[tactic(auto, using(crate::proofs::InSlots::length_players))]
-fn count_players(slots: &[Option<Seated>]) -> usize
-    ensures { result ≡ length (players_in slots.now) }
-{
-    slots.iter().filter(|slot| slot.is_some()).count()
-}
-
 impl Book {
     /// Opens the book of a plan, before any entry. Want of memory is the only error.
     #[tactic(auto, using(tournament_rules::proofs::Entries::valid_first))]
@@ -84,12 +79,15 @@ impl Book {
     {
         let seats = first_seats(alloc, &plan)?;
         let out = empty_slots(alloc, plan.tables as usize + 1)?;
+        let busts = PlaceList::new(alloc)?;
         Ok(Book {
             alloc,
             plan,
             entries: EntryList::new(alloc),
             seats,
             out,
+            busts,
+            group: 0,
             level: 1,
             begun: 0,
             accepted: 0,
@@ -105,10 +103,17 @@ impl Book {
         &self.seats
     }
 
-    /// Tells whether the tournament is over: exactly one player is in, and somebody who entered is out.
+    /// Counts the players who are in: all who entered but those who are out.
+    fn count_players(&self) -> u32
+        ensures { result ≡ length self.now.seating.players }
+    {
+        self.entries.len() - self.busts.len()
+    }
+
+    /// Tells whether the tournament is over: somebody is out, and exactly one player is in.
     pub fn over(&self) -> bool
         ensures { result ≡ is_over_for_all self.now }
     {
-        self.entries.len() > 1 && count_players(self.seats.slots()) == 1
+        !self.busts.is_empty() && self.count_players() == 1
     }
 }

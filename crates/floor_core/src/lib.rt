@@ -1,13 +1,14 @@
 //! The tournament, event by event: a book, and hands apart.
 //!
 //! It stands on tournament_rules, whose definitions say what each event is answered and what it makes of the state.
-//! `Book` keeps all of a tournament but the acts of the hands that are out: who entered, who sits where, and the
-//! starts of those hands. `Tournament` is a plan's draft until `go`, and then a book and its hands by table.
+//! `Book` keeps all of a tournament but the acts of the hands that are out: who entered, who sits where, who is out,
+//! and the starts of those hands. `Tournament` is a plan's draft until `go`, and then a book and its hands by table.
 #![tactic(auto)]
 
 mod act;
 mod begin;
 mod book;
+mod bust;
 mod enter;
 mod order;
 mod pay;

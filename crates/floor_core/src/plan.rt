@@ -6,18 +6,16 @@ ghost use Rattle.floor_events.specs.declared.event.Event.TheVariants as events;
 ghost use Rattle.level_plan.specs.Drafts.{draft_after};
 ghost use Rattle.tournament_rules.specs.States.{is_not_built, is_accepted, planning_answer};
 
-use card_set::Game;
 use floor_events::Answer;
 use floor_text::Refusal;
 use level_plan::{Plan, PlanDraft, PlanFault, PlanLine};
 use std::alloc::AllocError;
 
-/// Tells whether a plan line gives what is not carried out yet: a game other than hold'em, or more tables than one.
+/// Tells whether a plan line gives what is not carried out yet: more tables than one.
 fn is_not_built(line: &PlanLine) -> bool
     ensures { result ≡ is_not_built line.now }
 {
     match line {
-        PlanLine::Game(game) => !matches!(game, Game::Holdem),
         PlanLine::Tables(tables) => 2 <= *tables && *tables <= 64,
         _ => false,
     }

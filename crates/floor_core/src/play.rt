@@ -3,7 +3,6 @@
 ghost use Rattle.std.specs.Prelude.{◌≡◌, ◌<◌, ◌^◌, length, slice_set, true, false, Some, IsSome, option_map, IfOk, OnOk, OnErr};
 ghost use Rattle.std.specs.Option.{option_map_or, option_and_then};
 ghost use Rattle.table_engine.specs.Hands.{HandTerms, is_over};
-ghost use Rattle.table_engine.specs.Results.{is_won_by_folds};
 ghost use Rattle.table_engine.specs.Acts.{IsAnswer, refusal_of_act, refusal_of_time, hand_after, hand_after_time};
 ghost use Rattle.table_engine.specs.Plays.{IsCompletePlay, hand_of};
 ghost use Rattle.rulebook.specs.Checks.{IsChecked};
@@ -192,7 +191,6 @@ fn check_end(hands: &[Option<Hand>], index: usize) -> Result<(), Refusal>
     requires within { index < length hands.now }
     ensures checked { (hand : HandTerms) → hand_in hands.now index ≡ Some hand → IsChecked (end_checks hand) result }
     ensures over { OnOk result (option_map_or is_over (hand_in hands.now index) false ≡ true) }
-    ensures won { OnOk result (option_map_or is_won_by_folds (hand_in hands.now index) false ≡ true) }
 {
     let Some(hand) = &hands[index] else {
         return Err(Refusal::NotOver);
@@ -200,17 +198,13 @@ fn check_end(hands: &[Option<Hand>], index: usize) -> Result<(), Refusal>
     if !hand.is_over() {
         return Err(Refusal::NotOver);
     }
-    if !hand.is_won_by_folds() {
-        return Err(Refusal::NotBuilt);
-    }
     Ok(())
 }
 
-/// Ends the hand at a table, which is over and won by folds.
+/// Ends the hand at a table, which is over.
 fn finish_at(hands: &mut Vec<Option<Hand>>, index: usize) -> HandRecord
     requires within { index < length hands.old.items }
     requires over { option_map_or is_over (hand_in hands.old.items index) false ≡ true }
-    requires won { option_map_or is_won_by_folds (hand_in hands.old.items index) false ≡ true }
     ensures hand { hand_in hands.old.items index ≡ Some (hand_of result) }
     ensures play { IsCompletePlay result }
     ensures hands { hands.new.items ≡ slice_set hands.old.items index None }

@@ -6,12 +6,13 @@ ghost use Rattle.tournament_rules.specs.Books.{start_at};
 ghost use Rattle.tournament_rules.specs.Effects.{settled};
 
 use crate::book::Book;
+use crate::bust::bust_broke;
 use crate::pay::{pay_stacks, rest_table};
 use table_engine::HandRecord;
 
 impl Book {
-    /// Settles a hand that is out: each of its players has at rest the stack that its record names for him. It takes
-    /// no memory.
+    /// Settles a hand that is out: each of its players has at rest the stack that its record names for him, and who
+    /// has none leaves his seat and is out. Who goes out later is in a later group. It takes no memory.
     #[tactic(auto, using(tournament_rules::proofs::Ends::valid_settled))]
     pub fn settle(&mut self, done: &HandRecord)
         requires few { self.old.accepted < 2 ^ 60 }
@@ -26,7 +27,9 @@ impl Book {
             done.stacks.items(),
         );
         rest_table(&mut self.seats, table);
+        bust_broke(&mut self.seats, &mut self.busts, done, self.group);
         self.out[usize::from(table)] = None;
+        self.group += 1;
         self.accepted += 1;
     }
 }

@@ -7,7 +7,7 @@ ghost use Rattle.floor_events.specs.declared.event.Event.TheVariants as events;
 ghost use Rattle.card_set.specs.declared.card.CardRow.{CardRow};
 ghost use Rattle.table_engine.specs.Starts.{IsLawfulStart};
 ghost use Rattle.tournament_rules.specs.Dealing.{next_start};
-ghost use Rattle.tournament_rules.specs.States.{first_state, answer_to, state_after, effect, is_accepted};
+ghost use Rattle.tournament_rules.specs.States.{first_state, answer_to, state_after, effect, is_accepted, is_over_state};
 ghost use Rattle.tournament_rules.specs.Valid.{IsValid};
 ghost use Rattle.tournament_rules.specs.Report.{report_of, empty_report};
 
@@ -132,6 +132,16 @@ impl Tournament {
             self.accepted += 1;
         }
         Ok(answer)
+    }
+
+    /// Tells whether the tournament is over, which it is not before there is a plan.
+    pub fn over(&self) -> bool
+        ensures { result ≡ is_over_state self.now }
+    {
+        match &self.play {
+            Some(play) => play.book.over(),
+            None => false,
+        }
     }
 
     /// Reports the tournament as it stands.

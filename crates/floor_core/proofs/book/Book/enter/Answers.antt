@@ -34,7 +34,8 @@ returns-in_err-player-clause-answer c =
 
 pub seat-requires-clause-stands : goal.seat-requires-clause-stands
 seat-requires-clause-stands c = rw c.in_ok-player.ensures.number
-    (next_stands (book_of c.self.inside).entries (book_of c.self.inside).seating.players c.self.invariant.entries)
+    (next_stands (book_of c.self.inside).entries (book_of c.self.inside).seating.players (book_of c.self.inside).busts
+    c.self.invariant.entries)
 
 pub invariant_of-self-2 : goal.invariant_of-self-2
 invariant_of-self-2 c =

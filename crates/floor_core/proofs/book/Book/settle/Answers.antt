@@ -1,16 +1,34 @@
-use Rattle.std.proofs.Common.{◌≡◌, ◌∙◌, sym, ap, subst, ℕ}
+use Rattle.std.proofs.Common.{◌≡◌, ◌∙◌, sym, ap, subst, ℕ, List}
 use Rattle.std.specs.Prelude.{slice_set, Option, Some, None}
+use Rattle.seat_book.specs.declared.seated.Seated.{Seated}
+use Rattle.seat_book.specs.Seatings.{Seating}
 use Rattle.table_engine.specs.declared.start.HandStart.{HandStart}
 use Rattle.table_engine.specs.Plays.{hand_of}
 use Rattle.table_engine.specs.Results.{with_stacks, players_after}
 use Rattle.table_engine.proofs.Stacks.{players-of_record}
 use Rattle.tournament_rules.specs.Books.{BookState, start_at}
+use Rattle.tournament_rules.specs.Players.{put_back}
 use Rattle.tournament_rules.specs.Effects.{settled}
 use Rattle.tournament_rules.specs.Valid.{IsValid}
 use Rattle.tournament_rules.proofs.Ends.{valid_settled}
+use Rattle.floor_core.specs.Busts.{MayGoOut}
 use Rattle.floor_core.specs.Fields.{book_of}
 use Rattle.floor_core.proofs.Begun.{settled_state}
+use Rattle.floor_core.proofs.GoingOut.{may_all}
 use Rattle.floor_core.proofs.book.Book.settle.Goals as goal
+
+pub bust_broke-requires-clause-may : goal.bust_broke-requires-clause-may
+bust_broke-requires-clause-may c =
+    let book = book_of c.self.inside in
+    let start = c.args.done.now.start in
+    let payees = with_stacks c.items.result.now c.items-2.result.now in
+    let is : start_at book.out start.table ≡ Some start =
+    ap (λ (book : BookState). start_at book.out start.table) c.self.view_is ∙ c.requires.out in
+    let same : c.rest_table.new.seats.players ≡ put_back payees book.seating.players =
+    ap (λ (seats : Seating). seats.players) c.rest_table.ensures
+    ∙ ap (λ (seats : Seating). seats.players) c.pay_stacks.ensures.paid in
+    subst (λ (players : List Seated). MayGoOut start.seats players book.busts) (sym same)
+    (may_all book start.table start payees c.self.invariant is)
 
 pub invariant_of-self : goal.invariant_of-self
 invariant_of-self c =
@@ -22,11 +40,12 @@ invariant_of-self c =
     let none : Option HandStart = None in
     let out = ap (λ (index : ℕ). slice_set c.self.inside.out.items index none) c.from.ensures in
     let state = settled_state book hand (with_stacks c.items.result.now c.items-2.result.now) c.pay_stacks.new.seats
-    c.rest_table.new.seats (slice_set c.self.inside.out.items c.from.result None) payees
-    c.pay_stacks.ensures.paid c.rest_table.ensures out in
+    c.rest_table.new.seats c.bust_broke.new.seats c.bust_broke.new.busts
+    (slice_set c.self.inside.out.items c.from.result None) payees c.pay_stacks.ensures.paid c.rest_table.ensures
+    c.bust_broke.ensures.seats c.bust_broke.ensures.busts out in
     let is : start_at book.out hand.start.table ≡ Some hand.start =
     ap (λ (book : BookState). start_at book.out hand.start.table) c.self.view_is ∙ c.requires.out in
-    subst IsValid (sym state) (valid_settled book hand c.self.invariant is c.requires.play.play c.requires.play.won)
+    subst IsValid (sym state) (valid_settled book hand c.self.invariant is c.requires.play.play c.requires.play.over)
 
 pub returns : goal.returns
 returns c =
@@ -38,6 +57,7 @@ returns c =
     let none : Option HandStart = None in
     let out = ap (λ (index : ℕ). slice_set c.self.inside.out.items index none) c.from.ensures in
     let state = settled_state book hand (with_stacks c.items.result.now c.items-2.result.now) c.pay_stacks.new.seats
-    c.rest_table.new.seats (slice_set c.self.inside.out.items c.from.result None) payees
-    c.pay_stacks.ensures.paid c.rest_table.ensures out in
+    c.rest_table.new.seats c.bust_broke.new.seats c.bust_broke.new.busts
+    (slice_set c.self.inside.out.items c.from.result None) payees c.pay_stacks.ensures.paid c.rest_table.ensures
+    c.bust_broke.ensures.seats c.bust_broke.ensures.busts out in
     state ∙ ap (λ (book : BookState). settled book hand) c.self.view_is

@@ -1,0 +1,47 @@
+//! Players who are broke go out.
+
+ghost use Rattle.std.specs.Prelude.{◌≡◌, ◌<◌, ◌++◌, ◌∷◌, [], map, length, false, IsSome};
+ghost use Rattle.std.specs.List.{list_any};
+ghost use Rattle.seat_book.specs.Players.{place_of, lifted};
+ghost use Rattle.table_engine.specs.Plays.{IsCompletePlay, hand_of};
+ghost use Rattle.tournament_rules.specs.Players.{stayed};
+ghost use Rattle.tournament_rules.specs.Effects.{bust_of, broke_by};
+ghost use Rattle.tournament_rules.specs.Valid.{is_bust_of};
+ghost use Rattle.floor_core.specs.Busts.{MayGoOut};
+
+use entry_list::MOST_ENTRIES;
+use place_list::PlaceList;
+use seat_book::SeatBook;
+use table_engine::{HandRecord, StartSeat};
+
+/// A player who is broke leaves his seat and is out, in a group and with the stack that he began his last hand with.
+fn bust(seats: &mut SeatBook, busts: &mut PlaceList, player: StartSeat, group: u64)
+    requires entry { player.player < MOST_ENTRIES }
+    requires sits { IsSome (place_of seats.old.players player.player) }
+    requires room { length busts.old < MOST_ENTRIES }
+    requires once { list_any (is_bust_of player.player) busts.old ≡ false }
+    ensures seats { seats.new ≡ record seats.old { players = lifted player.player seats.old.players } }
+    ensures busts { busts.new ≡ busts.old ++ bust_of group player ∷ [] }
+{
+    seats.lift(player.player);
+    busts.bust(player.player, player.stack, group);
+}
+
+/// The players whom a hand leaves without chips go out, in one group.
+pub(crate) fn bust_broke(seats: &mut SeatBook, busts: &mut PlaceList, done: &HandRecord, group: u64)
+    requires play { IsCompletePlay done.now }
+    requires may { MayGoOut done.now.start.seats seats.old.players busts.old }
+    ensures seats { seats.new ≡ record seats.old {
+      players = stayed (broke_by (hand_of done.now)) seats.old.players;
+    } }
+    ensures busts { busts.new ≡ busts.old ++ map (bust_of group) (broke_by (hand_of done.now)) }
+{
+    let players = done.start.seats.items();
+    let stacks = done.stacks.items();
+    for index in 0..players.len() {
+        let player = players[index];
+        if stacks[index] == 0 {
+            bust(seats, busts, player, group);
+        }
+    }
+}
