@@ -4,10 +4,9 @@ ghost use Rattle.std.specs.Prelude.{◌≡◌, Some, IfOk, OnOk};
 ghost use Rattle.tournament_rules.specs.Books.{start_at};
 
 use super::*;
-use betting_round::Act;
 use card_set::{CardRow, read_row};
 use floor_events::{Answer, Event, Item, read_item, write_report};
-use floor_text::{Name, Refusal};
+use floor_text::Refusal;
 use level_plan::{Plan, PlanDraft};
 use std::alloc::{AllocError, Global};
 use std::process::Abort;
@@ -16,6 +15,10 @@ use table_engine::Hand;
 
 const SORTED: &[u8] =
     b"2c2d2h2s3c3d3h3s4c4d4h4s5c5d5h5s6c6d6h6s7c7d7h7s8c8d8h8s9c9d9h9sTcTdThTsJcJdJhJsQcQdQhQsKcKdKhKsAcAdAhAs";
+
+/// Two aces for the first player of two, and two kings for the other.
+const ACES: &[u8] =
+    b"AcKcAdKd2c2d2h2s3c3d3h3s4c4d4h4s5c5d5h5s6c6d6h6s7c7d7h7s8c8d8h8s9c9d9h9sTcTdThTsJcJdJhJsQcQdQhQsKhKsAhAs";
 
 const PLAN: &[&str] = &[
     "game holdem",
@@ -39,8 +42,18 @@ const ENTRIES: &[(&str, Answer)] = &[
     ("enter cat 1 6", Answer::Ok),
 ];
 
-/// Three hands: in each, who folds in turn.
-const HANDS: &[[&[u8]; 2]] = &[[b"ann", b"bob"], [b"bob", b"cat"], [b"cat", b"ann"]];
+/// The acts of three hands in which two players fold.
+const FOLDS: &[&[&str]] = &[
+    &["act 1 ann fold", "act 1 bob fold"],
+    &["act 1 bob fold", "act 1 cat fold"],
+    &["act 1 cat fold", "act 1 ann fold"],
+];
+
+/// Over the sorted deck ann has three fours and two threes, and bob three fours and two twos: he is broke.
+const BREAKS_BOB: &[&str] = &["act 1 ann allin", "act 1 bob call", "act 1 cat fold"];
+
+/// Ann has the aces and cat the kings, so cat is broke and ann is the last one in.
+const BREAKS_CAT: &[&str] = &["act 1 cat allin", "act 1 ann call"];
 
 /// Reads an event.
 fn event(alloc: Global, line: &str) -> Result<Event, Fail> {
@@ -50,12 +63,8 @@ fn event(alloc: Global, line: &str) -> Result<Event, Fail> {
     Ok(event)
 }
 
-fn name(bytes: &[u8]) -> Result<Name, Fail> {
-    Ok(Name::read(bytes).ok_or("a name")?)
-}
-
-fn sorted() -> Result<CardRow, Fail> {
-    Ok(read_row(SORTED).ok_or("a row")?)
+fn row_of(bytes: &[u8]) -> Result<CardRow, Fail> {
+    Ok(read_row(bytes).ok_or("a row")?)
 }
 
 /// Reads the plan of the lines.
@@ -107,54 +116,69 @@ fn alike(rt: &impl Abort, alloc: Global, both: &Beside) -> Result<(), Fail> {
     Ok(())
 }
 
-/// Lets a player fold in a hand.
-fn fold(hand: &mut Hand, name: Name) -> Result<(), Fail>
+/// Lets a player act in a hand, as an event tells.
+fn act(hand: &mut Hand, event: &Event) -> Result<(), Fail>
     ensures { OnOk result (hand.new.start ≡ hand.old.start) }
 {
-    hand.act(name, Act::Fold).map_err(|_| "folds")?;
+    match event {
+        Event::Act { name, act, .. } => {
+            hand.act(*name, *act).map_err(|_| "acts")?;
+            Ok(())
+        }
+        _ => Err("no act".into()),
+    }
+}
+
+/// Lets the players of a hand act, as lines tell.
+fn act_all(alloc: Global, hand: &mut Hand, lines: &[&str]) -> Result<(), Fail>
+    ensures { OnOk result (hand.new.start ≡ hand.old.start) }
+{
+    for line in lines {
+        act(hand, &event(alloc, line)?)?;
+    }
     Ok(())
 }
 
 /// Begins a hand at the table.
-fn begin(rt: &impl Abort, book: &mut Book) -> Result<Hand, Fail>
+fn begin(rt: &impl Abort, book: &mut Book, row: &CardRow) -> Result<Hand, Fail>
     ensures { IfOk result (λ hand. start_at book.new.out hand.start.table ≡ Some hand.start) }
 {
     assert!(rt; book.accepted < 1 << 60);
-    let row = sorted()?;
-    Ok(book.begin(1, &row).map_err(|_| "begins")?)
+    Ok(book.begin(1, row).map_err(|_| "begins")?)
 }
 
-/// Plays a hand outside of the book: two players fold in turn, and the book settles what it came to.
-fn play(rt: &impl Abort, book: &mut Book, folds: [Name; 2]) -> Result<(), Fail> {
-    let mut hand = begin(rt, book)?;
-    fold(&mut hand, folds[0])?;
-    fold(&mut hand, folds[1])?;
-    assert!(rt; hand.is_over() && hand.is_won_by_folds());
+/// Plays a hand outside of the book, and the book settles what it came to.
+fn play(
+    rt: &impl Abort,
+    alloc: Global,
+    book: &mut Book,
+    row: &CardRow,
+    lines: &[&str],
+) -> Result<(), Fail> {
+    let mut hand = begin(rt, book, row)?;
+    act_all(alloc, &mut hand, lines)?;
+    assert!(rt; hand.is_over());
     assert!(rt; book.accepted < 1 << 60);
     book.settle(&hand.finish());
     Ok(())
 }
 
-/// The event by which a hand begins at the table.
-fn event_of_begin() -> Result<Event, Fail> {
-    let row = sorted()?;
-    Ok(Event::Begin { table: 1, row })
+/// Lets a tournament begin a hand at the table.
+fn begin_beside(rt: &impl Abort, tournament: &mut Tournament, row: CardRow) -> Result<(), Fail> {
+    Ok(take(rt, tournament, &Event::Begin { table: 1, row })?)
 }
 
 /// Lets a tournament play the same hand.
-fn play_beside(rt: &impl Abort, tournament: &mut Tournament, folds: [Name; 2]) -> Result<(), Fail> {
-    take(rt, tournament, &event_of_begin()?)?;
-    for name in folds {
-        let act = Act::Fold;
-        take(
-            rt,
-            tournament,
-            &Event::Act {
-                table: 1,
-                name,
-                act,
-            },
-        )?;
+fn play_beside(
+    rt: &impl Abort,
+    alloc: Global,
+    tournament: &mut Tournament,
+    row: CardRow,
+    lines: &[&str],
+) -> Result<(), Fail> {
+    begin_beside(rt, tournament, row)?;
+    for line in lines {
+        take(rt, tournament, &event(alloc, line)?)?;
     }
     take(rt, tournament, &Event::Settle { table: 1 })?;
     Ok(())
@@ -189,16 +213,26 @@ fn entered(rt: &impl Abort, alloc: Global) -> Result<Beside, Fail> {
     Ok(both)
 }
 
-/// Plays a hand on both sides.
-fn play_both(rt: &impl Abort, both: &mut Beside, folds: [Name; 2]) -> Result<(), Fail> {
-    play(rt, &mut both.book, folds)?;
-    play_beside(rt, &mut both.tournament, folds)
+/// Plays a hand of a row on both sides, and both report the same.
+fn play_both(
+    rt: &impl Abort,
+    alloc: Global,
+    both: &mut Beside,
+    row: &[u8],
+    lines: &[&str],
+) -> Result<(), Fail> {
+    let row = row_of(row)?;
+    play(rt, alloc, &mut both.book, &row, lines)?;
+    play_beside(rt, alloc, &mut both.tournament, row, lines)?;
+    alike(rt, alloc, both)
 }
 
 /// Begins a hand on both sides.
 fn begin_both(rt: &impl Abort, both: &mut Beside) -> Result<Hand, Fail> {
-    take(rt, &mut both.tournament, &event_of_begin()?)?;
-    begin(rt, &mut both.book)
+    let row = row_of(SORTED)?;
+    let hand = begin(rt, &mut both.book, &row)?;
+    begin_beside(rt, &mut both.tournament, row)?;
+    Ok(hand)
 }
 
 /// Stops both.
@@ -207,13 +241,30 @@ fn stop_both(rt: &impl Abort, both: &mut Beside) -> Result<(), Fail> {
     Ok(())
 }
 
+/// Says whether the tournament is over on both sides.
+fn is_over(rt: &impl Abort, both: &Beside, over: bool) {
+    assert_eq!(rt; (both.book.over(), both.tournament.over()), (over, over));
+}
+
 #[test]
 fn a_book_by_hand_tells_what_a_tournament_tells(rt: HostRuntime) -> Result<(), Fail> {
     let mut both = entered(&rt, rt.alloc())?;
-    for [first, second] in HANDS {
-        play_both(&rt, &mut both, [name(first)?, name(second)?])?;
-        alike(&rt, rt.alloc(), &both)?;
+    for lines in FOLDS {
+        play_both(&rt, rt.alloc(), &mut both, SORTED, lines)?;
     }
+    Ok(())
+}
+
+#[test]
+fn a_book_by_hand_settles_hands_that_break_players(rt: HostRuntime) -> Result<(), Fail> {
+    let mut both = entered(&rt, rt.alloc())?;
+    play_both(&rt, rt.alloc(), &mut both, SORTED, BREAKS_BOB)?;
+    is_over(&rt, &both, false);
+    play_both(&rt, rt.alloc(), &mut both, ACES, BREAKS_CAT)?;
+    is_over(&rt, &both, true);
+    let late = event(rt.alloc(), "enter dan 1 4")?;
+    assert_eq!(rt; order(&rt, &mut both, &late)?, Answer::No(Refusal::Over));
+    assert_eq!(rt; both.book.report()?.rest, 3000);
     Ok(())
 }
 
