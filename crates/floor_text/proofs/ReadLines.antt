@@ -1,5 +1,5 @@
 -- A reader takes bytes and hands lines out: what its states have to do with each other.
-use Rattle.std.proofs.Common.{◌≡◌, ℕ, zero, suc, ◌+◌, ◌-◌, ◌<◌, ◌≤◌, List, [], ◌∷◌, ◌++◌, length, get_or, take, drop, Option, Some, None, MatchOption, IfSome, refl, sym, ap, ◌∙◌, subst, inl, inr, arith, append_assoc, length-drop}
+use Rattle.std.proofs.Common.{◌≡◌, ℕ, zero, suc, ◌+◌, ◌-◌, ◌<◌, ◌≤◌, List, [], ◌∷◌, ◌++◌, length, get_or, take, drop, Option, Some, None, MatchOption, IfSome, refl, sym, ap, ◌∙◌, subst, inl, inr, arith, append_assoc, length-drop, true, false}
 use Rattle.std.specs.Prelude.{slice_range}
 use Rattle.std.specs.List.{list_any}
 use Rattle.std.proofs.Math.Seq.{take-add}
@@ -200,8 +200,9 @@ searched_none kept held n none front count =
     let before : length held - n ≡ length kept = omega arith in
     ap (λ (m : ℕ). list_any is_line_feed (take m held)) before ∙ ap (list_any is_line_feed) front ∙ none
 
--- what a search for the next line keeps true: it handed out nothing yet, and no line feed is where it searched
-pub record IsSearching (a b : Reading) (o0 o1 : Option (List ℕ)) (f0 f1 searched : ℕ) : Type 0 where
+-- what a search for the next line keeps true: it handed out nothing yet, and no line feed is where it searched; where
+-- one was held at its start, it is still there
+pub record IsSearching (a b : Reading) (o0 o1 : Option (List ℕ)) (f0 f1 searched : ℕ) (Same : Type 0) : Type 0 where
   pub reads : IfSome o0 (λ bytes. Reads a b bytes o1 [])
   pub later : a.taken ≤ b.taken
   pub limit : b.limit ≡ a.limit
@@ -209,3 +210,4 @@ pub record IsSearching (a b : Reading) (o0 o1 : Option (List ℕ)) (f0 f1 search
   pub faults : f0 ≤ f1
   pub none : HasNoFeed (take searched b.held)
   pub within : searched ≤ held_within b
+  pub untouched : list_any is_line_feed (take (held_within a) a.held) ≡ true → (b ≡ a) × Same

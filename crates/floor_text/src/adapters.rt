@@ -5,8 +5,10 @@ ghost use Rattle.std.specs.Prelude.{◌≡◌, ◌≤◌, ◌<◌, ◌++◌, Som
 ghost use Rattle.std.specs.Io.KnownBytes.{Keeps};
 ghost use Rattle.floor_text.specs.Outside.{Takes, Puts};
 
+use crate::limits::BLOCK;
 use crate::outside::{Failed, Sink, Source};
-use std::io::{ErrorKind, Read, Write};
+use std::alloc::{AllocError, Global};
+use std::io::{BufWriter, ErrorKind, Read, Write};
 
 /// A source over a reader.
 #[derive(Drop)]
@@ -73,19 +75,43 @@ impl<W: Write> WriterSink<W> {
     }
 }
 
+impl<W: Write + Drop> WriterSink<BufWriter<W>> {
+    /// A sink over this writer that holds back up to 64 KiB: what is put is written where there is no more
+    /// room for it, and at a flush. It takes the room that it needs.
+    pub fn buffered(alloc: Global, writer: W) -> Result<WriterSink<BufWriter<W>>, AllocError>
+        ensures written { IfOk result (λ sink. IfSome (W.contents writer)
+            (λ bytes. ⟦<WriterSink<BufWriter<W>> as Sink>⟧.written sink ≡ Some bytes)) }
+        ensures faults { IfOk result (λ sink. ⟦<WriterSink<BufWriter<W>> as Sink>⟧.faults sink ≡ 0) }
+    {
+        match BufWriter::with_capacity(alloc, BLOCK, writer) {
+            Ok(buffered) => Ok(WriterSink::new(buffered)),
+            Err(_) => Err(AllocError),
+        }
+    }
+}
+
 impl<W: Write> Sink for WriterSink<W> {
     ghost written = { λ s. W.contents s.writer };
 
     ghost faults = { λ s. s.faults };
 
-    /// Writes all the bytes and flushes the writer. A write is made again where it was interrupted; one
-    /// that takes none of the bytes is a fault, as any other error is, and is counted.
+    /// Hands all the bytes to the writer. A write is made again where it was interrupted; one that takes
+    /// none of the bytes is a fault, as any other error is, and is counted.
     fn put(&mut self, bytes: &[u8]) -> Result<(), Failed> {
         let result = write_whole(&mut self.writer, bytes);
         if result.is_err() {
             self.faults = self.faults.saturating_add(1);
         }
         result
+    }
+
+    /// Flushes the writer. An error is a fault, and is counted.
+    fn flush(&mut self) -> Result<(), Failed> {
+        if self.writer.flush().is_err() {
+            self.faults = self.faults.saturating_add(1);
+            return Err(Failed);
+        }
+        Ok(())
     }
 }
 
@@ -98,9 +124,6 @@ fn write_whole<W: Write>(writer: &mut W, bytes: &[u8]) -> Result<(), Failed>
             return Err(Failed);
         };
         rest = &rest[n..];
-    }
-    if writer.flush().is_err() {
-        return Err(Failed);
     }
     Ok(())
 }

@@ -6,7 +6,7 @@ pub const LONGEST_LINE: usize = 400;
 /// How many bytes of a line are kept: as many as show that it is too long.
 pub const KEPT: usize = LONGEST_LINE + 1;
 
-/// How many bytes are asked of a source at once.
+/// How many bytes are asked of a source at once, and how many a sink holds back at most.
 pub const BLOCK: usize = 65_536;
 
 /// The longest name, in characters.

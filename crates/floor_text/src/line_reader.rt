@@ -1,8 +1,9 @@
 //! Lines read from a source, block by block.
 
-ghost use Rattle.std.specs.Prelude.{◌≡◌, ◌≢◌, ◌≤◌, ◌<◌, ◌-◌, ◌+◌, ◌↔◌, ℕ, List, [], ◌∷◌, ◌++◌, length, take, drop, Some, Ok, Err, MatchOption, IfOk, IfErr, IfSome, OnErr};
+ghost use Rattle.std.specs.Prelude.{◌≡◌, ◌≢◌, ◌≤◌, ◌<◌, ◌-◌, ◌+◌, ◌↔◌, ℕ, List, [], ◌∷◌, ◌++◌, length, take, drop, Some, Ok, Err, MatchOption, IfOk, IfErr, IfSome, OnErr, true};
 ghost use Rattle.floor_text.specs.HeldBytes.{IsFirstFeed};
-ghost use Rattle.floor_text.specs.Lines.{HasNoFeed, cut_line, lines_of_bytes};
+ghost use Rattle.std.specs.List.{list_any};
+ghost use Rattle.floor_text.specs.Lines.{HasNoFeed, is_line_feed, cut_line, lines_of_bytes};
 ghost use Rattle.floor_text.specs.Outside.{Rose};
 ghost use Rattle.floor_text.specs.Reading.{bytes_ahead, held_within};
 
@@ -75,6 +76,13 @@ impl LineReader {
         })
     }
 
+    /// Tells whether a line feed is held within the limit. Then the next line is there, and `next_line` takes nothing.
+    pub fn holds_line(&self) -> bool
+        ensures { result ≡ list_any is_line_feed (take (held_within self.now) self.now.held) }
+    {
+        self.feed_from(0).is_some()
+    }
+
     /// Hands out the next line. It takes from the source, in blocks of 65536 bytes, as far as it needs to.
     /// `InputTooLong` comes where more bytes were taken than the limit allows and each line whose line
     /// feed is within the limit was handed out; then nothing more is taken.
@@ -82,6 +90,8 @@ impl LineReader {
         ensures reads { IfSome (S.left source.old)
             (λ bytes. Reads self.old self.new bytes (S.left source.new) (lines_of_next result self.new.line)) }
         ensures taken { (self.old.taken ≤ self.new.taken) × (self.new.taken ≤ self.new.limit + 1) }
+        ensures untouched { list_any is_line_feed (take (held_within self.old) self.old.held) ≡ true
+            → source.new ≡ source.old }
         ensures limit { self.new.limit ≡ self.old.limit }
         ensures shorter { IfOk result (λ next. next ≢ Next.End → bytes_ahead self.new < bytes_ahead self.old) }
 

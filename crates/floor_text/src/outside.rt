@@ -1,6 +1,6 @@
 //! Where bytes come from and where they go.
 
-ghost use Rattle.std.specs.Prelude.{◌≡◌, ◌≤◌, ℕ, List, length, Option, IfSome, IfOk, OnErr};
+ghost use Rattle.std.specs.Prelude.{◌≡◌, ◌≤◌, ℕ, List, length, Option, Some, IfSome, IfOk, OnErr};
 ghost use Rattle.floor_text.specs.Outside.{HasCause, Takes, Puts};
 
 /// The outside failed. Its count of faults says so too.
@@ -24,7 +24,7 @@ pub trait Source {
         ensures cause { HasCause (faults self.old) (faults self.new) result };
 }
 
-/// Where bytes go.
+/// Where bytes go. What was put may be held back until a flush, and it goes there in the order of the puts.
 pub trait Sink {
     /// The bytes that were put, where it tells them.
     ghost written: { Self → Option (List ℕ) };
@@ -36,4 +36,12 @@ pub trait Sink {
     fn put(&mut self, bytes: &[u8]) -> Result<(), Failed>
         ensures bytes { IfSome (written self.old) (λ before. Puts before bytes.now (written self.new) result) }
         ensures cause { HasCause (faults self.old) (faults self.new) result };
+
+    /// Lets go of what was held back of the bytes that were put. A sink that holds nothing back has nothing to do.
+    fn flush(&mut self) -> Result<(), Failed>
+        ensures kept { IfSome (written self.old) (λ before. written self.new ≡ Some before) }
+        ensures cause { HasCause (faults self.old) (faults self.new) result }
+    {
+        Ok(())
+    }
 }

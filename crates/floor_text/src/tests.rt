@@ -3,6 +3,7 @@ use crate::{
     ReaderSource, Refusal, Sink, Source, WriterSink, read_number, refusals_are_told_apart,
 };
 use std::alloc::{AllocError, Global};
+use std::io::{self, Write};
 use std::test::Fail;
 
 /// Appends what was handed out: a line and `|`, or `!` for a line that is too long.
@@ -103,34 +104,35 @@ fn reader_stops_past_its_limit(rt: HostRuntime) -> Result<(), Fail> {
 }
 
 #[test]
-fn memory_fails_at_each_call_in_turn(rt: HostRuntime) -> Result<(), Fail> {
+fn reader_goes_on_after_a_take_that_fails(rt: HostRuntime) -> Result<(), Fail> {
     let alloc = rt.alloc();
-    let cases = [
-        (1, b"?ab|c|".as_slice(), b"23".as_slice()),
-        (2, b"ab|?c|", b"13"),
-        (3, b"ab|c|?", b"12"),
-        (4, b"ab|c|", b"123"),
-    ];
-    for (call, read, put) in cases {
-        let mut source = MemSource::new(b"ab\nc".to_vec(alloc)?, vec![in alloc; call]?);
-        assert_eq!(rt;
-            lines_read(alloc, &mut source, 9)?.as_slice(),
-            read,
-            "take {call}"
-        );
-        let mut sink = MemSink::new(alloc, 3, vec![in alloc; call]?)?;
-        for (number, piece) in [(1, b"1"), (2, b"2"), (3, b"3")] {
-            let answer = sink.put(piece);
-            let wanted = if number == call { Err(Failed) } else { Ok(()) };
-            assert_eq!(rt; answer, wanted, "put {number} of {call}");
-        }
-        assert_eq!(rt; sink.bytes(), put, "put {call}");
+    for (take, wanted) in [
+        (1, b"?ab|c|".as_slice()),
+        (2, b"ab|?c|"),
+        (3, b"ab|c|?"),
+        (4, b"ab|c|"),
+    ] {
+        let mut source = MemSource::new(b"ab\nc".to_vec(alloc)?, vec![in alloc; take]?);
+        let read = lines_read(alloc, &mut source, 9)?;
+        assert_eq!(rt; read.as_slice(), wanted, "take {take}");
     }
-    let mut sink = MemSink::new(alloc, 3, Vec::new(alloc))?;
-    assert_eq!(rt; sink.put(b"12"), Ok(()));
-    assert_eq!(rt; sink.put(b"34"), Err(Failed));
-    assert_eq!(rt; sink.put(b"5"), Ok(()));
-    assert_eq!(rt; sink.bytes(), b"125".as_slice());
+    Ok(())
+}
+
+#[test]
+fn memory_fails_at_the_calls_named_and_beyond_its_room(rt: HostRuntime) -> Result<(), Fail> {
+    let alloc = rt.alloc();
+    let mut sink = MemSink::new(alloc, 3, vec![in alloc; 2]?)?;
+    for (piece, wanted) in [
+        (b"1".as_slice(), Ok(())),
+        (b"2", Err(Failed)),
+        (b"345", Err(Failed)),
+        (b"67", Ok(())),
+    ] {
+        assert_eq!(rt; sink.put(piece), wanted, "{piece:?}");
+    }
+    assert_eq!(rt; sink.flush(), Ok(()));
+    assert_eq!(rt; sink.bytes(), b"167".as_slice());
     Ok(())
 }
 
@@ -145,6 +147,40 @@ fn adapters_pass_bytes_on(rt: HostRuntime) -> Result<(), Fail> {
     let mut sink = WriterSink::new(&mut bytes);
     assert_eq!(rt; sink.put(b"ab"), Ok(()));
     assert_eq!(rt; sink.put(b"c"), Ok(()));
+    assert_eq!(rt; bytes.as_slice(), b"abc".as_slice());
+    Ok(())
+}
+
+/// A writer that takes no byte.
+#[derive(Drop)]
+struct FullDevice;
+
+impl Write for FullDevice {
+    fn write(&mut self, _bytes: &[u8]) -> io::Result<usize> {
+        Ok(0)
+    }
+
+    fn flush(&mut self) -> io::Result<()> {
+        Ok(())
+    }
+}
+
+#[test]
+fn a_buffered_sink_writes_at_a_flush_or_where_it_is_full(rt: HostRuntime) -> Result<(), Fail> {
+    let alloc = rt.alloc();
+    assert_eq!(rt; WriterSink::new(FullDevice).put(b"ab"), Err(Failed));
+    let mut sink = WriterSink::buffered(alloc, FullDevice)?;
+    assert_eq!(rt; sink.flush(), Ok(()));
+    assert_eq!(rt; sink.put(b"ab"), Ok(()));
+    assert_eq!(rt; sink.flush(), Err(Failed));
+    assert_eq!(rt; sink.put(&vec![in alloc; b'a'; 65_536]?), Err(Failed));
+    let mut bytes = Vec::new(alloc);
+    {
+        let mut sink = WriterSink::buffered(alloc, &mut bytes)?;
+        assert_eq!(rt; sink.put(b"ab"), Ok(()));
+        assert_eq!(rt; sink.put(b"c"), Ok(()));
+        assert_eq!(rt; sink.flush(), Ok(()));
+    }
     assert_eq!(rt; bytes.as_slice(), b"abc".as_slice());
     Ok(())
 }
