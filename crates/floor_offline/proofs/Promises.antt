@@ -1,5 +1,5 @@
 -- What is written and what is to come make the same text.
-use Rattle.std.proofs.Common.{◌≡◌, ℕ, sym, ap, ◌∙◌, List, [], ◌∷◌, ◌++◌, append_assoc, drop, ◌-◌}
+use Rattle.std.proofs.Common.{◌≡◌, ℕ, sym, ap, subst, ◌∙◌, List, [], ◌∷◌, ◌++◌, append_assoc, drop, ◌-◌}
 use Rattle.std.specs.Prelude.{Option, Some, None, IfSome, map}
 use Rattle.std.proofs.lemmas.List.{map-append, append-nil}
 use Rattle.floor_text.specs.Lines.{lines_of_bytes}
@@ -47,3 +47,10 @@ keeps_lines before after old new (Some bytes) rest (Some text) told handed said 
 pub says_nothing : (written : Option (List ℕ)) → IfSome written (λ text. written ≡ Some (text ++ []))
 says_nothing None = tt
 says_nothing (Some text) = ap Some (sym (append-nil text))
+
+-- what is put behind what was told still is put behind what was told
+pub kept_puts : (old mid told : Option (List ℕ)) (said : List ℕ) → Keeps old mid
+    → IfSome mid (λ text. told ≡ Some (text ++ said)) → IfSome old (λ text. told ≡ Some (text ++ said))
+kept_puts None mid told said kept puts = tt
+kept_puts (Some text) mid told said kept puts =
+    let P : Option (List ℕ) → Type 0 = λ known. IfSome known (λ text. told ≡ Some (text ++ said)) in subst P kept puts

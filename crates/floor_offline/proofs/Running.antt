@@ -1,5 +1,5 @@
 -- What holds of a run between two lines, and what it comes to at the end.
-use Rattle.std.proofs.Common.{◌≡◌, ℕ, ◌+◌, ◌<◌, ◌≤◌, refl, subst, ◌∙◌, inl, inr, List, [], ◌∷◌, ◌++◌, length, arith}
+use Rattle.std.proofs.Common.{◌≡◌, ℕ, ◌+◌, ◌<◌, ◌≤◌, refl, sym, subst, ◌∙◌, inl, inr, List, [], ◌∷◌, ◌++◌, length, arith}
 use Rattle.std.specs.Prelude.{◌⊎◌, Option, Some, None, IfSome, IsSomeAnd, Result, Ok, Err, OnOk, Contains}
 use Rattle.floor_text.specs.Lines.{lines_of_bytes}
 use Rattle.floor_text.specs.Outside.{Rose}
@@ -64,6 +64,17 @@ gives_more (Some bytes) (Some rest) taken limit counts at_limit more = omega (ar
 pub rose_since : (first before now : ℕ) → first ≤ before → Rose before now → Rose first now
 rose_since first before now later (inl rose) = inl (omega arith)
 rose_since first before now later (inr stands) = inr stands
+
+-- a count that rose by an earlier moment rose by a later one
+pub rose_by : (first before now : ℕ) → Rose first before → before ≤ now → Rose first now
+rose_by first before now (inl rose) later = inl (omega arith)
+rose_by first before now (inr stands) later = inr (omega arith)
+
+-- a run whose sink was closed ended by its own fault, or by a failure of that sink
+pub closed_by : (ran closed : Result (Unit {0}) Fault) (fault : Fault) (late : Type 0)
+    → (closed ≡ ran) ⊎ ((closed ≡ Err faults.Write) × late) → closed ≡ Err fault → (ran ≡ Err fault) ⊎ late
+closed_by ran closed fault late (inl same) is = inl (sym same ∙ is)
+closed_by ran closed fault late (inr failed) is = inr failed.1
 
 -- with nothing left, the whole text is what is written and then the report
 pub text_at_end : (state : State) (left written rest told all : Option (List ℕ))

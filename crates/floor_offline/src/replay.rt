@@ -1,6 +1,6 @@
 //! Lines are answered one by one, and at the end comes the report.
 
-ghost use Rattle.std.specs.Prelude.{◌≡◌, ◌≤◌, ◌<◌, ◌+◌, ◌^◌, ◌++◌, List, ℕ, length, Option, Ok, true, false, [], Some, IfOk, IfSome, OnOk, OnErr, IfErr, IsErrOf};
+ghost use Rattle.std.specs.Prelude.{◌⊎◌, ◌≡◌, ◌≤◌, ◌<◌, ◌+◌, ◌^◌, ◌++◌, List, ℕ, length, Option, Ok, Err, true, false, [], Some, IfOk, IfSome, OnOk, OnErr, IfErr, IsErrOf};
 ghost use Rattle.floor_text.specs.Outside.{Rose};
 ghost use Rattle.floor_text.specs.Reading.{bytes_ahead};
 ghost use Rattle.floor_events.specs.Spelling.{answer_text};
@@ -78,6 +78,20 @@ fn put_report<O: Sink>(
     put_text(text, out)
 }
 
+/// Has `out` let go of the answers that it holds back, unless the next line is held already: whoever sends lines has
+/// the answer to each before the program waits for more.
+fn show_answers<O: Sink>(reader: &LineReader, out: &mut O) -> Result<(), Fault>
+    ensures kept { OnOk result (Keeps (O.written out.old) (O.written out.new)) }
+    ensures later { O.faults out.old ≤ O.faults out.new }
+    ensures write { OnErr result (Rose (O.faults out.old) (O.faults out.new)) }
+    ensures others { IfErr result IsOfWriting }
+{
+    if !reader.holds_line() {
+        out.flush()?;
+    }
+    Ok(())
+}
+
 /// Answers the next line, and tells whether there was one.
 fn answer_next<I: Source, O: Sink>(
     alloc: Global,
@@ -114,6 +128,7 @@ fn answer_next<I: Source, O: Sink>(
     ensures write { IsErrOf result Fault.Write → Rose (O.faults out.old) (O.faults out.new) }
     ensures words { IsErrOf result Fault.Usage → ⊥ }
 {
+    show_answers(reader, out)?;
     let answer = match reader.next_line(input)? {
         Next::End => return Ok(false),
         Next::TooLong => Answer::No(Refusal::Syntax),
@@ -131,6 +146,7 @@ pub fn replay<I: Source, O: Sink>(alloc: Global, input: &mut I, out: &mut O) -> 
     ensures within { OnOk result (IfSome (I.left input.old) (λ bytes. length bytes ≤ INPUT_LIMIT)) }
     ensures too_long { IsErrOf result Fault.InputTooLong → GivesMore INPUT_LIMIT (I.left input.old) (I.left input.new) }
     ensures read { IsErrOf result Fault.Read → Rose (I.faults input.old) (I.faults input.new) }
+    ensures out_later { O.faults out.old ≤ O.faults out.new }
     ensures write { IsErrOf result Fault.Write → Rose (O.faults out.old) (O.faults out.new) }
     ensures words { IsErrOf result Fault.Usage → ⊥ }
 {
@@ -139,4 +155,14 @@ pub fn replay<I: Source, O: Sink>(alloc: Global, input: &mut I, out: &mut O) -> 
     let mut text = Vec::new(alloc);
     'lines: while answer_next(alloc, &mut reader, &mut tournament, &mut text, input, out)? {}
     put_report(&tournament, &mut text, out)
+}
+
+/// Has `out` let go of all that was put, whatever came of the run. A failure of that is a failure of `out`.
+pub fn close<O: Sink>(ran: Result<(), Fault>, out: &mut O) -> Result<(), Fault>
+    ensures kept { Keeps (O.written out.old) (O.written out.new) }
+    ensures later { O.faults out.old ≤ O.faults out.new }
+    ensures ran { (result ≡ ran) ⊎ ((result ≡ Err Fault.Write) × Rose (O.faults out.old) (O.faults out.new)) }
+{
+    out.flush()?;
+    ran
 }

@@ -8,7 +8,7 @@ ghost use Rattle.floor_offline.specs.Replay.{replay_text};
 ghost use Rattle.floor_offline.specs.Promise.{GivesMore};
 
 use crate::fault::Fault;
-use crate::replay::replay;
+use crate::replay::{close, replay};
 use floor_text::{Sink, Source};
 use std::alloc::Global;
 
@@ -71,7 +71,7 @@ pub fn run_offline<I: Source, O: Sink, E: Sink>(
         (λ before. PutsLine before (status_line result) (E.written err.new) (E.faults err.old) (E.faults err.new)) }
 {
     let ran = if is_replay(words) {
-        replay(alloc, input, out)
+        close(replay(alloc, input, out), out)
     } else {
         Err(Fault::Usage)
     };

@@ -17,16 +17,21 @@ fn command_words(rt: &(impl Env + AllocGlobal)) -> io::Result<Vec<String>> {
     Ok(words)
 }
 
+/// Tells that memory ran out before a run could begin.
+fn out_of_memory(err: &mut impl Sink) -> ExitCode {
+    let _ = err.put(b"out of memory\n");
+    ExitCode::from(5)
+}
+
 fn main(rt: HostRuntime) -> ExitCode {
     let mut input = ReaderSource::new(rt.stdin());
-    let mut out = WriterSink::new(rt.stdout());
     let mut err = WriterSink::new(rt.stderr());
+    let Ok(mut out) = WriterSink::buffered(rt.alloc(), rt.stdout()) else {
+        return out_of_memory(&mut err);
+    };
     let words = match command_words(&rt) {
         Ok(words) => words,
-        Err(error) if error.kind() == ErrorKind::OutOfMemory => {
-            let _ = err.put(b"out of memory\n");
-            return ExitCode::from(5);
-        }
+        Err(error) if error.kind() == ErrorKind::OutOfMemory => return out_of_memory(&mut err),
         // Words that are no text are no written command.
         Err(_) => Vec::new(rt.alloc()),
     };
