@@ -1,5 +1,5 @@
 -- A reader takes bytes and hands lines out: what its states have to do with each other.
-use Rattle.std.proofs.Common.{◌≡◌, ℕ, zero, suc, ◌+◌, ◌-◌, ◌<◌, ◌≤◌, List, [], ◌∷◌, ◌++◌, length, get_or, take, drop, Option, Some, None, MatchOption, IfSome, refl, sym, ap, ◌∙◌, subst, inl, inr, arith, append_assoc, length-drop, true, false}
+use Rattle.std.proofs.Common.{◌≡◌, ℕ, zero, suc, ◌+◌, ◌-◌, ◌<◌, ◌≤◌, List, [], ◌∷◌, ◌++◌, length, get_or, take, drop, Option, Some, None, MatchOption, IfSome, refl, sym, ap, ◌∙◌, subst, inl, inr, arith, append_assoc, length-drop, true}
 use Rattle.std.specs.Prelude.{slice_range}
 use Rattle.std.specs.List.{list_any}
 use Rattle.std.proofs.Math.Seq.{take-add}
