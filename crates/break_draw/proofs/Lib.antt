@@ -6,3 +6,5 @@ pub mod Chosen
 pub mod Reorders
 pub mod Names
 pub mod FillLaws
+pub mod Words
+pub mod Shuffles

@@ -18,5 +18,7 @@ pub use checks::check_draw;
 pub use draws::draw;
 pub use faults::DrawFault;
 pub use filling::fill_list;
-pub use laws::{a_break_leaves_the_tables_even, a_fill_list_has_empty_seats_elsewhere};
+pub use laws::{
+    a_break_leaves_the_tables_even, a_draw_passes_its_check, a_fill_list_has_empty_seats_elsewhere,
+};
 pub use random::{DrawKind, generator, shuffle};
