@@ -5,10 +5,10 @@ use Rattle.std.proofs.Math.Seq.{take-append_seam}
 use Rattle.std.proofs.lemmas.List.{drop_all}
 use Rattle.rand_core.specs.Stream.{Stream}
 use Rattle.rand_core.specs.Steps.{stream_of, steps_u32}
-use Rattle.rand_chacha.specs.ChaCha.{ChaCha, next_word, of_seed}
+use Rattle.rand_chacha.specs.ChaCha.{ChaCha, next_word}
 use Rattle.rand.specs.Shuffle.{shuffled}
 use Rattle.break_draw.specs.declared.random.DrawKind.{DrawKind}
-use Rattle.break_draw.specs.Generator.{draw_generator, words_of, drawn_order, kind_number}
+use Rattle.break_draw.specs.Generator.{draw_bytes, draw_generator, words_of, drawn_order, kind_number}
 
 -- two numbers that are written behind one another
 two_numbers : (seed one other now last : List ℕ) → length one ≡ 8 → length other ≡ 8 → length now ≡ 32
@@ -39,15 +39,13 @@ two_numbers seed one other now last one_len other_len now_len now_is last_is =
     ∙ (ap (λ (end : List ℕ). (take 16 seed ++ one) ++ end) (append-nil other)
     ∙ append_assoc (take 16 seed) one other)))
 
--- The generator of a draw is made from these bytes.
-pub generator-bytes : (seed now last : List ℕ) (kind : DrawKind) (number kind_is : ℕ) (generator : ChaCha)
-    → length now ≡ 32 → kind_is ≡ kind_number kind → now ≡ take 16 seed ++ (to_le_bytes w64 number ++ drop 24 seed)
-    → last ≡ take 24 now ++ (to_le_bytes w64 kind_is ++ drop 32 now) → generator ≡ of_seed last
-    → generator ≡ draw_generator seed kind number
-unfolding draw_generator
-generator-bytes seed now last kind number kind_is generator now_len is now_is last_is made =
-    made ∙ ap of_seed (two_numbers seed (to_le_bytes w64 number) (to_le_bytes w64 kind_is) now last refl refl now_len now_is last_is
-    ∙ ap (λ (n : ℕ). take 16 seed ++ (to_le_bytes w64 number ++ to_le_bytes w64 n)) is)
+-- These are the bytes from which the generator of a draw is made.
+pub bytes-drawn : (seed now last : List ℕ) (kind : DrawKind) (number kind_is : ℕ) → length now ≡ 32
+    → kind_is ≡ kind_number kind → now ≡ take 16 seed ++ (to_le_bytes w64 number ++ drop 24 seed)
+    → last ≡ take 24 now ++ (to_le_bytes w64 kind_is ++ drop 32 now) → last ≡ draw_bytes seed kind number
+bytes-drawn seed now last kind number kind_is now_len is now_is last_is =
+    two_numbers seed (to_le_bytes w64 number) (to_le_bytes w64 kind_is) now last refl refl now_len now_is last_is
+    ∙ ap (λ (n : ℕ). take 16 seed ++ (to_le_bytes w64 number ++ to_le_bytes w64 n)) is
 
 -- What is shuffled by the generator of a draw is in the order of the draw.
 pub order-drawn : {A : Type 0} (seed : List ℕ) (kind : DrawKind) (number : ℕ) (before now : List A) (after : Stream)

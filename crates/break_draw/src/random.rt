@@ -2,7 +2,7 @@
 
 ghost use Rattle.std.specs.Prelude.{◌≡◌, ◌≤◌, ◌+◌, ◌++◌, length, take, drop, IsPermutation};
 ghost use Rattle.std.specs.Int.{w64, to_le_bytes};
-ghost use Rattle.break_draw.specs.Generator.{kind_number, draw_generator, drawn_order};
+ghost use Rattle.break_draw.specs.Generator.{kind_number, draw_bytes, draw_generator, drawn_order};
 
 use rand::SeedableRng;
 use rand::seq::SliceRandom;
@@ -45,12 +45,21 @@ fn with_number(seed: [u8; 32], start: usize, number: u64) -> [u8; 32]
     bytes
 }
 
-/// Makes the generator of a draw: from the first 16 bytes of the seed, the number of the draw and that of its kind.
+/// Gives the bytes from which the generator of a draw is made: the first 16 of the seed, the number of the draw and
+/// that of its kind.
+fn draw_bytes(seed: [u8; 32], kind: DrawKind, number: u64) -> [u8; 32]
+    ensures { result ≡ draw_bytes seed kind number }
+{
+    let numbered = with_number(seed, 16, number);
+    with_number(numbered, 24, kind.number())
+}
+
+/// Makes the generator of a draw.
+#[tactic(auto, unfolding(crate::specs::Generator::draw_generator))]
 pub fn generator(seed: [u8; 32], kind: DrawKind, number: u64) -> ChaCha20Rng
     ensures { result ≡ draw_generator seed kind number }
 {
-    let numbered = with_number(seed, 16, number);
-    ChaCha20Rng::from_seed(with_number(numbered, 24, kind.number()))
+    ChaCha20Rng::from_seed(draw_bytes(seed, kind, number))
 }
 
 /// Puts a list into the order of a draw.
