@@ -1,6 +1,6 @@
 -- The ranks that are picked are the greatest list of ranks that occur so often.
-use Rattle.std.proofs.Common.{◌≡◌, ℕ, zero, suc, ◌<◌, ◌≤◌, inl, inr, Bool, true, false, cond, eqb, leb, List, [], ◌∷◌, Some, None, refl, sym, ap, ap₂, ◌∙◌, subst, zero-le, le_refl, le_trans, eqb-true, leb-true, le-leb, arith}
-use Rattle.std.specs.Prelude.{Option, option_map}
+use Rattle.std.proofs.Common.{◌≡◌, ℕ, zero, suc, ◌<◌, ◌≤◌, inl, inr, Bool, true, false, cond, eqb, leb, List, [], ◌∷◌, Some, None, refl, sym, ap, ◌∙◌, subst, zero-le, le_refl, le_trans, eqb-true, leb-true, le-leb, arith}
+use Rattle.std.specs.Prelude.{option_map}
 use Rattle.std.proofs.lemmas.Bool.Decides.{nat_tests}
 use Rattle.card_choices.proofs.ListOrder.{Upto}
 use Rattle.hand_rank.specs.Picks.{highest_below, without, then, picked}

@@ -1,5 +1,5 @@
 -- Runs of five ranks among ranks that occur.
-use Rattle.std.proofs.Common.{◌≡◌, ℕ, suc, ◌+◌, ◌-◌, ◌<◌, ◌≤◌, ◌⊎◌, inl, inr, Bool, true, false, ◌&&◌, ◌||◌, cond, eqb, leb, List, [], ◌∷◌, Some, None, refl, sym, ap, ◌∙◌, subst, eqb-true, eq-eqb, leb-true, le-leb, arith}
+use Rattle.std.proofs.Common.{◌≡◌, ℕ, ◌-◌, ◌<◌, ◌≤◌, ◌⊎◌, inl, inr, Bool, true, false, ◌&&◌, ◌||◌, cond, eqb, leb, List, [], ◌∷◌, Some, None, refl, sym, ap, ◌∙◌, subst, eqb-true, eq-eqb, leb-true, le-leb, arith}
 use Rattle.std.specs.Cmp.Lexicographic.{pointwise}
 use Rattle.std.proofs.lemmas.Bool.Decides.{nat_tests}
 use Rattle.hand_rank.specs.Picks.{highest_below, without, picked}

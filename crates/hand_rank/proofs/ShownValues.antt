@@ -1,15 +1,15 @@
 -- The value of five cards by how often their ranks occur.
-use Rattle.std.proofs.Common.{◌≡◌, ℕ, ◌+◌, ◌<◌, ◌≤◌, ◌⊎◌, inl, inr, Bool, true, false, leb, List, [], ◌∷◌, length, Some, None, refl, sym, ap, ◌∙◌, subst, le_refl, le_trans, le-leb, lit≤, arith}
+use Rattle.std.proofs.Common.{◌≡◌, ℕ, ◌<◌, ◌≤◌, ◌⊎◌, inl, inr, Bool, true, false, leb, List, [], ◌∷◌, length, Some, None, refl, sym, ap, ◌∙◌, subst, arith}
 use Rattle.std.specs.Prelude.{Option, map}
 use Rattle.std.proofs.lemmas.Bool.Decides.{nat_tests}
 use Rattle.card_set.specs.declared.card.Card.{Card}
 use Rattle.card_choices.proofs.ListOrder.{Upto}
 use Rattle.hand_rank.specs.declared.category.Category.{Category}
-use Rattle.hand_rank.specs.declared.category.Category.TheVariants.{HighCard, OnePair, TwoPair, ThreeOfAKind, Straight, Flush, FullHouse, FourOfAKind, StraightFlush}
+use Rattle.hand_rank.specs.declared.category.Category.TheVariants.{OnePair, TwoPair, ThreeOfAKind, FullHouse, FourOfAKind}
 use Rattle.hand_rank.specs.Values.{category_number, category_of, count_of_rank, distinct_ranks, run_top, are_of_one_suit, value_of_distinct, value_by, five_card_value}
 use Rattle.hand_rank.specs.Picks.{picked}
-use Rattle.hand_rank.proofs.PickLaws.{Has, Falls, picked-has, picked-greatest}
-use Rattle.hand_rank.proofs.Sections.{sections, sections-picked, sections-fall, sections-greatest, sections-sum, added, IsShape, shape-of}
+use Rattle.hand_rank.proofs.PickLaws.{Has, Falls, picked-greatest}
+use Rattle.hand_rank.proofs.Sections.{sections-picked, sections-fall, sections-greatest, sections-sum, IsShape, shape-of}
 use Rattle.hand_rank.proofs.CardCounts.{other-rank, distinct_ranks-sections, total-cards}
 use Rattle.hand_rank.proofs.CountLaws.{value-by}
 use Rattle.hand_rank.proofs.RunLaws.{AreFive, picked-five}

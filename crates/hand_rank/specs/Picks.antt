@@ -1,5 +1,5 @@
 -- Ranks picked by how often they occur. This project's own.
-use Rattle.std.specs.Prelude.{ℕ, zero, suc, Bool, ◌==◌, nat_le, cond, List, [], ◌∷◌, Option, Some, None, option_map, option_and_then}
+use Rattle.std.specs.Prelude.{ℕ, zero, suc, Bool, ◌==◌, nat_le, cond, List, [], ◌∷◌, Option, Some, None, option_map}
 
 -- the highest number below a bound that passes a test
 unfoldable pub highest_below : (ℕ → Bool) → ℕ → Option ℕ

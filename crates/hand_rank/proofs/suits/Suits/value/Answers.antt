@@ -1,4 +1,4 @@
-use Rattle.std.proofs.Common.{◌∙◌, lit≤}
+use Rattle.std.proofs.Common.{lit≤}
 use Rattle.hand_rank.specs.Made.{count_of_suit}
 use Rattle.hand_rank.specs.Values.{count_of_rank}
 use Rattle.hand_rank.proofs.SuitLaws.{suit-has, value-from}

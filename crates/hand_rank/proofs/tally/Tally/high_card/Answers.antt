@@ -1,8 +1,6 @@
-use Rattle.std.proofs.Common.{◌∷◌, [], ◌++◌, ◌∙◌, sym, ap, Some}
+use Rattle.std.proofs.Common.{◌∙◌, sym, ap, Some}
 use Rattle.hand_rank.specs.Made.{made}
-use Rattle.hand_rank.specs.Picks.{without, picked}
 use Rattle.hand_rank.specs.declared.category.Category.TheVariants.{HighCard}
-use Rattle.hand_rank.proofs.SetLaws.{picks-none, behind-none, behind-some, picked-nothing, without-has}
 use Rattle.hand_rank.proofs.tally.Tally.high_card.Goals as goal
 
 pub returns-in_err-ranks : goal.returns-in_err-ranks

@@ -1,8 +1,8 @@
 use Rattle.std.proofs.Common.{◌∷◌, [], ◌++◌, ◌∙◌, sym, ap, Some}
 use Rattle.hand_rank.specs.Made.{made}
-use Rattle.hand_rank.specs.Picks.{without, picked}
+use Rattle.hand_rank.specs.Picks.{without}
 use Rattle.hand_rank.specs.declared.category.Category.TheVariants.{OnePair}
-use Rattle.hand_rank.proofs.SetLaws.{picks-none, behind-none, behind-some, picked-nothing, without-has}
+use Rattle.hand_rank.proofs.SetLaws.{picks-none, behind-none, behind-some, without-has}
 use Rattle.hand_rank.proofs.tally.Tally.one_pair.Goals as goal
 
 pub returns-in_err-pair : goal.returns-in_err-pair

@@ -1,8 +1,8 @@
 use Rattle.std.proofs.Common.{◌∷◌, [], ◌++◌, ◌∙◌, sym, ap, Some}
 use Rattle.hand_rank.specs.Made.{made}
-use Rattle.hand_rank.specs.Picks.{without, picked}
+use Rattle.hand_rank.specs.Picks.{without}
 use Rattle.hand_rank.specs.declared.category.Category.TheVariants.{ThreeOfAKind}
-use Rattle.hand_rank.proofs.SetLaws.{picks-none, behind-none, behind-some, picked-nothing, without-has}
+use Rattle.hand_rank.proofs.SetLaws.{picks-none, behind-none, behind-some, without-has}
 use Rattle.hand_rank.proofs.tally.Tally.three_of_a_kind.Goals as goal
 
 pub returns-in_err-three : goal.returns-in_err-three
