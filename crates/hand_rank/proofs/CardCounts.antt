@@ -1,6 +1,6 @@
 -- How often ranks occur among cards, and among those of a suit.
-use Rattle.std.proofs.Common.{◌≡◌, ℕ, zero, suc, ◌+◌, ◌<◌, ◌≤◌, ◌⊎◌, inl, inr, Bool, true, false, ◌&&◌, ◌||◌, cond, eqb, List, [], ◌∷◌, ◌++◌, length, refl, sym, ap, ap₂, ◌∙◌, subst, zero-le, le_refl, eqb-true, eq-eqb, append_assoc, append-nil, arith}
-use Rattle.std.specs.Prelude.{count_by, filter}
+use Rattle.std.proofs.Common.{◌≡◌, ℕ, zero, suc, ◌+◌, ◌<◌, ◌≤◌, ◌⊎◌, inr, Bool, true, false, ◌&&◌, ◌||◌, cond, eqb, List, [], ◌∷◌, ◌++◌, length, refl, sym, ap, ap₂, ◌∙◌, subst, zero-le, eqb-true, eq-eqb, append_assoc, append-nil, arith}
+use Rattle.std.specs.Prelude.{filter}
 use Rattle.std.specs.List.{list_all, list_any}
 use Rattle.std.proofs.lemmas.Bool.Decides.{nat_tests}
 use Rattle.std.proofs.lemmas.List.Elements.{filter-append}
@@ -12,7 +12,8 @@ use Rattle.hand_rank.specs.Values.{ranks_down, count_of_rank, ranks_that_occur, 
 use Rattle.hand_rank.specs.Made.{count_of_suit, AreOnce}
 use Rattle.hand_rank.proofs.Chosen.{count_by-cons}
 use Rattle.hand_rank.proofs.CountLaws.{count_of_rank-cons}
-use Rattle.hand_rank.proofs.Sections.{falling, sections, total, total-same}
+use Rattle.hand_rank.specs.Shown.{falling}
+use Rattle.hand_rank.proofs.Sections.{sections, total, total-same}
 
 -- the numbers below a bound, from the highest down
 unfoldable down : ℕ → List ℕ

@@ -3,13 +3,16 @@ pub mod CardCounts
 pub mod ChangeLaws
 pub mod Chosen
 pub mod CountLaws
+pub mod FiveLaws
 pub mod MadeLaws
 pub mod Needs
 pub mod OmahaLaws
+pub mod PartLaws
 pub mod PickLaws
 pub mod RunLaws
 pub mod RunTable
 pub mod Sections
 pub mod SetLaws
+pub mod SetOrder
 pub mod ShownValues
 pub mod SuitLaws

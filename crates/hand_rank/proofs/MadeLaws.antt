@@ -1,13 +1,12 @@
 -- The greatest value of five of some cards is the greatest value that the cards make.
-use Rattle.std.proofs.Common.{◌≡◌, ℕ, zero, suc, ◌+◌, ◌<◌, ◌-◌, ◌≤◌, ◌⊎◌, inl, inr, Bool, true, false, ◌&&◌, eqb, leb, List, [], ◌∷◌, length, Some, None, refl, sym, ap, ap₂, ◌∙◌, subst, le_trans, le_of_eq, eqb-true, leb-true, le-leb, lit≤, arith}
+use Rattle.std.proofs.Common.{◌≡◌, ℕ, ◌<◌, ◌-◌, ◌≤◌, ◌⊎◌, inl, inr, Bool, true, false, ◌&&◌, eqb, leb, List, [], ◌∷◌, length, Some, None, refl, sym, ap, ap₂, ◌∙◌, subst, le_trans, le_of_eq, eqb-true, leb-true, le-leb, lit≤, arith}
 use Rattle.std.proofs.lemmas.Bool.Decides.{nat_tests}
 use Rattle.std.specs.Prelude.{Option, option_map, map, filter}
 use Rattle.card_set.specs.declared.card.Card.{Card}
 use Rattle.card_choices.specs.Choices.{choices}
 use Rattle.card_choices.proofs.Combined.{combined}
 use Rattle.card_choices.proofs.ListOrder.{Upto, upto_both, upto_through, max-within, max-above_left, max-above_right}
-use Rattle.hand_rank.specs.declared.category.Category.{Category}
-use Rattle.hand_rank.specs.Values.{category_number, count_of_rank, distinct_ranks, run_top, are_of_one_suit, value_of_distinct, value_by, five_card_value}
+use Rattle.hand_rank.specs.Values.{count_of_rank, distinct_ranks, run_top, are_of_one_suit, value_of_distinct, five_card_value}
 use Rattle.hand_rank.specs.BestHigh.{greater, greatest, best_high}
 use Rattle.hand_rank.specs.Picks.{picked}
 use Rattle.hand_rank.specs.Runs.{highest_run}
@@ -18,8 +17,8 @@ use Rattle.hand_rank.proofs.CardCounts.{other-rank, total-cards, once-few, suite
 use Rattle.hand_rank.proofs.PickLaws.{Has, Falls, has-more, picked-has, picked-greatest, picked-some}
 use Rattle.hand_rank.proofs.Sections.{total, added, IsShape}
 use Rattle.hand_rank.proofs.Needs.{five-with, has-sum, has-only, has-once}
-use Rattle.hand_rank.proofs.RunLaws.{Implies, occurring, is_run-more, run-found, IsRunTo, run-is, run-same, RunRanks, run-ranks, AreFive, five-run, run-five}
-use Rattle.hand_rank.proofs.ShownValues.{often_of, AreShown, shown-shape, shown-picked, shown-once, shown-five, occurs-from_two, shown-value, number_of, shown-above, split}
+use Rattle.hand_rank.proofs.RunLaws.{Implies, occurring, is_run-more, run-found, IsRunTo, run-is, run-same, run-ranks, five-run, run-five}
+use Rattle.hand_rank.proofs.ShownValues.{often_of, AreShown, shown-shape, shown-picked, shown-once, shown-five, occurs-from_two, shown-value, number_of, shown-above}
 
 -- a value comes no later than a list of values where it comes no later than a later one, and those before are of higher categories
 over : {A : Type 0} (k n : ℕ) (v : List ℕ) (f : A → List ℕ) (o : Option A) (others : List (Option (List ℕ))) → k < n → Upto (k ∷ v) (first_made others) → Upto (k ∷ v) (first_made (option_map (λ x. n ∷ f x) o ∷ others))
@@ -34,10 +33,10 @@ each : {A : Type 0} (n : ℕ) (f : A → List ℕ) (o : Option A) (others : List
 each n f None others b one rest = rest
 each n f (Some x) others b one rest = one x refl
 
-abbrev ones : List ℕ
+abbrev pub ones : List ℕ
 ones = 1 ∷ 1 ∷ 1 ∷ 1 ∷ 1 ∷ []
 
-fall_ones : Falls 1 ones
+pub fall_ones : Falls 1 ones
 fall_ones = (lit≤ tt, lit≤ tt, (lit≤ tt, lit≤ tt, (lit≤ tt, lit≤ tt, (lit≤ tt, lit≤ tt, (lit≤ tt, lit≤ tt, tt)))))
 
 -- there are ranks to be picked, and they come no earlier
@@ -161,7 +160,7 @@ run-more : (a b : ℕ → ℕ) (top : ℕ) → ((r : ℕ) → a r ≤ b r) → I
 run-more a b top less is = record { low = is.low; high = is.high; runs = is_run-more (occurring a) (occurring b) top (more-occur a b less) is.runs }
 
 -- the top rank of five distinct ranks that run
-shown-run : (five : List Card) (top : ℕ) → AreShown five → often_of five ≡ ones → run_top (distinct_ranks five) ≡ Some top → IsRunTo (occurring (count_of_rank five)) top
+pub shown-run : (five : List Card) (top : ℕ) → AreShown five → often_of five ≡ ones → run_top (distinct_ranks five) ≡ Some top → IsRunTo (occurring (count_of_rank five)) top
 shown-run five top shown is run =
     let at = shown-five five shown is in
     let high = at.top in

@@ -1,13 +1,14 @@
 -- The highest run from bits, computed over all sets of ranks.
-use Rattle.std.proofs.Common.{◌≡◌, ℕ, zero, suc, ◌+◌, ◌-◌, ◌*◌, ◌/◌, ◌%◌, ◌^◌, ◌<◌, ◌≤◌, ◌⊎◌, inl, inr, Bool, true, false, ◌&&◌, eqb, leb, cond, Some, None, refl, sym, ap, ◌∙◌, subst, eqb-true, leb-true, arith}
+use Rattle.std.proofs.Common.{◌≡◌, ℕ, zero, suc, ◌-◌, ◌*◌, ◌/◌, ◌%◌, ◌^◌, ◌<◌, ◌≤◌, ◌⊎◌, inl, inr, Bool, true, false, ◌&&◌, eqb, leb, cond, Some, None, refl, sym, ap, ◌∙◌, eqb-true, leb-true, arith}
 use Rattle.std.specs.Prelude.{Option, bit_and, bit_or}
 use Rattle.std.specs.Int.Count.{count_leading_zeros}
+use Rattle.std.proofs.lemmas.Nat.{and_le_r, or_lt}
 use Rattle.std.proofs.lemmas.Nat.Bits.{bit_at_above}
 use Rattle.std.proofs.lemmas.Bool.Decides.{nat_tests}
-use Rattle.hand_rank.specs.Picks.{highest_below}
 use Rattle.hand_rank.specs.Runs.{highest_run}
 use Rattle.hand_rank.specs.Sets.{has_rank, HasRanks}
 use Rattle.hand_rank.proofs.RunLaws.{run-same, occurring}
+use Rattle.hand_rank.proofs.SetLaws.{top-within}
 
 and_parts : (a b : Bool) → (a && b) ≡ true → (a ≡ true) × (b ≡ true)
 and_parts true b h = (refl, h)
@@ -104,3 +105,13 @@ unfolding run_by_bits
 run-some bits count fits has some =
     let other : eqb (runs_of (places_of bits)) 0 ≡ false = grind (arith, nat_tests) in
     rw other at (run-of_bits bits count fits has)
+
+-- the top of a run is a rank
+pub run-within : (bits : ℕ) → bits < 2 ^ 16 → (runs_of (places_of bits) ≡ 0 → ⊥) → 19 - count_leading_zeros 16 (runs_of (places_of bits)) < 16
+unfolding runs_of places_of
+run-within bits fits some =
+    let places = places_of bits in
+    let low = and_le_r (bits / 8192) 2 in
+    let within : places < 2 ^ 16 = or_lt 16 bits (bit_and (bits / 8192) 2) fits (omega arith) in
+    let less = and_le_r (bit_and (bit_and (bit_and places (places / 2)) (places / 4)) (places / 8)) (places / 16) in
+    top-within (runs_of places) some (omega arith)

@@ -1,15 +1,11 @@
 -- The ranks by how often they occur are the ranks that are picked for these numbers.
-use Rattle.std.proofs.Common.{◌≡◌, ℕ, zero, suc, ◌+◌, ◌<◌, ◌≤◌, ◌⊎◌, inl, inr, Bool, true, false, cond, eqb, leb, List, [], ◌∷◌, ◌++◌, Some, refl, sym, ap, ap₂, ◌∙◌, subst, zero-le, le_refl, le_trans, eqb-true, eq-eqb, leb-true, le-leb, arith}
+use Rattle.std.proofs.Common.{◌≡◌, ℕ, zero, suc, ◌+◌, ◌<◌, ◌≤◌, ◌⊎◌, inl, inr, Bool, true, false, cond, eqb, leb, List, [], ◌∷◌, ◌++◌, Some, refl, sym, ap, ap₂, ◌∙◌, subst, le_refl, le_trans, eqb-true, eq-eqb, leb-true, le-leb, arith}
 use Rattle.std.specs.Prelude.{map}
 use Rattle.std.proofs.lemmas.Bool.Decides.{nat_tests}
 use Rattle.card_choices.proofs.ListOrder.{Upto}
 use Rattle.hand_rank.specs.Picks.{without, picked}
-use Rattle.hand_rank.proofs.PickLaws.{IsHighest, Has, Falls, without-le, without-other, without-less, without-some, picked-from, behind-highest}
-
--- the numbers below a bound that pass a test, from the highest down
-unfoldable pub falling : (ℕ → Bool) → ℕ → List ℕ
-falling test zero = []
-falling test (suc n) = cond (test n) (n ∷ falling test n) (falling test n)
+use Rattle.hand_rank.specs.Shown.{falling}
+use Rattle.hand_rank.proofs.PickLaws.{IsHighest, Has, Falls, without-other, without-less, without-some, picked-from, behind-highest}
 
 pub falling-same : (test other : ℕ → Bool) (n : ℕ) → ((r : ℕ) → r < n → test r ≡ other r) → falling test n ≡ falling other n
 unfolding falling

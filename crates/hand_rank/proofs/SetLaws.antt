@@ -1,8 +1,9 @@
 -- What steps on sets of ranks do to their ranks.
-use Rattle.std.proofs.Common.{◌≡◌, ℕ, zero, suc, ◌+◌, ◌-◌, ◌*◌, ◌/◌, ◌%◌, ◌^◌, ◌<◌, ◌≤◌, ◌≢◌, ◌⊎◌, inl, inr, Bool, true, false, ◌&&◌, ◌||◌, not, eqb, leb, cond, List, [], ◌∷◌, length, Some, None, refl, lit≤, zero-le, sym, ap, ap₂, ◌∙◌, subst, eqb-true, leb-true, le-leb, pow-suc, arith}
+use Rattle.std.proofs.Common.{◌≡◌, ℕ, zero, suc, ◌+◌, ◌-◌, ◌*◌, ◌/◌, ◌%◌, ◌^◌, ◌<◌, ◌≤◌, ◌≢◌, inl, inr, Bool, true, false, ◌&&◌, ◌||◌, not, eqb, leb, cond, List, [], ◌∷◌, length, Some, None, refl, lit≤, zero-le, sym, ap, ap₂, ◌∙◌, subst, eqb-true, leb-true, le-leb, pow-suc, arith}
 use Rattle.std.specs.Prelude.{Option, option_map, bit_and, bit_or, count_ones}
 use Rattle.std.specs.Int.{bit_not, w16}
 use Rattle.std.specs.Int.Count.{count_leading_zeros, ones_step, ones-le}
+use Rattle.std.proofs.Math.Pow.{pow_mono}
 use Rattle.std.proofs.lemmas.Nat.{leading_top}
 use Rattle.std.proofs.lemmas.Nat.Bits.{bit_at_lowest, bit_at-suc, bit_at_and, bit_at_or, bit_at_set_same, bit_at_set_other, bit_at_clear_same, bit_at_clear_other, bit_at_above, bit_at-lt, bit_at-zero}
 use Rattle.std.proofs.lemmas.Bool.Decides.{nat_tests}
@@ -58,7 +59,7 @@ has_rank_without mask rank r within inside =
     ] refl
 
 -- the place of the highest bit
-highest_top : (mask : ℕ) → mask ≢ 0 → mask < 2 ^ 16 → (has_rank mask (15 - count_leading_zeros 16 mask) ≡ true) × ((r : ℕ) → 15 - count_leading_zeros 16 mask < r → has_rank mask r ≡ false)
+pub highest_top : (mask : ℕ) → mask ≢ 0 → mask < 2 ^ 16 → (has_rank mask (15 - count_leading_zeros 16 mask) ≡ true) × ((r : ℕ) → 15 - count_leading_zeros 16 mask < r → has_rank mask r ≡ false)
 highest_top mask some fits =
     let top = leading_top 16 mask (grind arith) fits in
     let place : top.0 ≡ 15 - count_leading_zeros 16 mask = omega (arith, top.1) in
@@ -68,6 +69,20 @@ highest_top mask some fits =
   where
     div-is-one : (a p : ℕ) → p ≤ a → a < p * 2 → a / p ≡ 1
     div-is-one a p low high = grind arith
+
+-- the top of a run that begins below 12
+pub top-within : (runs : ℕ) → runs ≢ 0 → runs < 2 ^ 12 → 19 - count_leading_zeros 16 runs < 16
+top-within runs some fits =
+    let top = leading_top 16 runs (grind arith) (omega arith) in
+    let low : top.0 < 12 = below top.0 12 runs top.2 fits in
+    omega (arith, top.1)
+  where
+    below : (m n runs : ℕ) → 2 ^ m ≤ runs → runs < 2 ^ n → m < n
+    below m n runs least most =
+        elim (leb n m) as (λ b. leb n m ≡ b → m < n) [
+          | true ↦ λ more. let large : 2 ^ n ≤ 2 ^ m = pow_mono {i = n} {j = m} (leb-true n m more) in absurd (omega arith)
+          | false ↦ λ less. grind (arith, nat_tests)
+        ] refl
 
 -- the highest rank of a set that is not empty
 pub highest-some : (mask : ℕ) → mask ≢ 0 → mask < 2 ^ 16 → highest_below (has_rank mask) 16 ≡ Some (15 - count_leading_zeros 16 mask)
@@ -140,7 +155,7 @@ unfolding picked
 picked-nothing count = refl
 
 -- how many numbers below a bound pass a test
-unfoldable how_many : (ℕ → Bool) → ℕ → ℕ
+unfoldable pub how_many : (ℕ → Bool) → ℕ → ℕ
 how_many test zero = 0
 how_many test (suc n) = cond (test n) 1 0 + how_many test n
 
@@ -161,7 +176,7 @@ how_many-shifted mask (suc n) =
     let next : has_rank mask (suc n) ≡ has_rank (mask / 2) n = ap (λ b. eqb b 1) (bit_at-suc mask n) in
     rw next (omega arith)
 
-ones_counted : (n mask : ℕ) → mask < 2 ^ n → count_ones mask ≡ how_many (has_rank mask) n
+pub ones_counted : (n mask : ℕ) → mask < 2 ^ n → count_ones mask ≡ how_many (has_rank mask) n
 unfolding how_many
 ones_counted zero mask fits = let none = ones-le 0 mask fits in omega arith
 ones_counted (suc n) mask fits =

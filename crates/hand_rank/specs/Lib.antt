@@ -5,4 +5,5 @@ pub mod Padded
 pub mod Picks
 pub mod Runs
 pub mod Sets
+pub mod Shown
 pub mod Values

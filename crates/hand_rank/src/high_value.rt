@@ -1,6 +1,7 @@
 //! The value of five cards.
 
 ghost use Rattle.std.specs.Prelude.{◌≡◌, ◌+◌, ◌≤◌, ◌∷◌, ◌++◌, [], length, nat_eq, Some};
+ghost use Rattle.hand_rank.specs.Shown.{ranks_of};
 ghost use Rattle.hand_rank.specs.Values.{category_number};
 ghost use Rattle.std.proofs.Common.{rules};
 ghost use Rattle.std.specs.Ordering.{nat_cmp};
@@ -9,6 +10,7 @@ ghost use Rattle.std.specs.Cmp.Lexicographic.{pointwise, slice_cmp, nat_list_eq_
 
 use crate::category::Category;
 use crate::numbers::Numbers;
+use crate::rank_set::RankSet;
 use std::cmp::Ordering;
 use std::marker::Model;
 
@@ -60,6 +62,21 @@ impl HighValue {
         let mut numbers = self.numbers;
         for rank in ranks {
             numbers.push(*rank);
+        }
+        HighValue { numbers }
+    }
+
+    /// The value with the ranks of a set behind those that it has, higher ones first.
+    pub(crate) fn with_ranks(self, ranks: RankSet) -> HighValue
+        requires { length self + length (ranks_of ranks.bits) ≤ 6 }
+        ensures { result ≡ self ++ ranks_of ranks.bits }
+    {
+        let mut numbers = self.numbers;
+        for passed in 0..16 {
+            let rank = 15 - passed;
+            if ranks.has(rank) {
+                numbers.push(rank);
+            }
         }
         HighValue { numbers }
     }

@@ -12,6 +12,7 @@ mod high_value;
 mod laws;
 mod numbers;
 mod rank_set;
+mod shown;
 mod suits;
 mod tally;
 #[cfg(test)]

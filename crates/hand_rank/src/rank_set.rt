@@ -1,10 +1,11 @@
 //! Sets of ranks.
 
-ghost use Rattle.std.specs.Prelude.{◌≡◌, ◌<◌, ℕ, ◌&&◌, ◌||◌, ◌==◌, ◌∷◌, [], not, nat_le, false, IfSome};
+ghost use Rattle.std.specs.Prelude.{◌≡◌, ◌<◌, ◌≤◌, ℕ, ◌&&◌, ◌||◌, ◌==◌, ◌∷◌, [], length, not, nat_le, true, false, IfSome};
 ghost use Rattle.hand_rank.specs.Picks.{highest_below, picked};
 ghost use Rattle.hand_rank.specs.Made.{value_of_suit};
 ghost use Rattle.hand_rank.specs.Runs.{highest_run};
 ghost use Rattle.hand_rank.specs.Sets.{has_rank, HasRanks};
+ghost use Rattle.hand_rank.specs.Shown.{ranks_of};
 
 /// A set of ranks, from 2 to 14 for the ace: a rank is in it where the bit of its number is 1.
 #[derive(Clone, Copy, Debug)]
@@ -18,6 +19,14 @@ impl RankSet {
         ensures { result.bits ≡ 0 }
     {
         RankSet { bits: 0 }
+    }
+
+    /// The set of one rank.
+    pub fn of(rank: u8) -> RankSet
+        requires { rank < 16 }
+        ensures ranks { (r : ℕ) → has_rank result.bits r ≡ (r == rank) }
+    {
+        RankSet::empty().with(rank)
     }
 
     /// The set with a rank in it.
@@ -60,6 +69,38 @@ impl RankSet {
         RankSet {
             bits: self.bits & other.bits,
         }
+    }
+
+    /// The ranks of this set that the other has not.
+    pub fn minus(self, other: RankSet) -> RankSet
+        ensures { (r : ℕ) → r < 16 → has_rank result.bits r ≡ (has_rank self.bits r && not (has_rank other.bits r)) }
+    {
+        RankSet {
+            bits: self.bits & !other.bits,
+        }
+    }
+
+    /// Whether a rank is in the set.
+    pub fn has(self, rank: u8) -> bool
+        requires { rank < 16 }
+        ensures { result ≡ has_rank self.bits rank }
+    {
+        self.bits >> rank & 1 == 1
+    }
+
+    /// Whether there is no rank.
+    pub fn is_empty(self) -> bool
+        ensures none { result ≡ true → ranks_of self.bits ≡ [] }
+        ensures some { result ≡ false → 1 ≤ length (ranks_of self.bits) }
+    {
+        self.bits == 0
+    }
+
+    /// Whether there are two ranks or more.
+    pub fn has_two(self) -> bool
+        ensures { result ≡ nat_le 2 (length (ranks_of self.bits)) }
+    {
+        self.bits.count_ones() >= 2
     }
 
     /// Whether there are five ranks or more.
@@ -121,7 +162,9 @@ impl RankSet {
 
     /// The top rank of the highest five ranks that run, with the ace also below the two. `None` where no five run.
     pub fn highest_run(self) -> Option<u8>
-        ensures { (count : ℕ → ℕ) → HasRanks self.bits 1 count → result ≡ highest_run (λ rank. nat_le 1 (count rank)) }
+        ensures top { (count : ℕ → ℕ) → HasRanks self.bits 1 count
+            → result ≡ highest_run (λ rank. nat_le 1 (count rank)) }
+        ensures within { IfSome result (λ top. top < 16) }
     {
         let places = self.bits | (self.bits >> 13 & 2);
         let runs = places & places >> 1 & places >> 2 & places >> 3 & places >> 4;

@@ -1,6 +1,6 @@
 //! The best value of cards whatever their suits, by how often their ranks occur.
 
-ghost use Rattle.std.specs.Prelude.{◌≡◌, ℕ, ◌∷◌, []};
+ghost use Rattle.std.specs.Prelude.{◌≡◌, ℕ, ◌+◌, ◌≤◌, ◌==◌, ◌∷◌, [], cond};
 ghost use Rattle.hand_rank.specs.Made.{made, run_made, value_of_ranks};
 ghost use Rattle.hand_rank.specs.Picks.{picked};
 ghost use Rattle.hand_rank.specs.Sets.{IsTallyOf};
@@ -19,6 +19,49 @@ pub struct Tally {
 }
 
 impl Tally {
+    /// How often ranks occur in one card.
+    pub fn of(rank: u8) -> Tally
+        requires low { 2 ≤ rank }
+        requires high { rank ≤ 14 }
+        ensures { (count : ℕ → ℕ) → ((r : ℕ) → count r ≡ cond (rank == r) 1 0)
+            → IsTallyOf result.once.bits result.twice.bits result.thrice.bits result.four.bits count }
+    {
+        Tally {
+            once: RankSet::of(rank),
+            twice: RankSet::empty(),
+            thrice: RankSet::empty(),
+            four: RankSet::empty(),
+        }
+    }
+
+    /// How often ranks occur in some cards and in others.
+    pub fn union(self, others: Tally) -> Tally
+        ensures { (one other both : ℕ → ℕ)
+            → IsTallyOf self.once.bits self.twice.bits self.thrice.bits self.four.bits one
+            → IsTallyOf others.once.bits others.twice.bits others.thrice.bits others.four.bits other
+            → ((r : ℕ) → both r ≡ one r + other r)
+            → IsTallyOf result.once.bits result.twice.bits result.thrice.bits result.four.bits both }
+    {
+        let one_and_one = self.once.meet(others.once);
+        let two_and_one = self.twice.meet(others.once);
+        let one_and_two = self.once.meet(others.twice);
+        let three_and_one = self.thrice.meet(others.once);
+        let two_and_two = self.twice.meet(others.twice);
+        let one_and_three = self.once.meet(others.thrice);
+        Tally {
+            once: self.once.union(others.once),
+            twice: self.twice.union(others.twice).union(one_and_one),
+            thrice: self
+                .thrice
+                .union(others.thrice)
+                .union(two_and_one.union(one_and_two)),
+            four: self
+                .four
+                .union(others.four)
+                .union(three_and_one.union(two_and_two.union(one_and_three))),
+        }
+    }
+
     fn four_of_a_kind(self) -> Option<HighValue>
         ensures { (count : ℕ → ℕ) → IsTallyOf self.once.bits self.twice.bits self.thrice.bits self.four.bits count
             → result ≡ made Category.FourOfAKind (picked (4 ∷ 1 ∷ []) count) }

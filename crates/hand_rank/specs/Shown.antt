@@ -1,0 +1,80 @@
+-- What five cards show, as sets of ranks. This project's own.
+use Rattle.std.specs.Prelude.{◌≡◌, ℕ, zero, suc, ◌+◌, ◌≤◌, Bool, ◌==◌, nat_lt, cond, if◌then◌else◌, List, [], ◌∷◌, ◌++◌, length, Option, Some, None}
+use Rattle.std.specs.List.{list_all}
+use Rattle.card_set.specs.declared.card.Card.{Card}
+use Rattle.hand_rank.specs.declared.shown.Part.{Part}
+use Rattle.hand_rank.specs.declared.shown.Shown.{Shown}
+use Rattle.hand_rank.specs.BestHigh.{greater, best_high}
+use Rattle.hand_rank.specs.Sets.{has_rank, HasRanks, IsTallyOf}
+use Rattle.hand_rank.specs.Values.{category_number, count_of_rank, five_card_value}
+
+-- the numbers below a bound that pass a test, from the highest down
+unfoldable pub falling : (ℕ → Bool) → ℕ → List ℕ
+falling test zero = []
+falling test (suc n) = cond (test n) (n ∷ falling test n) (falling test n)
+
+-- the ranks of a set, from the highest down
+abbrev pub ranks_of : ℕ → List ℕ
+ranks_of bits = falling (has_rank bits) 16
+
+-- the value of what is shown: the category, then the ranks that occur most often, then the others
+abbrev pub shown_value : Shown → List ℕ
+shown_value shown = category_number shown.category ∷ ranks_of shown.most.bits ++ ranks_of shown.others.bits
+
+-- how many ranks occur most often, by the number of the category: two pairs have two, five distinct ranks none
+abbrev pub most_of : ℕ → ℕ
+most_of number = if number == 2 then 2 else if number == 0 then 0 else if number == 5 then 0 else 1
+
+-- so many ranks occur most often as in the category, and there are five at most
+pub record IsSized (shown : Shown) : Type 0 where
+  pub most : length (ranks_of shown.most.bits) ≡ most_of (category_number shown.category)
+  pub few : length (ranks_of shown.most.bits) + length (ranks_of shown.others.bits) ≤ 5
+
+-- whether what is shown is less than another: by the category, then by the ranks that occur most often, then by the
+-- others
+abbrev pub is_less : Shown → Shown → Bool
+is_less one other =
+    if category_number one.category == category_number other.category then
+    if one.most.bits == other.most.bits then nat_lt one.others.bits other.others.bits
+    else nat_lt one.most.bits other.most.bits
+    else nat_lt (category_number one.category) (category_number other.category)
+
+-- five cards show this
+pub record IsShownBy (shown : Shown) (cards : List Card) : Type 0 where
+  pub value : shown_value shown ≡ five_card_value cards
+  pub sized : IsSized shown
+
+-- a set has the ranks of five cards, of which each occurs once
+pub record AreSingles (bits : ℕ) (cards : List Card) : Type 0 where
+  pub five : length cards ≡ 5
+  pub occur : HasRanks bits 1 (count_of_rank cards)
+  pub once : (rank : ℕ) → count_of_rank cards rank ≤ 1
+
+-- the suit that all cards have, if there is one
+abbrev pub suit_of : List Card → Option ℕ
+suit_of [] = None
+suit_of (first ∷ others) = if list_all (λ other. other.suit == first.suit) others then Some first.suit else None
+
+-- the suit of both, if it is one
+abbrev pub common : Option ℕ → Option ℕ → Option ℕ
+common None other = None
+common (Some suit) None = None
+common (Some suit) (Some other) = if suit == other then Some suit else None
+
+-- how often the ranks of some cards occur, and the suit that all of them have
+pub record IsPartOf (part : Part) (cards : List Card) : Type 0 where
+  pub tally : IsTallyOf
+      part.tally.once.bits part.tally.twice.bits part.tally.thrice.bits part.tally.four.bits (count_of_rank cards)
+  pub suit : part.suit ≡ suit_of cards
+
+-- parts of so many lists of cards, in their order
+abbrev pub AreParts : List Part → List (List Card) → Type 0
+AreParts [] [] = Unit {0}
+AreParts [] (cards ∷ others) = ⊥
+AreParts (part ∷ parts) [] = ⊥
+AreParts (part ∷ parts) (cards ∷ others) = IsPartOf part cards × AreParts parts others
+
+-- the greater of what was shown best and of the greatest value of some choices
+pub record IsBetter (best : Shown) (hands : List (List Card)) (better : Shown) : Type 0 where
+  pub value : shown_value better ≡ greater (shown_value best) (best_high hands)
+  pub sized : IsSized better
