@@ -1,19 +1,10 @@
 -- Pairs of hole cards with three board cards.
-use Rattle.std.proofs.Common.{◌≡◌, ℕ, zero, suc, ◌+◌, ◌<◌, ◌≤◌, inl, inr, true, false, ◌&&◌, eqb, List, [], ◌∷◌, ◌++◌, length, get_or, refl, sym, ap, ap₂, ◌∙◌, subst, le_trans, length-append, arith}
+use Rattle.std.proofs.Common.{◌≡◌, ℕ, zero, suc, ◌<◌, inl, inr, ◌&&◌, eqb, List, [], ◌∷◌, ◌++◌, length, get_or, refl, sym, ap, ◌∙◌, subst, le_trans, arith}
 use Rattle.std.specs.Prelude.{map}
-use Rattle.std.specs.Ordering.{nat_cmp, is_lt}
-use Rattle.std.specs.Cmp.Lexicographic.{slice_cmp}
 use Rattle.card_set.specs.declared.card.Card.{Card}
 use Rattle.card_choices.specs.Choices.{choices}
-use Rattle.card_choices.proofs.Combined.{combined, combined-map}
-use Rattle.card_choices.proofs.ListOrder.{Upto, upto_itself, upto_through, upto_either, upto-lt, max_lower}
-use Rattle.hand_rank.specs.BestHigh.{greater, best_high}
-use Rattle.hand_rank.specs.Values.{five_card_value}
-use Rattle.hand_rank.specs.Made.{count_of_suit, value_made, AreOnce}
-use Rattle.hand_rank.proofs.BestLaws.{best_high-one}
-use Rattle.hand_rank.proofs.ChangeLaws.{best_high-combined}
-use Rattle.hand_rank.proofs.Chosen.{IsChoice, count-choice, chosen-within, chosen-above, skip}
-use Rattle.hand_rank.proofs.MadeLaws.{best-made}
+use Rattle.hand_rank.specs.Made.{AreOnce}
+use Rattle.hand_rank.proofs.Chosen.{IsChoice, count-choice, skip}
 
 -- so many of a list are a choice of it
 record IsOf {A : Type 0} (n : ℕ) (xs c : List A) : Type 0 where
@@ -73,50 +64,3 @@ itself (x ∷ xs) = inl (refl, itself xs)
 -- a choice of cards has each rank of each suit no more often
 pub choice-once : (c xs : List Card) → IsChoice c xs → AreOnce xs → AreOnce c
 choice-once c xs is once suit r = le_trans (count-choice (λ (card : Card). eqb card.suit suit && eqb card.rank r) c xs is) (once suit r)
-
-choices-none : {A : Type 0} (n : ℕ) (xs : List A) → length xs < n → choices n xs ≡ []
-choices-none zero xs few = absurd (omega arith)
-choices-none (suc n) [] few = refl
-choices-none (suc n) (x ∷ xs) few =
-    ap₂ (λ a b. map (λ c. x ∷ c) a ++ b) (choices-none n xs (omega arith)) (choices-none (suc n) xs (omega arith))
-
-choices-whole : {A : Type 0} (xs : List A) → choices (length xs) xs ≡ xs ∷ []
-choices-whole [] = refl
-choices-whole (x ∷ xs) =
-    ap₂ (λ a b. map (λ c. x ∷ c) a ++ b) (choices-whole xs) (choices-none (suc (length xs)) xs (omega arith))
-
--- what five cards make is their value
-pub made-five : (five : List Card) → length five ≡ 5 → AreOnce five → value_made five ≡ five_card_value five
-made-five five count once =
-    sym (best-made five once (omega arith))
-    ∙ ap best_high (subst (λ n. choices n five ≡ five ∷ []) count (choices-whole five))
-    ∙ best_high-one five
-
--- a pair and three board cards make no more than the pair and the board
-pub pair-within : (pair board : List Card) → length pair ≡ 2 → 3 ≤ length board → AreOnce (pair ++ board) → Upto (best_high (map (λ three. pair ++ three) (choices 3 board))) (value_made (pair ++ board))
-pair-within pair board two enough once =
-    let cards = pair ++ board in
-    let all : 5 ≤ length cards = omega (arith, length-append pair board) in
-    let made = best_high-combined (choices 5 cards) in
-    subst (λ v. Upto (best_high (map (λ three. pair ++ three) (choices 3 board))) v) (best-made cards once all)
-    (subst (λ v. Upto v (best_high (choices 5 cards))) (sym (best_high-combined (map (λ three. pair ++ three) (choices 3 board)) ∙ combined-map greater [] five_card_value (λ three. pair ++ three) (choices 3 board)))
-    (chosen-within (λ three. five_card_value (pair ++ three)) 3 board (best_high (choices 5 cards)) (λ three is count.
-    let five : length (pair ++ three) ≡ 5 = omega (arith, length-append pair three) in
-    subst (λ v. Upto (five_card_value (pair ++ three)) v) (sym made)
-    (subst (λ n. Upto (five_card_value (pair ++ three)) (combined greater [] five_card_value (choices n cards))) five
-    (chosen-above five_card_value (pair ++ three) cards (choice-joined pair pair three board (itself pair) is))))))
-
--- a value that is not less than another comes no earlier
-pub not_less-upto : (best bound : List ℕ) → is_lt (slice_cmp nat_cmp best bound) ≡ false → Upto bound best
-not_less-upto best bound fails =
-    elim (upto_either bound best) [
-      | inl up ↦ up
-      | inr down ↦ elim (upto-lt best bound down) [
-        | inl less ↦ absurd cc
-        | inr same ↦ subst (λ v. Upto bound v) (sym same) (upto_itself bound)
-      ]
-    ]
-
--- a pair whose bound is no greater does not count
-pub pair-passed : (best bound value : List ℕ) → is_lt (slice_cmp nat_cmp best bound) ≡ false → Upto value bound → greater best value ≡ best
-pair-passed best bound value fails within = max_lower best value (upto_through value bound best within (not_less-upto best bound fails))

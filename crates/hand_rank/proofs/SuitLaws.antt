@@ -1,6 +1,6 @@
 -- The ranks of each suit, and how often ranks occur.
-use Rattle.std.proofs.Common.{◌≡◌, ℕ, ◌+◌, ◌<◌, ◌≤◌, ◌⊎◌, inl, inr, Bool, true, false, ◌&&◌, ◌||◌, eqb, leb, cond, List, [], ◌∷◌, ◌++◌, length, take, set, get_or, get_or-set_same, get_or-set_other, Some, None, refl, lit≤, sym, ap, ap₂, ◌∙◌, subst, eqb-true, length-set, arith}
-use Rattle.std.specs.Prelude.{Option, map, filter}
+use Rattle.std.proofs.Common.{◌≡◌, ℕ, ◌+◌, ◌<◌, ◌≤◌, ◌⊎◌, inl, inr, Bool, true, false, ◌&&◌, ◌||◌, eqb, leb, cond, List, [], ◌∷◌, ◌++◌, length, take, set, get_or, get_or-set_same, get_or-set_other, Some, None, refl, lit≤, sym, ap, ◌∙◌, subst, eqb-true, arith}
+use Rattle.std.specs.Prelude.{Option, filter}
 use Rattle.std.proofs.lemmas.Bool.Decides.{nat_tests}
 use Rattle.std.proofs.lemmas.List.{take_more}
 use Rattle.std.proofs.lemmas.List.Sums.{sum_by-append}
@@ -8,7 +8,7 @@ use Rattle.std.proofs.lemmas.Nat.Bits.{bit_at-zero}
 use Rattle.card_set.specs.declared.card.Card.{Card}
 use Rattle.card_choices.proofs.ListOrder.{max_assoc, max_lower}
 use Rattle.hand_rank.specs.declared.rank_set.RankSet.{RankSet}
-use Rattle.hand_rank.specs.BestHigh.{greater, greatest}
+use Rattle.hand_rank.specs.BestHigh.{greater}
 use Rattle.hand_rank.specs.Made.{first_made, count_of_suit, value_of_suit, value_of_ranks, value_made, AreOnce}
 use Rattle.hand_rank.specs.Sets.{has_rank, HasRanks, IsTallyOf, AreSuitsOf}
 use Rattle.hand_rank.specs.Values.{count_of_rank}
@@ -52,14 +52,6 @@ four-are a b c d cards of_a of_b of_c of_d suit r other within =
 
 count-joined : (cards more : List Card) (suit r : ℕ) → count_of_suit (cards ++ more) suit r ≡ count_of_suit cards suit r + count_of_suit more suit r
 count-joined cards more suit r = sum_by-append (λ (c : Card). cond (eqb c.suit suit && eqb c.rank r) 1 0) cards more
-
--- the ranks of a suit among some cards and others
-pub suit-joined : (cards more : List Card) (suit r : ℕ) (a b : Bool) → a ≡ leb 1 (count_of_suit cards suit r) → b ≡ leb 1 (count_of_suit more suit r) → (a || b) ≡ leb 1 (count_of_suit (cards ++ more) suit r)
-suit-joined cards more suit r a b one other =
-    ap₂ (λ x y. x || y) one other ∙ both (count_of_suit cards suit r) (count_of_suit more suit r) ∙ ap (leb 1) (sym (count-joined cards more suit r))
-  where
-    both : (m n : ℕ) → (leb 1 m || leb 1 n) ≡ leb 1 (m + n)
-    both m n = grind (arith, nat_tests)
 
 -- sets of no ranks have the ranks of no cards
 pub suits-none : (none : RankSet) → none.bits ≡ 0 → AreSuitsOf (none ∷ none ∷ none ∷ none ∷ []) []

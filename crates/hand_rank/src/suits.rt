@@ -1,6 +1,6 @@
 //! The best value of cards, by the ranks of each suit.
 
-ghost use Rattle.std.specs.Prelude.{◌≡◌, ◌++◌, ℕ, List};
+ghost use Rattle.std.specs.Prelude.{◌≡◌, ℕ, List};
 ghost use Rattle.card_set.specs.declared.card.Card.{Card};
 ghost use Rattle.hand_rank.specs.BestHigh.{greater};
 ghost use Rattle.hand_rank.specs.Made.{value_of_suit, value_made, AreOnce};
@@ -54,23 +54,6 @@ impl Suits {
             ranks[suit] = ranks[suit].with(card.rank);
         }
         Suits { ranks }
-    }
-
-    /// The ranks of the suits of these cards and of others.
-    pub fn union(self, others: Suits) -> Suits
-        ensures { (cards more : List Card) → AreSuitsOf self.ranks cards → AreSuitsOf others.ranks more
-            → AreSuitsOf result.ranks (cards ++ more) }
-    {
-        let [clubs, diamonds, hearts, spades] = self.ranks;
-        let [more_clubs, more_diamonds, more_hearts, more_spades] = others.ranks;
-        Suits {
-            ranks: [
-                clubs.union(more_clubs),
-                diamonds.union(more_diamonds),
-                hearts.union(more_hearts),
-                spades.union(more_spades),
-            ],
-        }
     }
 
     /// How often ranks occur. No card may come twice.
