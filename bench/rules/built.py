@@ -17,4 +17,4 @@ PARTS = {
     "notes": "lines that begin with `*`: no lines of the grammar",
     "places": "`* out` lines: not in the report",
 }
-BUILT = {"acts", "time"}
+BUILT = {"acts", "time", "showdowns", "games"}
