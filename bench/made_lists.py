@@ -71,17 +71,24 @@ def shortest(program, text):
     return b"".join(line + b"\n" for line in lines)
 
 
+def count_void(text, given):
+    """How many hands began and were not settled."""
+    words = Counter(line.split()[0] for line, answer in zip(lines_of(text), given) if answer == "ok")
+    return words[b"begin"] - words[b"settle"]
+
+
 def count(texts):
-    """Says how many lines and hands there are, and how often each answer comes."""
-    hands, answers, settled = 0, Counter(), 0
+    """Says how many lines, hands, showdowns and players who go out there are, and how often each answer comes."""
+    answers, games, counts = Counter(), Counter(), Counter()
     for text in texts:
         book = Tournament()
         given, _ = replayed(text, book)
-        hands += book.hands_begun
-        settled += sum(1 for line, answer in zip(lines_of(text), given)
-                       if answer == "ok" and line.startswith(b"settle"))
+        games[book.plan.get("game", "no game")] += book.showdowns
+        counts.update(hands=book.hands_begun, out=len(book.busts), over=book.is_over(), void=count_void(text, given))
         answers.update(" ".join(answer.split()[:3]) for answer in given)
-    print(f"{len(texts)} lists, {answers.total()} lines, {hands} hands begun, {settled} settled")
+    print(f"{len(texts)} lists, {answers.total()} lines, {counts['hands']} hands begun, {counts['void']} of them void "
+          f"or open at the end, {counts['out']} players out, {counts['over']} tournaments over")
+    print("showdowns:", ", ".join(f"{game} {games[game]}" for game in ("holdem", "omaha", "hilo")))
     for answer in sorted(answers, key=lambda answer: int(answer.split()[1]) if answer != "ok" else 0):
         print(f"{answers[answer]:9} {answer}")
 

@@ -20,6 +20,7 @@ class Maker:
         self.book = Tournament()
         self.lines = []
         self.entered = 0
+        self.is_wild = self.odds(40)
 
     def put(self, line):
         event = event_of_line(line.encode())
@@ -110,6 +111,9 @@ class Maker:
         entered = self.book.entries or PLAYERS
         return self.rng.choice(entered) if not self.odds(5) else self.rng.choice(PLAYERS + ["nobody"])
 
+    def a_deck(self):
+        return "".join(self.rng.sample(CARDS, 52))
+
     def a_row(self):
         cards = self.rng.sample(CARDS, 52)
         if self.odds(5):
@@ -168,6 +172,8 @@ class Maker:
         if "acts" not in BUILT:
             return self.pick((90, "fold"), (3, "check"), (3, "call"), (2, "allin"), (2, "bet 200"))
         kind = self.pick((30, "check"), (34, "call"), (9, "fold"), (4, "allin"), (9, "bet"), (14, "raise"))
+        if self.is_wild:
+            kind = self.pick((20, "check"), (45, "call"), (5, "fold"), (22, "allin"), (4, "bet"), (4, "raise"))
         if hand and seat and self.odds(65):
             kind = self.fitting(kind, hand, seat)
         return f"{kind} {self.amount(hand, seat)}" if kind in ("bet", "raise") else kind
@@ -254,29 +260,54 @@ class Maker:
 
     def crowd(self):
         """640 players enter, one goes out, and another wants his seat."""
-        for line in ["game holdem", "tables 64", "seats 10", "stack 100", "buyin 1", "late 1", "blinds 100 200 100",
-                     "shares 1000", "go"]:
-            self.put(line)
+        self.short_plan(64)
         for number in range(640):
             self.put(f"enter p{number} {number % 64 + 1} {number // 64 + 1}")
         self.put("enter q 1 1")
-        self.put(f"begin 1 {self.a_row()}")
+        self.put(f"begin 1 {self.a_deck()}")
         for line in 8 * ["time 1"] + ["settle 1", "enter q 1 2", "enter q 1 3", "stop"]:
             self.put(line)
+
+    def short_plan(self, tables):
+        """A plan of tables of ten whose stacks are the small blind."""
+        for line in ["game holdem", f"tables {tables}", "seats 10", "stack 100", "buyin 1", "late 1",
+                     "blinds 100 200 100", "shares 1000", "go"]:
+            self.put(line)
+
+    def crowd_at_one_table(self):
+        """The first to act folds and others mostly call, and newcomers take the seats of those who are out."""
+        self.short_plan(1)
+        while len(self.book.entries) < 640:
+            free = [seat for seat in range(1, 11) if (1, seat) not in self.book.seats]
+            for seat in free:
+                self.put(f"enter p{len(self.book.entries)} 1 {seat}")
+            self.put(f"begin 1 {self.a_deck()}")
+            hand, is_first = self.hand_at(1), True
+            while (due := hand.due()) is not None:
+                faces = hand.put[due] < hand.level
+                folds = is_first or (faces and self.odds(25))
+                self.put(f"act 1 {hand.names[due]} {'fold' if folds else 'call' if faces else 'check'}")
+                is_first = False
+            self.put("settle 1")
+        for seat in range(1, 11):
+            self.put(f"enter p{len(self.book.entries)} 1 {seat}")
 
     def make(self):
         if self.odds(0.3) and {"tables", "showdowns", "time"} <= BUILT:
             self.crowd()
             return "\n".join(self.lines).encode()
+        if self.odds(0.1) and {"acts", "showdowns"} <= BUILT:
+            self.crowd_at_one_table()
+            return "\n".join(self.lines).encode()
         if self.odds(3):
             for _ in range(self.rng.randint(1, 12)):
                 self.put(self.rng.choice([self.mangled(), self.wrong_plan_line(), self.enter(), self.begin(), "stop"]))
         self.plan()
-        after_stop = self.rng.randint(0, 6)
+        after_end = self.rng.randint(0, 9)
         for _ in range(self.rng.choice([10, 60, 120, 400])):
             self.put(self.mangled() if self.odds(4) else self.natural())
-            after_stop -= self.book.stopped or self.book.level == 0
-            if after_stop < 0:
+            after_end -= self.book.stopped or self.book.level == 0 or self.book.is_over()
+            if after_end < 0:
                 break
         text = "\n".join(self.lines) + ("" if self.odds(5) else "\n")
         return text.encode()

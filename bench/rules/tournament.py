@@ -31,7 +31,7 @@ class Tournament:
         self.busts = []
         self.group = 0
         self.removed = self.added = 0
-        self.hands_begun = 0
+        self.hands_begun = self.showdowns = 0
         self.stopped = False
 
     # -- what is read off the lists --
@@ -148,6 +148,7 @@ class Tournament:
     def settle(self, table):
         """The players have their stacks at rest; those with 0 are out, with the stack that they began the hand with."""
         hand = self.end_hand(table)
+        self.showdowns += hand.needs_showdown()
         for seat, stack in hand.stacks_after().items():
             player = hand.names[seat]
             self.stacks[player] = stack
