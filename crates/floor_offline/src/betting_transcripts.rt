@@ -4,7 +4,7 @@
 use crate::transcripts::{PLAN, THREE, TWO, Transcript};
 
 /// Four players enter.
-const FOUR: &str = "enter ann 1 1
+pub const FOUR: &str = "enter ann 1 1
 enter bob 1 2
 enter cat 1 3
 enter dan 1 4
@@ -12,7 +12,7 @@ enter dan 1 4
 
 /// A first hand of four, after which they have 1000, 600, 800 and 1600. In the next one the button is at seat 2, and
 /// ann is the first to act.
-const UNEVEN: &str = "begin 1 SORTED
+pub const UNEVEN: &str = "begin 1 SORTED
 act 1 dan raise 400
 act 1 ann fold
 act 1 bob call
@@ -36,7 +36,7 @@ go
 ";
 
 /// A plan with chips of 50.
-const PLAN_OF_50: &str = "game holdem
+pub const PLAN_OF_50: &str = "game holdem
 tables 1
 seats 6
 stack 1000
@@ -48,7 +48,7 @@ go
 ";
 
 /// A plan of one table of ten seats.
-const PLAN_OF_TEN: &str = "game holdem
+pub const PLAN_OF_TEN: &str = "game holdem
 tables 1
 seats 10
 stack 1000
@@ -60,7 +60,7 @@ go
 ";
 
 /// Ten players enter, in another order than their seats.
-const TEN: &str = "enter eve 1 5
+pub const TEN: &str = "enter eve 1 5
 enter ann 1 1
 enter jim 1 10
 enter bob 1 2
@@ -70,6 +70,31 @@ enter dan 1 4
 enter fay 1 6
 enter hal 1 8
 enter gus 1 7
+";
+
+/// A hand of ten. On the flop eve, gus and ann have 200 behind each, and act from the left of the button at seat 1.
+pub const RAISES_OF_TEN: &str = "begin 1 SORTED
+act 1 cat check : no 21 NotTurn
+act 1 dan raise 400
+act 1 eve call
+act 1 fay fold
+act 1 gus raise 800
+act 1 hal raise 900 : no 28 TooSmall
+act 1 hal fold
+act 1 ida fold
+act 1 jim fold
+act 1 ann call
+act 1 bob fold
+act 1 cat fold
+act 1 dan fold
+act 1 eve call
+act 1 gus check : no 21 NotTurn
+act 1 eve check
+act 1 gus bet 200
+act 1 ann fold
+act 1 dan call : no 21 NotTurn
+act 1 eve fold
+settle 1
 ";
 
 pub const BETTING: &[Transcript] = &[
@@ -501,31 +526,8 @@ stop
         parts: &[
             PLAN_OF_TEN,
             TEN,
-            "begin 1 SORTED
-act 1 cat check : no 21 NotTurn
-act 1 dan raise 400
-act 1 eve call
-act 1 fay fold
-act 1 gus raise 800
-act 1 hal raise 900 : no 28 TooSmall
-act 1 hal fold
-act 1 ida fold
-act 1 jim fold
-act 1 ann call
-act 1 bob fold
-act 1 cat fold
-act 1 dan fold
-act 1 eve call
-",
-            // The flop: eve, gus and ann, with 200 behind each, from the left of the button at seat 1.
-            "act 1 gus check : no 21 NotTurn
-act 1 eve check
-act 1 gus bet 200
-act 1 ann fold
-act 1 dan call : no 21 NotTurn
-act 1 eve fold
-settle 1
-* report
+            RAISES_OF_TEN,
+            "* report
 * level 1
 * sold 10000
 * removed 0

@@ -17,11 +17,17 @@ mod betting_tests;
 #[cfg(test)]
 mod betting_transcripts;
 #[cfg(test)]
+mod pot_limit_transcripts;
+#[cfg(test)]
 mod scripts;
 #[cfg(test)]
 mod seat_scripts;
 #[cfg(test)]
 mod seat_tests;
+#[cfg(test)]
+mod showdown_tests;
+#[cfg(test)]
+mod showdown_transcripts;
 #[cfg(test)]
 mod tests;
 #[cfg(test)]

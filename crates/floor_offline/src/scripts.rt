@@ -156,7 +156,8 @@ pub const SCRIPTS: &[Script] = &[
         steps: &[
             ("begin 1 SORTED", "ok"),
             ("act 1 ann fold", "no 22 HandOver"),
-            ("settle 1", "no 99 NotBuilt"),
+            ("settle 1", "ok"),
+            ("begin 1 SORTED", "ok"),
         ],
         report: &[
             "* report",
@@ -177,7 +178,6 @@ pub const SCRIPTS: &[Script] = &[
         steps: &[
             ("begin 1 SORTED", "ok"),
             ("act 1 ann fold", "no 22 HandOver"),
-            ("settle 1", "no 99 NotBuilt"),
             ("stop", "ok"),
         ],
         report: &[
@@ -204,11 +204,10 @@ pub const SCRIPTS: &[Script] = &[
             ("stop", "no 2 NoPlan"),
             ("act 1 ann check", "no 2 NoPlan"),
             ("time 1", "no 2 NoPlan"),
-            ("game omaha", "no 99 NotBuilt"),
-            ("game hilo", "no 99 NotBuilt"),
             ("go", "no 4 PlanWrong game"),
-            ("game holdem", "ok"),
+            ("game hilo", "ok"),
             ("game omaha", "no 4 PlanWrong game"),
+            ("game hilo", "no 4 PlanWrong game"),
             ("tables 65", "no 4 PlanWrong tables"),
             ("tables 2", "no 99 NotBuilt"),
             ("tables 64", "no 99 NotBuilt"),

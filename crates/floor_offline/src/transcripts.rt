@@ -65,7 +65,7 @@ enter flo 1 6
 ";
 
 /// Three players next to each other.
-const CLOSE: &str = "enter ann 1 1
+pub const CLOSE: &str = "enter ann 1 1
 enter bob 1 2
 enter cat 1 3
 ";
@@ -130,17 +130,25 @@ act 1 bob check
         ],
     },
     Transcript {
-        name: "two players all-in before the flop",
+        name: "two players all-in before the flop, and the end of the tournament",
         parts: &[
             PLAN,
             TWO,
+            // The board is 3d 3h 3s 4d 4s; ann has Ah As and bob 2c 2h.
             "begin 1 ACES
 act 1 ann allin
 act 1 bob call
 act 1 bob check : no 22 HandOver
 time 1 : no 22 HandOver
-settle 1 : no 99 NotBuilt
+settle 1
+enter cat 1 2 : no 43 Over
+enter bob 1 4 : no 6 NameKnown
+enter cat 1 1 : no 10 SeatTaken
+begin 1 SORTED : no 15 Lone
+act 1 bob fold : no 14 NotPlaying
+settle 1 : no 14 NotPlaying
 stop
+enter cat 1 2 : no 5 Stopped
 * report
 * level 1
 * sold 2000
@@ -148,8 +156,7 @@ stop
 * added 0
 * rest 2000
 * play 0
-* seat 1 1 ann 1000
-* seat 1 4 bob 1000
+* seat 1 1 ann 2000
 * end
 ",
         ],
@@ -237,7 +244,11 @@ act 1 eve raise 1400
 act 1 ann raise 1700 : no 28 TooSmall
 act 1 ann fold
 act 1 eve check : no 22 HandOver
-settle 1 : no 99 NotBuilt
+",
+            // The board is 5d 5h 5s 6d 6s, and eve, flo and bob have no more than it. The 3500 of the three, with 800
+            // of ann, 200 of dan and 100 of cat, are split from the button, eve 1200, flo 1200, bob 1100; 400 are split
+            // by eve and bob; and 400 of eve come back.
+            "settle 1
 stop
 * report
 * level 1
@@ -246,12 +257,12 @@ stop
 * added 0
 * rest 12000
 * play 0
-* seat 1 1 ann 2000
-* seat 1 2 bob 1000
-* seat 1 3 cat 1800
-* seat 1 4 dan 2000
-* seat 1 5 eve 4400
-* seat 1 6 flo 800
+* seat 1 1 ann 1200
+* seat 1 2 bob 1300
+* seat 1 3 cat 1700
+* seat 1 4 dan 1800
+* seat 1 5 eve 4800
+* seat 1 6 flo 1200
 * end
 ",
         ],
