@@ -243,14 +243,14 @@ class Maker:
         later = {part: 1 if part in BUILT else 0.2 for part in PARTS}
         several = later["moves"] * (1 if len(book.tables) > 1 else 0.1)
         word = self.pick(
-            (30 if few else 5, self.enter), (14 if len(playing) < len(book.tables) and not few else 2, self.begin),
+            (30 if few else 3, self.enter), (14 if len(playing) < len(book.tables) and not few else 2, self.begin),
             (60 if len(playing) > len(ended) else 3, self.act), (40 if ended else 1.5, self.settle),
             (later["time"] * (4 if playing else 0.5), lambda: f"time {rng.choice(playing or [self.a_table()])}"),
             (6 * several, self.balance), (4 * several, self.break_table), (later["levels"], lambda: "level"),
             (later["levels"] * (8 if book.has_race() else 0.7), self.race), (0.7 * later["rounds"], lambda: "hands on"),
             (later["rounds"], lambda: "hands off"),
             (later["rounds"] * (6 if book.hand_for_hand else 0.7), lambda: "round"),
-            (0.4 if not self.is_stuck() else 20, lambda: "stop"), (0.5, self.wrong_plan_line))
+            (0.2 if not self.is_stuck() else 20, lambda: "stop"), (0.5, self.wrong_plan_line))
         return word()
 
     def is_stuck(self):
@@ -304,7 +304,7 @@ class Maker:
                 self.put(self.rng.choice([self.mangled(), self.wrong_plan_line(), self.enter(), self.begin(), "stop"]))
         self.plan()
         after_end = self.rng.randint(0, 9)
-        for _ in range(self.rng.choice([10, 60, 120, 400])):
+        for _ in range(self.rng.choice([10, 60, 120, 400, 800])):
             self.put(self.mangled() if self.odds(4) else self.natural())
             after_end -= self.book.stopped or self.book.level == 0 or self.book.is_over()
             if after_end < 0:
