@@ -18,13 +18,13 @@ DECK = "".join(rank + suit for rank in "23456789TJQKA" for suit in "cdhs")
 class Hand:
     """The lines of one hand, and what each player has put in."""
 
-    def __init__(self, button):
+    def __init__(self, button, deck=DECK):
         self.from_left = [(button + step - 1) % SEATS + 1 for step in range(1, SEATS + 1)]
         small, big, *others = self.from_left
         self.order = others + [small, big]
         self.put = {small: 100, big: 200}
         self.street = dict(self.put)
-        self.lines = [f"begin 1 {DECK}"]
+        self.lines = [f"begin 1 {deck}"]
 
     def act(self, seat, act, to=None):
         """An act, after which the player has put in so much on the street."""
