@@ -1,4 +1,6 @@
 """Tries the model on worked cases whose answers, stacks, pots and places were worked out from the rules."""
+from pathlib import Path
+
 from rules.built import BUILT, PARTS
 from rules.cards import (SORTED_DECK, award_of_pot, best_high, best_low, cards_of, halves_of, pots_of, shares_of,
                          text_of)
@@ -19,6 +21,8 @@ PLAN = ["game holdem", "tables 1", "seats 6", "stack 1000", "buyin 100", "late 1
 TWO_TABLES = ["game holdem", "tables 2", "seats 2"] + PLAN[3:]
 THREE_TABLES = ["game holdem", "tables 3"] + PLAN[2:]
 HEADS_UP = ["enter ann 1 1", "enter bob 1 4"]
+
+EXAMPLES = Path(__file__).resolve().parents[2] / "examples"
 
 failures = []
 
@@ -62,6 +66,12 @@ def plays(what, played, acts):
         same(f"{what}: {line}", got, wanted)
         if got is None:
             played.act(int(seat), act)
+
+
+def try_examples():
+    for path in sorted(EXAMPLES.glob("*.txt")):
+        answers, report = replayed(path.read_bytes())
+        same(path.name, answers + report, path.with_suffix(".out").read_text(encoding="ascii").splitlines())
 
 
 def try_lines():
@@ -218,6 +228,7 @@ def try_places():
 
 
 def try_rows():
+    try_examples()
     before = set(BUILT)
     BUILT.update(PARTS)
     for tries in (try_lines, try_hands_by_lines, try_tables, try_moves, try_bets, try_values, try_marks, try_places):
