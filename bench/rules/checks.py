@@ -98,11 +98,7 @@ def is_refused_with(number):
 
 def is_not_built(tournament, event):
     """99: what is answered so as long as its part is not there."""
-    if event.word == "game":
-        return "games" not in BUILT and event.args[0] != "holdem"
-    if event.word == "tables":
-        return "tables" not in BUILT and event.args[0] > 1
-    return "showdowns" not in BUILT and first_table(tournament, event).hand.needs_showdown()
+    return "tables" not in BUILT and event.args[0] > 1
 
 
 def first_table(tournament, event):
@@ -152,13 +148,12 @@ CONDITIONS |= {number: is_refused_with(number) for number in BETTING}
 
 # The checks of each event, in the order in which they are made.
 CHECKS = {word: [3, 4] for word in PLAN_ITEMS + ("go",)} | {
-    "game": [3, 4, 99],
     "tables": [3, 4, 99],
     "enter": [2, 5, 6, 8, 9, 10, 11, 12, 43, 44],
     "begin": [2, 5, 8, 13, 15, 16, 17, 18, 19],
     "act": [2, 5, 7, 8, 14, 20, 21, 22, *BETTING],
     "time": [2, 5, 8, 14, 22],
-    "settle": [2, 5, 8, 14, 23, 99],
+    "settle": [2, 5, 8, 14, 23],
     "balance": [2, 5, 8, 13, 17, 33, 34, 35, 40],
     "break": [2, 5, 8, 13, 17, 36, 37, 38, 40],
     "level": [2, 5, 17, 39, 43],

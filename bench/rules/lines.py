@@ -69,13 +69,9 @@ def act_of(words):
     """`fold`, `check`, `call` or `allin`, or `bet` or `raise` with an amount."""
     if len(words) == 1:
         kind = one_of("fold", "check", "call", "allin")(words[0])
-        act = Act(kind)
-    else:
-        kind, amount = words
-        act = Act(one_of("bet", "raise")(kind), number(amount))
-    if act.kind != "fold" and "acts" not in BUILT:
-        raise ValueError
-    return act
+        return Act(kind)
+    kind, amount = words
+    return Act(one_of("bet", "raise")(kind), number(amount))
 
 
 def needs(part):
@@ -107,8 +103,7 @@ GRAMMAR = {
     "tables": (None, [number]), "seats": (None, [number]), "stack": (None, [number]), "buyin": (None, [number]),
     "late": (None, [number]), "blinds": (None, [number, number, number]), "go": (None, []),
     "enter": (None, [name, number, number]), "begin": (None, [number, row]), "settle": (None, [number]),
-    "stop": (None, []),
-    "time": ("time", [number]),
+    "stop": (None, []), "time": (None, [number]),
     "balance": ("moves", [number, number]), "break": ("moves", [number, list_of(place), list_of(name)]),
     "level": ("levels", []), "race": ("levels", [number, row]),
     "hands": ("rounds", [one_of("on", "off")]), "round": ("rounds", []),

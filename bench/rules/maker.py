@@ -1,10 +1,9 @@
 """Makes lists of events from a seed, lawful and unlawful, so that each answer comes often."""
 import random
-from copy import deepcopy
 
 from rules.built import BUILT, PARTS
 from rules.cards import SORTED_DECK, text_of
-from rules.lines import act_of, event_of_line
+from rules.lines import event_of_line
 from rules.step import apply
 from rules.tournament import Tournament
 
@@ -40,12 +39,12 @@ class Maker:
 
     def plan(self):
         """The lines of a plan, now and then with a wrong line before a right one, or with an item missing."""
-        rng, built = self.rng, BUILT
+        rng = self.rng
         unit = rng.choice([1, 5, 10, 25, 50, 100])
         blinds = self.levels(unit)
         stack = blinds[-1][2] * rng.choice([1, 2, 3, 5, 8, 20, 20, 50, 50, 100])
-        game = rng.choice(["holdem", "omaha", "hilo"]) if "games" in built else "holdem"
-        tables = rng.choice([1, 1, 2, 2, 3, 4, 6]) if "tables" in built else 1
+        game = rng.choice(["holdem", "omaha", "hilo"])
+        tables = rng.choice([1, 1, 2, 2, 3, 4, 6]) if "tables" in BUILT else 1
         shares = sorted((rng.randint(1, 300) for _ in range(rng.randint(1, 5))), reverse=True)
         while sum(shares) > 1000:
             shares.pop()
@@ -154,23 +153,9 @@ class Maker:
             others = [player for player in self.book.entries if player not in dealt]
             player = self.rng.choice(self.pick((5, dealt), (3, others), (1, [])) or [self.a_player()])
             return f"act {table} {player} {self.any_act(hand, due)}"
-        act = self.any_act(hand, due)
-        if "showdowns" not in BUILT and self.odds(90) and self.leads_to_a_showdown(hand, due, act):
-            act = "fold"
-        return f"act {table} {hand.names[due]} {act}"
-
-    def leads_to_a_showdown(self, hand, seat, act):
-        """Whether the hand would be over after an act, with two or more live players."""
-        act = act_of(act.split())
-        if hand.refusal(seat, act):
-            return False
-        after = deepcopy(hand)
-        after.act(seat, act)
-        return after.is_over() and after.needs_showdown()
+        return f"act {table} {hand.names[due]} {self.any_act(hand, due)}"
 
     def any_act(self, hand, seat):
-        if "acts" not in BUILT:
-            return self.pick((90, "fold"), (3, "check"), (3, "call"), (2, "allin"), (2, "bet 200"))
         kind = self.pick((30, "check"), (34, "call"), (9, "fold"), (4, "allin"), (9, "bet"), (14, "raise"))
         if self.is_wild:
             kind = self.pick((20, "check"), (45, "call"), (5, "fold"), (22, "allin"), (4, "bet"), (4, "raise"))
@@ -245,18 +230,13 @@ class Maker:
         word = self.pick(
             (30 if few else 3, self.enter), (14 if len(playing) < len(book.tables) and not few else 2, self.begin),
             (60 if len(playing) > len(ended) else 3, self.act), (40 if ended else 1.5, self.settle),
-            (later["time"] * (4 if playing else 0.5), lambda: f"time {rng.choice(playing or [self.a_table()])}"),
+            (4 if playing else 0.5, lambda: f"time {rng.choice(playing or [self.a_table()])}"),
             (6 * several, self.balance), (4 * several, self.break_table), (later["levels"], lambda: "level"),
             (later["levels"] * (8 if book.has_race() else 0.7), self.race), (0.7 * later["rounds"], lambda: "hands on"),
             (later["rounds"], lambda: "hands off"),
             (later["rounds"] * (6 if book.hand_for_hand else 0.7), lambda: "round"),
-            (0.2 if not self.is_stuck() else 20, lambda: "stop"), (0.5, self.wrong_plan_line))
+            (0.2, lambda: "stop"), (0.5, self.wrong_plan_line))
         return word()
-
-    def is_stuck(self):
-        """A hand is over that no event can settle yet."""
-        hands = [self.hand_at(table) for table in self.book.playing_tables()]
-        return "showdowns" not in BUILT and any(hand.is_over() and hand.needs_showdown() for hand in hands)
 
     def crowd(self):
         """640 players enter, one goes out, and another wants his seat."""
@@ -293,10 +273,10 @@ class Maker:
             self.put(f"enter p{len(self.book.entries)} 1 {seat}")
 
     def make(self):
-        if self.odds(0.3) and {"tables", "showdowns", "time"} <= BUILT:
+        if self.odds(0.3) and "tables" in BUILT:
             self.crowd()
             return "\n".join(self.lines).encode()
-        if self.odds(0.1) and {"acts", "showdowns"} <= BUILT:
+        if self.odds(0.1):
             self.crowd_at_one_table()
             return "\n".join(self.lines).encode()
         if self.odds(3):
