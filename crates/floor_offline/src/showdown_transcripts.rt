@@ -52,6 +52,11 @@ const THREE_QUEENS: &str =
     "begin 1 AsAhQh8cKd9s6c8h5hTcJcJsQd5dJh9d3d3s6dTh2cQsJd7h2d4c2h2s3c3h4d4h4s5c5s6h6s7c7d7s8d8s9c9hTdTsQcKcKhKsAcAd
 ";
 
+/// Begins a hand of three kings for the first, and two equal hands.
+const THREE_KINGS_FIRST: &str =
+    "begin 1 KdAdAh9c8cKhJcJd9d8d2cKsQs7d2d5c2s2h3c3d3h3s4c4d4h4s5d5h5s6c6d6h6s7c7h7s8h8s9h9sTcTdThTsJhJsQcQdQhKcAcAs
+";
+
 /// Begins a hand of two: aces for the first, and kings.
 const FIRST_WINS: &str =
     "begin 1 AhKhAsKs2d9c8d7h2h3s2s2c3c3d3h4c4d4h4s5c5d5h5s6c6d6h6s7c7d7s8c8h8s9d9h9sTcTdThTsJcJdJhJsQcQdQhQsKcKdAcAd
@@ -145,6 +150,63 @@ enter kim 1 2
 * seat 1 8 hal 600
 * seat 1 9 ida 1000
 * seat 1 10 jim 1000
+* end
+",
+        ],
+    },
+    Transcript {
+        name: "a second pot with chips of who folded, split from the button",
+        parts: &[
+            PLAN,
+            "enter dan 1 4
+enter flo 1 6
+begin 1 SORTED
+act 1 dan raise 400
+act 1 flo fold
+settle 1
+enter ann 1 1
+enter bob 1 2
+enter cat 1 3
+",
+            // Dan has 1200, flo 800 and the small blind, ann the big one. Dan wins 900 of ann, 700 of bob, 100 of flo.
+            "begin 1 SORTED
+act 1 bob raise 700
+act 1 cat fold
+act 1 dan call
+act 1 flo fold
+act 1 ann call
+act 1 ann bet 200
+act 1 bob fold
+act 1 dan raise 400
+act 1 ann fold
+settle 1
+",
+            // Flo has the button and 700, ann is all-in for her small blind of 100, bob has 300, cat 1000, dan 2900.
+            // The board is Ks Qs 7d 5c 2h; ann has Kd Kh, bob Ad Jc, cat Ah Jd. The 400 of ann, bob, cat and dan are
+            // ann's. The 500 of bob, cat and dan are split by bob, 300 as the first from the button, and cat, 200.
+            THREE_KINGS_FIRST,
+            "act 1 cat call
+act 1 dan call
+act 1 flo fold
+act 1 ann fold : no 21 NotTurn
+act 1 bob allin
+act 1 cat raise 500 : no 31 NotReopened
+act 1 cat call
+act 1 dan fold
+act 1 cat check : no 22 HandOver
+settle 1
+* report
+* level 1
+* sold 5000
+* removed 0
+* added 0
+* rest 5000
+* play 0
+* seat 1 1 ann 400
+* seat 1 2 bob 300
+* seat 1 3 cat 900
+* seat 1 4 dan 2700
+* seat 1 6 flo 700
 * end
 ",
         ],
