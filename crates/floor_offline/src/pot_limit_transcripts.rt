@@ -67,6 +67,11 @@ const SIDE_POTS: &str =
     "begin 1 AsKd9sQdAdKc9cQsQh7hJdJh8c6cTh3c2cKs9d4c2d4h2h2s3d3h3s4d4s5c5d5h5s6d6h6s7c7d7s8d8h8s9hTcTdTsJcJsQcKhAcAh
 ";
 
+/// Begins a hand of two full houses and two times two pairs, the best for the big blind.
+const SHORT_BLIND: &str =
+    "begin 1 QdKdAs9sQsKcAd9cJh7hQhJd3c6c8cTh2cKs9d4c2d4h2h2s3d3h3s4d4s5c5d5h5s6d6h6s7c7d7s8d8h8s9hTcTdTsJcJsQcKhAcAh
+";
+
 /// Begins a hand of one high and one low.
 const HALVES: &str =
     "begin 1 JdAs9dKhJh3c9hQh4c7d6cJs4dTd6d9c2c2h5h8d2dKc2sQd3d3h3s4h4s5c5d5s6h6s7c7h7s8c8h8s9sTcThTsJcQcQsKdKsAcAdAh
@@ -215,6 +220,55 @@ settle 1 : no 5 Stopped
 * seat 1 3 cat 1000
 * seat 1 4 dan 4000
 * seat 1 6 eve 2000
+* end
+",
+        ],
+    },
+    Transcript {
+        name: "a short big blind counts in full for the bound in Omaha",
+        parts: &[
+            SHORT_OMAHA,
+            FOUR,
+            // Cat wins 1900 of dan and 100 of bob: ann 2000, bob 1900, cat 4000, dan 100.
+            "begin 1 SORTED
+act 1 dan raise 700
+act 1 ann fold
+act 1 bob fold
+act 1 cat call
+act 1 cat check
+act 1 dan bet 1600 : no 29 PastStack
+act 1 dan bet 1200
+act 1 cat allin
+act 1 dan raise 1300 : no 28 TooSmall
+act 1 dan fold
+settle 1
+",
+            // Dan has 100 for the big blind, which count as 200: ann may raise to 200 + 300 + 200, and cat to
+            // 700 + 1700 + 600. The board is Ks 9d 4c 4h 2s; dan has Kd Kc 7h 6c, bob 9s 9c Jd Th, ann As Ad Qh 8c, cat
+            // Qd Qs Jh 3c. Dan wins 400 of all, bob 5400 of ann, bob and cat, ann 200 of ann and cat, and 1000 of cat
+            // come back.
+            SHORT_BLIND,
+            "act 1 ann raise 800 : no 30 PastPot
+act 1 ann raise 700
+act 1 bob call
+act 1 cat allin : no 30 PastPot
+act 1 cat raise 3100 : no 30 PastPot
+act 1 cat raise 3000
+act 1 ann call
+act 1 bob allin
+act 1 cat check : no 22 HandOver
+settle 1
+* report
+* level 1
+* sold 8000
+* removed 0
+* added 0
+* rest 8000
+* play 0
+* seat 1 1 ann 200
+* seat 1 2 bob 5400
+* seat 1 3 cat 2000
+* seat 1 4 dan 400
 * end
 ",
         ],
