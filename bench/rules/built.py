@@ -4,7 +4,7 @@ What is not there yet is answered as `docs/FORMATS.md` says: its line is in no g
 last check. A part that the program gets is one word in BUILT.
 """
 
-# Each part of the product that came last or is still to come, and what is answered while it is not there.
+# Each part of the product that is still to come, and what is answered while it is not there.
 PARTS = {
     "tables": "`tables N` with N from 2 to 64: 99",
     "moves": "`balance` and `break`: no lines of the grammar",
