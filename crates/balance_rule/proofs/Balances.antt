@@ -37,7 +37,8 @@ count-lifted : (number : ℕ) (seated : Seated) (players : List Seated) (table :
     → count_at (lifted number players) table + one_at seated.place table ≡ count_at players table
 count-lifted number seated [] table apart is = absurd cc
 count-lifted number seated (first ∷ players) table apart is =
-    let parts = and_parts (list_all (λ other. not (is_numbered first.player other)) players) (are_apart players) apart in
+    let parts = and_parts (list_all (λ other. not (is_numbered first.player other)) players)
+    (are_apart players) apart in
     by_number (is_numbered number first) refl parts.0
     (λ found. count-lifted number seated players table parts.1 found)
   where
@@ -54,7 +55,8 @@ count-lifted number seated (first ∷ players) table apart is =
         let kept : lifted number players ≡ players = filter-all (λ other. not (is_numbered number other)) players
         (ap (λ (n : ℕ). list_all (λ other. not (is_numbered n other)) players) (sym number_is) ∙ others) in
         let whole = count_by-cons (sits_at table) first players in
-        let one : one_at seated.place table ≡ one_at first.place table = ap (λ (s : Seated). one_at s.place table) (sym same) in
+        let one : one_at seated.place table ≡ one_at first.place table =
+        ap (λ (s : Seated). one_at s.place table) (sym same) in
         let count = ap (λ (players : List Seated). count_at players table) kept in
         omega (arith, whole, one, count)
     by_number false here others later =
@@ -82,13 +84,19 @@ mover seating from to order lawful is =
     by_parts (Some seated) sits None moves = absurd cc
     by_parts (Some seated) sits (Some seat) moves =
         let place : Place = record { table = from; seat = next_big_seat seating from } in
-        let carried : Move = record { player = seated.player; from = seated.place; to = record { table = to; seat = seat } } in
+        let carried : Move = record {
+          player = seated.player;
+          from = seated.place;
+          to =
+              record { table = to; seat = seat };
+        } in
         let same : carried ≡ order = cc in
         let number : order.player ≡ seated.player = ap (λ (order : Move). order.player) (sym same) in
         let there = found-place seating.players place seated sits in (
           seated,
           record {
-            found = ap (player_of seating.players) number ∙ found-numbered (sits_in place) seating.players seated lawful.apart sits;
+            found = ap (player_of seating.players) number
+                ∙ found-numbered (sits_in place) seating.players seated lawful.apart sits;
             left = ap (λ (place : Place). place.table) there;
             taken = ap (λ (order : Move). order.to.table) (sym same);
           },
@@ -108,8 +116,10 @@ count-after seating from to order table lawful is =
     let down = count-down (record seated { place = order.to }) (lifted seated.player seating.players) table in
     let up = count-lifted seated.player seated seating.players table lawful.apart
     (ap (player_of seating.players) number ∙ moved.1.found) in
-    let left : one_at seated.place table ≡ cond (from == table) 1 0 = ap (λ (n : ℕ). cond {A = ℕ} (n == table) 1 0) moved.1.left in
-    let taken : one_at order.to table ≡ cond (to == table) 1 0 = ap (λ (n : ℕ). cond {A = ℕ} (n == table) 1 0) moved.1.taken in
+    let left : one_at seated.place table ≡ cond (from == table) 1 0 =
+    ap (λ (n : ℕ). cond {A = ℕ} (n == table) 1 0) moved.1.left in
+    let taken : one_at order.to table ≡ cond (to == table) 1 0 =
+    ap (λ (n : ℕ). cond {A = ℕ} (n == table) 1 0) moved.1.taken in
     omega (arith, players, down, up, left, taken)
 
 module _ (seating : Seating) (from to : ℕ) (order : Move) (valid : IsSeating seating)
@@ -147,7 +157,8 @@ module _ (seating : Seating) (from to : ℕ) (order : Move) (valid : IsSeating s
   not-back back turned = omega (arith, still-fewer, turned.lawful.gap)
 
 -- what three checks say that do not hold
-passed : (here there most least : ℕ) → first_that_holds ((NotFullest, nat_lt here most) ∷ (NotShortest, nat_lt least there)
+passed : (here there most least : ℕ)
+    → first_that_holds ((NotFullest, nat_lt here most) ∷ (NotShortest, nat_lt least there)
     ∷ (EvenEnough, nat_lt here (there + 2)) ∷ []) ≡ None → (most ≤ here) × (there ≤ least) × (there + 2 ≤ here)
 passed here there most least none =
     by_tests (nat_lt here most) refl (nat_lt least there) refl (nat_lt here (there + 2)) refl none

@@ -12,10 +12,12 @@ use Rattle.seat_book.specs.Counts.{count_at, is_open, table_numbers, greatest_co
 abbrev pub is_among : ℕ → List ℕ → Bool
 is_among number numbers = list_any (λ other. other == number) numbers
 
-among-walk : (steps from number : ℕ) → from < number → number ≤ from + steps → is_among number (walk suc steps from) ≡ true
+among-walk : (steps from number : ℕ) → from < number → number ≤ from + steps
+    → is_among number (walk suc steps from) ≡ true
 among-walk zero from number above within = absurd (omega arith)
 among-walk (suc steps) from number above within = elim (cases_eq (suc from) number) [
-  | inl here ↦ or_left (suc from == number) (is_among number (walk suc steps (suc from))) (eq-eqb (suc from) number here)
+  | inl here ↦ or_left (suc from == number) (is_among number (walk suc steps (suc from)))
+      (eq-eqb (suc from) number here)
   | inr later ↦ or_right (suc from == number) (is_among number (walk suc steps (suc from)))
       (among-walk steps (suc from) number (omega arith) (omega arith))
 ]
@@ -53,24 +55,26 @@ min-start start (number ∷ numbers) = let rest = min-start (min start number) n
 max-bounds : (value : ℕ → ℕ) (number start : ℕ) (numbers : List ℕ) → is_among number numbers ≡ true
     → value number ≤ fold max start (map value numbers)
 max-bounds value number start [] among = absurd cc
-max-bounds value number start (first ∷ numbers) among = elim (or_cases (first == number) (is_among number numbers) among) [
-  | inl here ↦
-      let same : value first ≡ value number = ap value (eqb-true first number here) in
-      let rest = max-start (max start (value first)) (map value numbers) in
-      omega (arith, same, rest)
-  | inr later ↦ max-bounds value number (max start (value first)) numbers later
-]
+max-bounds value number start (first ∷ numbers) among =
+    elim (or_cases (first == number) (is_among number numbers) among) [
+      | inl here ↦
+          let same : value first ≡ value number = ap value (eqb-true first number here) in
+          let rest = max-start (max start (value first)) (map value numbers) in
+          omega (arith, same, rest)
+      | inr later ↦ max-bounds value number (max start (value first)) numbers later
+    ]
 
 min-bounds : (value : ℕ → ℕ) (number start : ℕ) (numbers : List ℕ) → is_among number numbers ≡ true
     → fold min start (map value numbers) ≤ value number
 min-bounds value number start [] among = absurd cc
-min-bounds value number start (first ∷ numbers) among = elim (or_cases (first == number) (is_among number numbers) among) [
-  | inl here ↦
-      let same : value first ≡ value number = ap value (eqb-true first number here) in
-      let rest = min-start (min start (value first)) (map value numbers) in
-      omega (arith, same, rest)
-  | inr later ↦ min-bounds value number (min start (value first)) numbers later
-]
+min-bounds value number start (first ∷ numbers) among =
+    elim (or_cases (first == number) (is_among number numbers) among) [
+      | inl here ↦
+          let same : value first ≡ value number = ap value (eqb-true first number here) in
+          let rest = min-start (min start (value first)) (map value numbers) in
+          omega (arith, same, rest)
+      | inr later ↦ min-bounds value number (min start (value first)) numbers later
+    ]
 
 least-bounds : (value : ℕ → ℕ) (number : ℕ) (numbers : List ℕ) → is_among number numbers ≡ true
     → least_of (map value numbers) ≤ value number

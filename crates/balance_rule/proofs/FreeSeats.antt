@@ -61,7 +61,8 @@ pub walk-finds : (seats : ℕ) (test : ℕ → Bool) (seat target : ℕ) → sea
     → test target ≡ true → first_after seats test seat ≡ None → ⊥
 walk-finds seats test seat target within first last passes none =
     let all = none-find test (clockwise_after seats seat) none in
-    let failed = found-all (λ other. other == target) (λ other. not (test other)) (clockwise_after seats seat) target all
+    let failed = found-all (λ other. other == target) (λ other. not (test other))
+    (clockwise_after seats seat) target all
     (comes-to seats seat target within first last) in
     both (test target) passes failed
   where
@@ -119,7 +120,8 @@ empty-apart players table seats big at most first last =
     let size = taken-size players table in
     let one = has_seat-one_more (taken_seats players table) big at first (omega (arith, size, last, most)) in
     ap not (one ∙ ap (λ taken. big == at || taken) (has_seat-taken table at first (omega arith) players))
-    ∙ neither (is_some (player_at players (record { table = table; seat = at }))) (big == at) (at == big) (swapped big at)
+    ∙ neither (is_some (player_at players (record { table = table; seat = at }))) (big == at) (at == big)
+    (swapped big at)
   where
     swapped : (a b : ℕ) → (a == b) ≡ (b == a)
     swapped a b = grind (arith, nat_tests)
@@ -138,7 +140,8 @@ pub worst-empty : (seats : ℕ) (is_empty : ℕ → Bool) (marks : Option Marks)
     → worst_of seats is_empty marks ≡ Some seat → is_empty seat ≡ true
 worst-empty seats is_empty None seat is = found-passes is_empty (clockwise_after seats seats) seat is
 worst-empty seats is_empty (Some marks) seat is =
-    (and_parts (is_empty seat) (not (seat == marks.big)) (found-passes (λ other. is_empty other && not (other == marks.big))
+    (and_parts (is_empty seat) (not (seat == marks.big))
+    (found-passes (λ other. is_empty other && not (other == marks.big))
     (clockwise_after seats marks.big) seat is)).0
 
 -- Nobody sits in an empty seat.

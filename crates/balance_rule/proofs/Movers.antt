@@ -19,7 +19,8 @@ pub found-numbered : (test : Seated → Bool) (players : List Seated) (seated : 
     → find test players ≡ Some seated → player_of players seated.player ≡ Some seated
 found-numbered test [] seated apart is = absurd cc
 found-numbered test (first ∷ players) seated apart is =
-    let parts = and_parts (list_all (λ other. not (is_numbered first.player other)) players) (are_apart players) apart in
+    let parts = and_parts (list_all (λ other. not (is_numbered first.player other)) players)
+    (are_apart players) apart in
     by_test (test first) refl parts.0 (found-numbered test players seated parts.1)
   where
     differs : (a b : ℕ) → not (a == b) ≡ true → (b == a) ≡ false
@@ -57,7 +58,8 @@ pub taken-player : (players : List Seated) (table seat : ℕ) → 1 ≤ seat →
     → has_seat (taken_seats players table) seat ≡ true
     → (seated : Seated) × (player_at players (record { table = table; seat = seat }) ≡ Some seated)
 taken-player players table seat first last taken = some-player
-    (player_at players (record { table = table; seat = seat })) (sym (has_seat-taken table seat first last players) ∙ taken)
+    (player_at players (record { table = table; seat = seat })) (sym (has_seat-taken table seat first last players)
+    ∙ taken)
 
 -- The move of a balance, by the seat of the next big blind and the worst empty seat.
 pub carried-is : (seating : Seating) (from to big seat : ℕ) (seated : Seated) → big ≡ next_big_seat seating from
@@ -74,7 +76,8 @@ carried-is seating from to big seat seated is_big sits worst =
     let place = found-place seating.players (record { table = from; seat = big }) seated sits in
     ap (λ found. move_to to found (worst_empty_seat seating to)) mover
     ∙ (ap (λ found. move_to to (Some seated) found) worst
-    ∙ ap (λ (from : Place). Some (record { player = seated.player; from = from; to = record { table = to; seat = seat } }))
+    ∙ ap (λ (from : Place). Some
+    (record { player = seated.player; from = from; to = record { table = to; seat = seat } }))
     place)
 
 -- The player who is found in a place has that place by his number.

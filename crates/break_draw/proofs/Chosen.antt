@@ -41,7 +41,8 @@ among-bounds : (steps from number : ℕ) → is_among number (walk suc steps fro
 among-bounds zero from number among = absurd cc
 among-bounds (suc steps) from number among =
     elim (or_cases (suc from == number) (is_among number (walk suc steps (suc from))) among) [
-      | inl here ↦ let same : suc from ≡ number = eqb-true (suc from) number here in (omega (arith, same), omega (arith, same))
+      | inl here ↦ let same : suc from ≡ number = eqb-true (suc from) number here in
+          (omega (arith, same), omega (arith, same))
       | inr later ↦ let rest = among-bounds steps (suc from) number later in
           (omega (arith, rest.0), omega (arith, rest.1))
     ]

@@ -36,7 +36,8 @@ chosen-elsewhere seating table (suc n) chosen is =
 
 -- the next seat is empty and not chosen
 next-free : (seating : Seating) (table n : ℕ) (chosen : List Place) (is : filled seating table (suc n) ≡ Some chosen)
-    → is_free seating.players (filled-last seating table n chosen is).0 (filled-last seating table n chosen is).1.0.table
+    → is_free seating.players (filled-last seating table n chosen is).0
+    (filled-last seating table n chosen is).1.0.table
     (filled-last seating table n chosen is).1.0.seat ≡ true
 next-free seating table n chosen is =
     let last = filled-last seating table n chosen is in
@@ -63,7 +64,8 @@ distinct-ends : (places : List Place) (place : Place) → are_distinct is_same_p
     → not (list_any (is_same_place place) places) ≡ true → are_distinct is_same_place (places ++ place ∷ []) ≡ true
 distinct-ends [] place apart new = refl
 distinct-ends (first ∷ places) place apart new =
-    let parts = and_parts (list_all (λ other. not (is_same_place first other)) places) (are_distinct is_same_place places)
+    let parts = and_parts (list_all (λ other. not (is_same_place first other)) places)
+    (are_distinct is_same_place places)
     apart in
     let news = neither (is_same_place place first) (list_any (is_same_place place) places) new in
     and_from (list_all (λ other. not (is_same_place first other)) (places ++ place ∷ []))
@@ -102,7 +104,8 @@ level-step seating table one other fewer place next took among before =
     let here = count_with-more seating.players fewer place one in
     let there = count_with-more seating.players fewer place other in
     let parts = next-parts seating table fewer place next in
-    let least = lowest-least (count_with seating.players fewer) (other_open_tables seating table) place.table other parts.0
+    let least = lowest-least (count_with seating.players fewer)
+    (other_open_tables seating table) place.table other parts.0
     among in
     elim (cases_Bool (place.table == one)) [
       | inl is ↦
@@ -125,7 +128,8 @@ level-step seating table one other fewer place next took among before =
         simple false is = is
 
 -- No table that got a chosen seat has, with the chosen seats, two players more than another open table.
-pub chosen-level : (seating : Seating) (table n one other : ℕ) (chosen : List Place) → filled seating table n ≡ Some chosen
+pub chosen-level : (seating : Seating) (table n one other : ℕ) (chosen : List Place)
+    → filled seating table n ≡ Some chosen
     → list_any (is_at one) chosen ≡ true → is_among other (other_open_tables seating table) ≡ true
     → count_with seating.players chosen one ≤ count_with seating.players chosen other + 1
 chosen-level seating table zero one other chosen is took among =

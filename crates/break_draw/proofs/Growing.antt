@@ -23,7 +23,8 @@ filter-ends test (y ∷ xs) x = by_test (test y) (filter-ends test xs x)
 
 -- The tables that pass a test, of one more table.
 pub passed-more : (test : ℕ → Bool) (below : ℕ)
-    → filter test (walk suc (below + 1) 0) ≡ filter test (walk suc below 0) ++ cond (test (below + 1)) ((below + 1) ∷ []) []
+    → filter test (walk suc (below + 1) 0) ≡ filter test (walk suc below 0) ++ cond (test (below + 1))
+    ((below + 1) ∷ []) []
 passed-more test below =
     ap (λ (n : ℕ). filter test (walk suc n 0)) (add-one below)
     ∙ (ap (filter test) (walk-ends below 0 ∙ ap (λ (n : ℕ). walk suc below 0 ++ n ∷ []) (omega arith))
@@ -42,13 +43,15 @@ passed-none test below fails = passed-more test below
     ∙ (ap (λ b. filter test (walk suc below 0) ++ cond b ((below + 1) ∷ []) []) fails
     ∙ append-nil (filter test (walk suc below 0)))
 
-fold-ends : {A B : Type 0} (f : B → A → B) (start : B) (xs : List A) (x : A) → fold f start (xs ++ x ∷ []) ≡ f (fold f start xs) x
+fold-ends : {A B : Type 0} (f : B → A → B) (start : B) (xs : List A) (x : A)
+    → fold f start (xs ++ x ∷ []) ≡ f (fold f start xs) x
 fold-ends f start [] x = refl
 fold-ends f start (y ∷ xs) x = fold-ends f (f start y) xs x
 
 -- What is folded over the tables that pass, with one more that passes.
 pub folded-one : {B : Type 0} (f : B → ℕ → B) (start : B) (test : ℕ → Bool) (below : ℕ) → test (below + 1) ≡ true
-    → fold f start (filter test (walk suc (below + 1) 0)) ≡ f (fold f start (filter test (walk suc below 0))) (below + 1)
+    → fold f start (filter test (walk suc (below + 1) 0)) ≡ f (fold f start (filter test (walk suc below 0)))
+    (below + 1)
 folded-one f start test below passes = ap (fold f start) (passed-one test below passes)
     ∙ fold-ends f start (filter test (walk suc below 0)) (below + 1)
 

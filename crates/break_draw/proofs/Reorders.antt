@@ -46,7 +46,8 @@ split-at test (x ∷ xs) some = by_test (test x) refl (split-at test xs)
 module _ {A : Type 0} (same : A → A → Bool) (decides : (a b : A) → same a b ≡ true → a ≡ b)
     (itself : (a : A) → same a a ≡ true) where
   -- what passes for each item of a list passes for what is the same as one
-  for-any : (test : A → Bool) (xs : List A) (z : A) → list_all test xs ≡ true → list_any (same z) xs ≡ true → test z ≡ true
+  for-any : (test : A → Bool) (xs : List A) (z : A) → list_all test xs ≡ true → list_any (same z) xs ≡ true
+      → test z ≡ true
   for-any test [] z all any = absurd cc
   for-any test (x ∷ xs) z all any =
       let parts = and_parts (test x) (list_all test xs) all in
@@ -79,7 +80,8 @@ module _ {A : Type 0} (same : A → A → Bool) (decides : (a b : A) → same a 
       let both = often z (or_right (same z x) (list_any (same z) xs) any) in
       let left = count_by-cons (same z) x xs in
       let right = ap (count_by (same z)) split.is ∙ count-between (same z) split.front split.back split.item in
-      let heads : cond {A = ℕ} (same z x) 1 0 ≡ cond (same z split.item) 1 0 = ap (λ a. cond {A = ℕ} (same z a) 1 0) is_x in
+      let heads : cond {A = ℕ} (same z x) 1 0 ≡ cond (same z split.item) 1 0 =
+      ap (λ a. cond {A = ℕ} (same z a) 1 0) is_x in
       omega (arith, both, left, right, heads)) in
       let middle = IsPermutation-sym (split.front ++ x ∷ split.back) (x ∷ (split.front ++ split.back))
       (IsPermutation-middle split.front x split.back) in
@@ -118,12 +120,14 @@ pub draw-exact : (seating : Seating) (table : ℕ) (fill seats : List Place) (na
     → result ≡ is_draw seating table fill seats names → IsTrue result ↔ IsDraw seating table fill seats names
 draw-exact seating table fill seats names result is = (
   (λ passes.
-      let parts = and_parts (is_reordered is_same_place fill seats) (is_reordered bytes_eq names (names_at seating table))
+      let parts = and_parts (is_reordered is_same_place fill seats)
+      (is_reordered bytes_eq names (names_at seating table))
       (sym is ∙ passes) in
       record {
         places = reordered-permutes is_same_place same_place-decides same_place-itself fill seats parts.0;
         players = IsPermutation-sym names (names_at seating table) (reordered-permutes bytes_eq
-            (λ a b. (bytes_eq-Decides a b).0) (λ a. (bytes_eq-Decides a a).1 refl) names (names_at seating table) parts.1);
+            (λ a b. (bytes_eq-Decides a b).0) (λ a. (bytes_eq-Decides a a).1 refl) names
+            (names_at seating table) parts.1);
       }),
   (λ right. is ∙ and_from (is_reordered is_same_place fill seats) (is_reordered bytes_eq names (names_at seating table))
       (permutes-reordered is_same_place same_place-decides same_place-itself fill seats right.places)

@@ -102,7 +102,8 @@ lowest-least count tables lowest table is among = (is_lowest count None tables l
 fold-some : (count : ℕ → ℕ) (before : ℕ) (tables : List ℕ)
     → (lowest : ℕ) × (fold (lower_of count) (Some before) tables ≡ Some lowest)
 fold-some count before [] = (before, refl)
-fold-some count before (other ∷ tables) = fold-some count (cond (nat_lt (count other) (count before)) other before) tables
+fold-some count before (other ∷ tables) =
+    fold-some count (cond (nat_lt (count other) (count before)) other before) tables
 
 -- Where the list has a table, one has the lowest count.
 pub lowest-there : (count : ℕ → ℕ) (tables : List ℕ) (table : ℕ) → is_among table tables ≡ true
@@ -131,7 +132,8 @@ some-part value (first ∷ tables) more = by_first (value first) refl (some-part
       ),
     )
 
-module _ (test : ℕ → Bool) (before after : ℕ → ℕ) (one : ℕ) (same : (table : ℕ) → table ≢ one → before table ≡ after table)
+module _ (test : ℕ → Bool) (before after : ℕ → ℕ) (one : ℕ) (same : (table : ℕ) → table ≢ one
+    → before table ≡ after table)
     (less : before one ≤ after one + 1) where
   -- tables above the one keep their sum
   same-above : (steps from : ℕ) → one ≤ from
@@ -179,7 +181,8 @@ module _ (test : ℕ → Bool) (before after : ℕ → ℕ) (one : ℕ) (same : 
 
 -- The count of a table with one more chosen seat.
 pub count_with-more : (players : List Seated) (chosen : List Place) (place : Place) (table : ℕ)
-    → count_with players (chosen ++ place ∷ []) table ≡ count_with players chosen table + cond (place.table == table) 1 0
+    → count_with players (chosen ++ place ∷ []) table ≡ count_with players chosen table + cond
+    (place.table == table) 1 0
 count_with-more players chosen place table =
     let parts = sum_by-append (λ place. cond {A = ℕ} (is_at table place) 1 0) chosen (place ∷ []) in
     let one = count_by-cons (is_at table) place [] in

@@ -29,7 +29,8 @@ two_numbers seed one other now last one_len other_len now_len now_is last_is =
       one_len,
       now_len,
     ) in
-    let joined : now ≡ (take 16 seed ++ one) ++ drop 24 seed = now_is ∙ sym (append_assoc (take 16 seed) one (drop 24 seed)) in
+    let joined : now ≡ (take 16 seed ++ one) ++ drop 24 seed = now_is
+    ∙ sym (append_assoc (take 16 seed) one (drop 24 seed)) in
     let begins : take 24 now ≡ take 16 seed ++ one = ap (take 24) joined
     ∙ (ap (λ (n : ℕ). take n ((take 16 seed ++ one) ++ drop 24 seed)) (sym front)
     ∙ take-append_seam (take 16 seed ++ one) (drop 24 seed)) in
@@ -54,4 +55,5 @@ pub order-drawn : {A : Type 0} (seed : List ℕ) (kind : DrawKind) (number : ℕ
     → now ≡ drawn_order seed kind number before
 unfolding drawn_order words_of
 order-drawn seed kind number before now after generator is drawn =
-    ap (λ pair. pair.0) drawn ∙ ap (λ generator. (shuffled before 0 (stream_of (steps_u32 (next_word 10)) generator)).0) is
+    ap (λ pair. pair.0) drawn
+    ∙ ap (λ generator. (shuffled before 0 (stream_of (steps_u32 (next_word 10)) generator)).0) is

@@ -55,7 +55,8 @@ refilled chooser stream is words =
     (chooser.chunk, chooser.left, stream)
     (λ _. record {
       some = chunk.some;
-      below = subst (λ range. (canon (2 ^ 32) next_u32 (chunk_of (chooser.n + 1)).0 stream).0 < range) chunk.product drawn.below;
+      below = subst (λ range. (canon (2 ^ 32) next_u32 (chunk_of (chooser.n + 1)).0 stream).0 < range) chunk.product
+          drawn.below;
       rest = drawn.rest;
     })
     (λ none.
@@ -78,7 +79,16 @@ last-chosen bound value served stream below one words = record {
 
 one-chosen : (bound value served : ℕ) (stream : Stream) → value < rising (bound + 1) served → 0 < served
     → GivesWords stream
-    → IsChosen bound (value % (bound + 1), record { n = bound + 1; chunk = value / (bound + 1); left = served - 1 }, stream)
+    → IsChosen bound (
+      value % (bound + 1),
+      record {
+        n = bound + 1;
+        chunk = value / (bound + 1);
+        left =
+            served - 1;
+      },
+      stream,
+    )
 one-chosen bound value served stream below some words =
     let before : served ≡ suc (served - 1) = omega arith in
     record {
@@ -108,7 +118,8 @@ swapped : {A : Type 0} (items now : List A) (one other : ℕ) → IsPermutation 
 swapped items now one other is first second =
     let len = length_permutation items now is in
     IsPermutation-trans items now (swap now one other) is
-    (IsPermutation-swap now (swap now one other) one other (omega (arith, len, first)) (omega (arith, len, second)) refl)
+    (IsPermutation-swap now (swap now one other) one other (omega (arith, len, first))
+    (omega (arith, len, second)) refl)
 
 -- a list after some swaps, with what chooses their places and the words that are left
 record IsNarrowed {A : Type 0} (items : List A) (bound : ℕ) (now : List A × Chooser × Stream) : Type 0 where
@@ -177,4 +188,5 @@ pub drawn-permutes : {A : Type 0} (seed : List ℕ) (kind : DrawKind) (number : 
     → IsPermutation items (drawn_order seed kind number items)
 unfolding drawn_order
 drawn-permutes seed kind number items =
-    shuffled-permutes items (words_of (draw_generator seed kind number)) (generator-words (draw_generator seed kind number))
+    shuffled-permutes items (words_of (draw_generator seed kind number))
+    (generator-words (draw_generator seed kind number))

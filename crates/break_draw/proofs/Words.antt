@@ -118,7 +118,8 @@ pub place-draws : (end : ℕ) (stream : Stream) → 0 < end → GivesWords strea
 place-draws end stream some given =
     let short = canon-draws (2 ^ 32) next_u32 (end - 0) stream one-word (omega arith) given in
     let long = canon-draws (2 ^ 64) next_u64 (end - 0) stream two-words (omega arith) given in
-    either (Draws end) (nat_lt end (2 ^ 32)) (draw_map (λ number. 0 + number) (canon (2 ^ 32) next_u32 (end - 0)) stream)
+    either (Draws end) (nat_lt end (2 ^ 32))
+    (draw_map (λ number. 0 + number) (canon (2 ^ 32) next_u32 (end - 0)) stream)
     (draw_map (λ number. 0 + number) (canon (2 ^ 64) next_u64 (end - 0)) stream)
     (λ _. record { below = (let below = short.below in omega arith); rest = short.rest })
     (λ _. record { below = (let below = long.below in omega arith); rest = long.rest })

@@ -4,7 +4,8 @@ use Rattle.std.specs.Prelude.{IsTrue, slice_index_or, slice_set, replicate}
 use Rattle.button_blinds.specs.SeatSets.{no_seats, has_seat, with_seat, without_seat, seat_count, AreSeatsOf}
 
 -- A test that is true after one is made true was true, or is that one.
-true-set_true : (set : List Bool) (at k : ℕ) → slice_index_or (slice_set set at true) k false ≡ true → (k ≡ at) ⊎ (slice_index_or set k false ≡ true)
+true-set_true : (set : List Bool) (at k : ℕ) → slice_index_or (slice_set set at true) k false ≡ true
+    → (k ≡ at) ⊎ (slice_index_or set k false ≡ true)
 true-set_true [] at k is = inr is
 true-set_true (test ∷ more) zero zero is = inl refl
 true-set_true (test ∷ more) zero (suc k) is = inr is
@@ -13,7 +14,8 @@ true-set_true (test ∷ more) (suc at) (suc k) is =
     elim (true-set_true more at k is) [ inl same ↦ inl (ap suc same) | inr was ↦ inr was ]
 
 -- A test that is true after one is made false was true.
-true-set_false : (set : List Bool) (at k : ℕ) → slice_index_or (slice_set set at false) k false ≡ true → slice_index_or set k false ≡ true
+true-set_false : (set : List Bool) (at k : ℕ) → slice_index_or (slice_set set at false) k false ≡ true
+    → slice_index_or set k false ≡ true
 true-set_false [] at k is = is
 true-set_false (test ∷ more) zero zero is = absurd cc
 true-set_false (test ∷ more) zero (suc k) is = is
@@ -21,26 +23,31 @@ true-set_false (test ∷ more) (suc at) zero is = is
 true-set_false (test ∷ more) (suc at) (suc k) is = true-set_false more at k is
 
 -- A seat of the set with another seat is that one, or was in the set.
-pub has_seat-with_seat : (set : List Bool) (seat other : ℕ) → IsTrue (has_seat (with_seat set seat) other) → (other ≡ seat) ⊎ IsTrue (has_seat set other)
+pub has_seat-with_seat : (set : List Bool) (seat other : ℕ) → IsTrue (has_seat (with_seat set seat) other)
+    → (other ≡ seat) ⊎ IsTrue (has_seat set other)
 has_seat-with_seat set zero other is = inr is
 has_seat-with_seat set (suc at) zero is = inr is
 has_seat-with_seat set (suc at) (suc k) is =
     elim (true-set_true set at k is) [ inl same ↦ inl (ap suc same) | inr was ↦ inr was ]
 
 -- A seat of the set without another was in the set.
-pub has_seat-without_seat : (set : List Bool) (seat other : ℕ) → IsTrue (has_seat (without_seat set seat) other) → IsTrue (has_seat set other)
+pub has_seat-without_seat : (set : List Bool) (seat other : ℕ) → IsTrue (has_seat (without_seat set seat) other)
+    → IsTrue (has_seat set other)
 has_seat-without_seat set zero other is = is
 has_seat-without_seat set (suc at) zero is = is
 has_seat-without_seat set (suc at) (suc k) is = true-set_false set at k is
 
 -- A set of a table's seats with one more of its seats is one.
-pub AreSeatsOf-with_seat : (set : List Bool) (seat seats : ℕ) → AreSeatsOf seats set → seat ≤ seats → AreSeatsOf seats (with_seat set seat)
+pub AreSeatsOf-with_seat : (set : List Bool) (seat seats : ℕ) → AreSeatsOf seats set → seat ≤ seats
+    → AreSeatsOf seats (with_seat set seat)
 AreSeatsOf-with_seat set seat seats before at = record {
-  within = λ other is. elim (has_seat-with_seat set seat other is) [ inl same ↦ omega arith | inr was ↦ before.within other was ];
+  within = λ other is. elim
+      (has_seat-with_seat set seat other is) [ inl same ↦ omega arith | inr was ↦ before.within other was ];
 }
 
 -- A set of a table's seats with one less is one.
-pub AreSeatsOf-without_seat : (set : List Bool) (seat seats : ℕ) → AreSeatsOf seats set → AreSeatsOf seats (without_seat set seat)
+pub AreSeatsOf-without_seat : (set : List Bool) (seat seats : ℕ) → AreSeatsOf seats set
+    → AreSeatsOf seats (without_seat set seat)
 AreSeatsOf-without_seat set seat seats before = record {
   within = λ other is. before.within other (has_seat-without_seat set seat other is);
 }

@@ -7,10 +7,13 @@ use Rattle.card_set.proofs.DeckLaws.{AllPairs-from_repeats_none, repeats_none-fr
 use Rattle.card_choices.specs.Choices.{AreDistinct}
 
 -- the test passes exactly where no card comes twice
-pub distinct-from_test : (test : Bool) (cards : List Card) → test ≡ not (repeats_a_card cards) → IsTrue test ↔ AreDistinct cards
-distinct-from_test true cards is = (λ passed. AllPairs-from_repeats_none cards (negated (repeats_a_card cards) (sym is)), λ distinct. refl)
+pub distinct-from_test : (test : Bool) (cards : List Card) → test ≡ not (repeats_a_card cards)
+    → IsTrue test ↔ AreDistinct cards
+distinct-from_test true cards is =
+    (λ passed. AllPairs-from_repeats_none cards (negated (repeats_a_card cards) (sym is)), λ distinct. refl)
   where
     negated : (b : Bool) → not b ≡ true → b ≡ false
     negated true h = absurd cc
     negated false h = refl
-distinct-from_test false cards is = (λ passed. absurd cc, λ distinct. absurd (cc (is, repeats_none-from_AllPairs cards distinct)))
+distinct-from_test false cards is =
+    (λ passed. absurd cc, λ distinct. absurd (cc (is, repeats_none-from_AllPairs cards distinct)))

@@ -21,7 +21,8 @@ upto_through (x ∷ xs) (y ∷ ys) [] one other = absurd other
 upto_through (x ∷ xs) (y ∷ ys) (z ∷ zs) (inl less) (inl more) = inl (omega arith)
 upto_through (x ∷ xs) (y ∷ ys) (z ∷ zs) (inl less) (inr same) = let e = same.0 in inl (omega arith)
 upto_through (x ∷ xs) (y ∷ ys) (z ∷ zs) (inr same) (inl more) = let e = same.0 in inl (omega arith)
-upto_through (x ∷ xs) (y ∷ ys) (z ∷ zs) (inr same) (inr also) = inr (same.0 ∙ also.0, upto_through xs ys zs same.1 also.1)
+upto_through (x ∷ xs) (y ∷ ys) (z ∷ zs) (inr same) (inr also) =
+    inr (same.0 ∙ also.0, upto_through xs ys zs same.1 also.1)
 
 -- two lists that come no later than each other are the same
 pub upto_both : (xs ys : List ℕ) → Upto xs ys → Upto ys xs → xs ≡ ys
@@ -51,7 +52,11 @@ upto_either (x ∷ xs) (y ∷ ys) =
     elim (which x y) [
       | inl less ↦ inl (inl less)
       | inr rest ↦ elim rest [
-        | inl same ↦ elim (upto_either xs ys) [ inl one ↦ inl (inr (same, one)) | inr other ↦ inr (inr (sym same, other)) ]
+        | inl same ↦ elim (upto_either xs ys) [
+          | inl one ↦ inl (inr (same, one))
+          | inr other ↦ inr
+              (inr (sym same, other))
+        ]
         | inr more ↦ inr (inl more)
       ]
     ]
@@ -153,7 +158,9 @@ min-within xs ys zs one other =
     ]
 
 -- of three lists, the greatest does not depend on the two that are compared first
-pub max_assoc : (xs ys zs : List ℕ) → ord_max (slice_cmp nat_cmp) (ord_max (slice_cmp nat_cmp) xs ys) zs ≡ ord_max (slice_cmp nat_cmp) xs (ord_max (slice_cmp nat_cmp) ys zs)
+pub max_assoc : (xs ys zs : List ℕ)
+    → ord_max (slice_cmp nat_cmp) (ord_max (slice_cmp nat_cmp) xs ys) zs ≡ ord_max (slice_cmp nat_cmp) xs
+    (ord_max (slice_cmp nat_cmp) ys zs)
 max_assoc xs ys zs =
     let left = ord_max (slice_cmp nat_cmp) xs ys in
     let right = ord_max (slice_cmp nat_cmp) ys zs in
@@ -161,14 +168,18 @@ max_assoc xs ys zs =
     let other = ord_max (slice_cmp nat_cmp) xs right in
     upto_both one other
     (max-within left zs other
-    (max-within xs ys other (max-above_left xs right) (upto_through ys right other (max-above_left ys zs) (max-above_right xs right)))
+    (max-within xs ys other (max-above_left xs right)
+    (upto_through ys right other (max-above_left ys zs) (max-above_right xs right)))
     (upto_through zs right other (max-above_right ys zs) (max-above_right xs right)))
     (max-within xs right one
     (upto_through xs left one (max-above_left xs ys) (max-above_left left zs))
-    (max-within ys zs one (upto_through ys left one (max-above_right xs ys) (max-above_left left zs)) (max-above_right left zs)))
+    (max-within ys zs one (upto_through ys left one (max-above_right xs ys) (max-above_left left zs))
+    (max-above_right left zs)))
 
 -- of three lists, the least does not depend on the two that are compared first
-pub min_assoc : (xs ys zs : List ℕ) → ord_min (slice_cmp nat_cmp) (ord_min (slice_cmp nat_cmp) xs ys) zs ≡ ord_min (slice_cmp nat_cmp) xs (ord_min (slice_cmp nat_cmp) ys zs)
+pub min_assoc : (xs ys zs : List ℕ)
+    → ord_min (slice_cmp nat_cmp) (ord_min (slice_cmp nat_cmp) xs ys) zs ≡ ord_min (slice_cmp nat_cmp) xs
+    (ord_min (slice_cmp nat_cmp) ys zs)
 min_assoc xs ys zs =
     let left = ord_min (slice_cmp nat_cmp) xs ys in
     let right = ord_min (slice_cmp nat_cmp) ys zs in
@@ -177,7 +188,9 @@ min_assoc xs ys zs =
     upto_both one other
     (min-within xs right one
     (upto_through one left xs (min-below_left left zs) (min-below_left xs ys))
-    (min-within ys zs one (upto_through one left ys (min-below_left left zs) (min-below_right xs ys)) (min-below_right left zs)))
+    (min-within ys zs one (upto_through one left ys (min-below_left left zs) (min-below_right xs ys))
+    (min-below_right left zs)))
     (min-within left zs other
-    (min-within xs ys other (min-below_left xs right) (upto_through other right ys (min-below_right xs right) (min-below_left ys zs)))
+    (min-within xs ys other (min-below_left xs right)
+    (upto_through other right ys (min-below_right xs right) (min-below_left ys zs)))
     (upto_through other right zs (min-below_right xs right) (min-below_right ys zs)))

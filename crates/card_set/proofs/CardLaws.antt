@@ -51,13 +51,17 @@ test_passes false never = absurd (never refl)
 
 pub same-from_is_same_card : (one other : Card) → is_same_card one other ≡ true → one ≡ other
 same-from_is_same_card one other test =
-    let both : (one.rank ≡ other.rank) × (one.suit ≡ other.suit) = same_numbers one.rank other.rank one.suit other.suit test in
+    let both : (one.rank ≡ other.rank) × (one.suit ≡ other.suit) =
+    same_numbers one.rank other.rank one.suit other.suit test in
     same_card one other both.0 both.1
 
 pub differ-from_is_same_card : (one other : Card) → is_same_card one other ≡ false → one ≢ other
 differ-from_is_same_card one other test = λ same.
-    let passed : is_same_card one other ≡ true = passes_same one.rank other.rank one.suit other.suit (ap (λ (card : Card). card.rank) same) (ap (λ (card : Card). card.suit) same) in
+    let passed : is_same_card one other ≡ true =
+    passes_same one.rank other.rank one.suit other.suit (ap (λ (card : Card). card.rank) same)
+    (ap (λ (card : Card). card.suit) same) in
     cc
 
 pub is_same_card-from_differ : (one other : Card) → one ≢ other → is_same_card one other ≡ false
-is_same_card-from_differ one other differ = test_fails (is_same_card one other) (λ passed. differ (same-from_is_same_card one other passed))
+is_same_card-from_differ one other differ =
+    test_fails (is_same_card one other) (λ passed. differ (same-from_is_same_card one other passed))

@@ -14,26 +14,37 @@ pub in_order_is_deck : (cards : List Card) → length cards ≡ 52 → IsInOrder
 in_order_is_deck cards size order = record {
   whole = size;
   distinct = λ i j d before within same.
-      let at_i : ((slice_index_or cards i d).rank ≡ 2 + i / 4) × ((slice_index_or cards i d).suit ≡ i % 4) = order i d (omega arith) in
-      let at_j : ((slice_index_or cards j d).rank ≡ 2 + j / 4) × ((slice_index_or cards j d).suit ≡ j % 4) = order j d (omega arith) in
-      let ranks : (slice_index_or cards i d).rank ≡ (slice_index_or cards j d).rank = ap (λ (card : Card). card.rank) same in
-      let suits : (slice_index_or cards i d).suit ≡ (slice_index_or cards j d).suit = ap (λ (card : Card). card.suit) same in
+      let at_i : ((slice_index_or cards i d).rank ≡ 2 + i / 4) × ((slice_index_or cards i d).suit ≡ i % 4) =
+      order i d (omega arith) in
+      let at_j : ((slice_index_or cards j d).rank ≡ 2 + j / 4) × ((slice_index_or cards j d).suit ≡ j % 4) =
+      order j d (omega arith) in
+      let ranks : (slice_index_or cards i d).rank ≡ (slice_index_or cards j d).rank =
+      ap (λ (card : Card). card.rank) same in
+      let suits : (slice_index_or cards i d).suit ≡ (slice_index_or cards j d).suit =
+      ap (λ (card : Card). card.suit) same in
       omega arith;
 }
 
 -- one more card, which the cards before it are not
-pub distinct-more : (cards : List Card) (place : ℕ) (d : Card) → place < length cards → AllPairs (λ one other. one ≢ other) (take place cards) → AllWithin (λ one. is_same_card one (slice_index_or cards place d) ≡ false) (take place cards) 0 (length (take place cards)) → AllPairs (λ one other. one ≢ other) (take (place + 1) cards)
+pub distinct-more : (cards : List Card) (place : ℕ) (d : Card) → place < length cards
+    → AllPairs (λ one other. one ≢ other) (take place cards)
+    → AllWithin (λ one. is_same_card one (slice_index_or cards place d) ≡ false) (take place cards) 0
+    (length (take place cards)) → AllPairs (λ one other. one ≢ other) (take (place + 1) cards)
 distinct-more cards place d within distinct new =
     rw (take_more cards place d within)
     (all_pairs_push (λ one other. one ≢ other) (take place cards) (slice_index_or cards place d) distinct
-    (λ k e below. differ-from_is_same_card (slice_index_or (take place cards) k e) (slice_index_or cards place d) (new k e (omega arith) below)))
+    (λ k e below. differ-from_is_same_card (slice_index_or (take place cards) k e) (slice_index_or cards place d)
+    (new k e (omega arith) below)))
 
 -- a card that comes before a place and at it comes twice
-pub comes_twice : (cards : List Card) (place : ℕ) (d : Card) → place < length cards → (k : ℕ) → k < length (take place cards) → HoldsAt (λ one. is_same_card one (slice_index_or cards place d) ≡ true) (take place cards) k → IsDeck cards → ⊥
+pub comes_twice : (cards : List Card) (place : ℕ) (d : Card) → place < length cards → (k : ℕ)
+    → k < length (take place cards)
+    → HoldsAt (λ one. is_same_card one (slice_index_or cards place d) ≡ true) (take place cards) k → IsDeck cards → ⊥
 comes_twice cards place d within k below test deck =
     let size : length (take place cards) ≡ place = length-take-le place cards (omega arith) in
     let before : k < place = omega arith in
-    let same : slice_index_or (take place cards) k d ≡ slice_index_or cards place d = same-from_is_same_card _ _ (test d) in
+    let same : slice_index_or (take place cards) k d ≡ slice_index_or cards place d =
+    same-from_is_same_card _ _ (test d) in
     deck.distinct k place d before within (sym (get_or-take place cards k d before) ∙ same)
 
 neither_passes : (first second : Bool) → first ≡ false → second ≡ false → (first || second) ≡ false
@@ -48,21 +59,27 @@ second_fails true second none = absurd (cc)
 second_fails false second none = none
 
 -- where each card differs from each later one, none comes twice
-pub repeats_none-from_AllPairs : (cards : List Card) → AllPairs (λ one other. one ≢ other) cards → repeats_a_card cards ≡ false
+pub repeats_none-from_AllPairs : (cards : List Card) → AllPairs (λ one other. one ≢ other) cards
+    → repeats_a_card cards ≡ false
 repeats_none-from_AllPairs [] distinct = refl
 repeats_none-from_AllPairs (card ∷ cards) distinct =
     neither_passes (list_any (is_same_card card) cards) (repeats_a_card cards)
-    (list_any_none (is_same_card card) cards (λ k d within. is_same_card-from_differ card (slice_index_or cards k d) (distinct zero (suc k) d (omega arith) (omega arith))))
+    (list_any_none (is_same_card card) cards
+    (λ k d within. is_same_card-from_differ card (slice_index_or cards k d)
+    (distinct zero (suc k) d (omega arith) (omega arith))))
     (repeats_none-from_AllPairs cards (λ i j d before within. distinct (suc i) (suc j) d (omega arith) (omega arith)))
 
 -- a card that is the same as none of some others
-differs_from_each : (card : Card) (cards : List Card) → list_any (is_same_card card) cards ≡ false → All (λ other. card ≢ other) cards
+differs_from_each : (card : Card) (cards : List Card) → list_any (is_same_card card) cards ≡ false
+    → All (λ other. card ≢ other) cards
 differs_from_each card cards none = λ k d within.
     differ-from_is_same_card card (slice_index_or cards k d)
-    (test_fails (is_same_card card (slice_index_or cards k d)) (λ passed. cc (none, list_any_at (is_same_card card) cards k d within passed)))
+    (test_fails (is_same_card card (slice_index_or cards k d))
+    (λ passed. cc (none, list_any_at (is_same_card card) cards k d within passed)))
 
 -- where no card comes twice, each differs from each later one
-pub AllPairs-from_repeats_none : (cards : List Card) → repeats_a_card cards ≡ false → AllPairs (λ one other. one ≢ other) cards
+pub AllPairs-from_repeats_none : (cards : List Card) → repeats_a_card cards ≡ false
+    → AllPairs (λ one other. one ≢ other) cards
 AllPairs-from_repeats_none [] none = λ i j d before within. absurd (omega arith)
 AllPairs-from_repeats_none (card ∷ cards) none =
     AllPairs-cons (λ one other. one ≢ other) card cards
@@ -72,4 +89,5 @@ AllPairs-from_repeats_none (card ∷ cards) none =
 -- 52 cards that are no deck repeat a card
 pub repeats-unless_deck : (cards : List Card) → length cards ≡ 52 → (IsDeck cards → ⊥) → repeats_a_card cards ≡ true
 repeats-unless_deck cards size never =
-    test_passes (repeats_a_card cards) (λ none. never (record { whole = size; distinct = AllPairs-from_repeats_none cards none }))
+    test_passes (repeats_a_card cards)
+    (λ none. never (record { whole = size; distinct = AllPairs-from_repeats_none cards none }))

@@ -11,7 +11,9 @@ length-row_text [] = refl
 length-row_text (card ∷ cards) = omega (arith, length-row_text cards)
 
 -- the text of the card at a place stands at twice the place
-pub card_text-at : (cards : List Card) (place : ℕ) (other : Card) → place < length cards → card_text (slice_index_or cards place other) ≡ slice_index (row_text cards) (2 * place) ∷ slice_index (row_text cards) (2 * place + 1) ∷ []
+pub card_text-at : (cards : List Card) (place : ℕ) (other : Card) → place < length cards
+    → card_text (slice_index_or cards place other) ≡ slice_index (row_text cards) (2 * place) ∷ slice_index
+    (row_text cards) (2 * place + 1) ∷ []
 card_text-at [] place other within = absurd (omega arith)
 card_text-at (card ∷ cards) zero other within = refl
 card_text-at (card ∷ cards) (suc place) other within =
@@ -20,16 +22,27 @@ card_text-at (card ∷ cards) (suc place) other within =
     rw (odd, even) (card_text-at cards place other (omega arith))
 
 -- one more card that is spelled by the next two bytes
-pub row_text-more : (cards : List Card) (place : ℕ) (card : Card) (bytes : List ℕ) → place < length cards → 2 * place + 1 < length bytes → row_text (take place cards) ≡ take (2 * place) bytes → card_text card ≡ slice_index bytes (2 * place) ∷ slice_index bytes (2 * place + 1) ∷ [] → row_text (take (place + 1) (slice_set cards place card)) ≡ take (2 * (place + 1)) bytes
+pub row_text-more : (cards : List Card) (place : ℕ) (card : Card) (bytes : List ℕ) → place < length cards
+    → 2 * place + 1 < length bytes → row_text (take place cards) ≡ take (2 * place) bytes
+    → card_text card ≡ slice_index bytes (2 * place) ∷ slice_index bytes (2 * place + 1) ∷ []
+    → row_text (take (place + 1) (slice_set cards place card)) ≡ take (2 * (place + 1)) bytes
 row_text-more cards place card bytes within room read spelled =
-    let cards_more : take (place + 1) (slice_set cards place card) ≡ take place cards ++ card ∷ [] = take_more_set cards place card within in
-    let text_more : row_text (take place cards ++ card ∷ []) ≡ row_text (take place cards) ++ row_text (card ∷ []) = flat_map-append card_text (take place cards) (card ∷ []) in
-    let one_more : take (2 * place + 1) bytes ≡ take (2 * place) bytes ++ slice_index bytes (2 * place) ∷ [] = take_more bytes (2 * place) 0 (omega arith) in
-    let two_more : take (2 * place + 1 + 1) bytes ≡ take (2 * place + 1) bytes ++ slice_index bytes (2 * place + 1) ∷ [] = take_more bytes (2 * place + 1) 0 room in
+    let cards_more : take (place + 1) (slice_set cards place card) ≡ take place cards ++ card ∷ [] =
+    take_more_set cards place card within in
+    let text_more : row_text (take place cards ++ card ∷ []) ≡ row_text (take place cards) ++ row_text (card ∷ []) =
+    flat_map-append card_text (take place cards) (card ∷ []) in
+    let one_more : take (2 * place + 1) bytes ≡ take (2 * place) bytes ++ slice_index bytes (2 * place) ∷ [] =
+    take_more bytes (2 * place) 0 (omega arith) in
+    let two_more : take (2 * place + 1 + 1) bytes ≡ take (2 * place + 1) bytes ++ slice_index bytes
+    (2 * place + 1) ∷ [] = take_more bytes (2 * place + 1) 0 room in
     let counted : 2 * (place + 1) ≡ 2 * place + 1 + 1 = omega arith in
-    rw (counted, cards_more, text_more, two_more, one_more, read, append_assoc) (ap (λ text. take (2 * place) bytes ++ text) spelled)
+    rw (counted, cards_more, text_more, two_more, one_more, read, append_assoc)
+    (ap (λ text. take (2 * place) bytes ++ text) spelled)
 
 -- one more card that is the only one with its text
-pub take-more-same : (read cards : List Card) (place : ℕ) (card : Card) → place < length read → place < length cards → take place read ≡ take place cards → card ≡ slice_index_or cards place card → take (place + 1) (slice_set read place card) ≡ take (place + 1) cards
+pub take-more-same : (read cards : List Card) (place : ℕ) (card : Card) → place < length read → place < length cards
+    → take place read ≡ take place cards → card ≡ slice_index_or cards place card
+    → take (place + 1) (slice_set read place card) ≡ take (place + 1) cards
 take-more-same read cards place card within other_within same here =
-    rw (take_more_set read place card within, take_more cards place card other_within, same) (ap (λ next. take place cards ++ next ∷ []) here)
+    rw (take_more_set read place card within, take_more cards place card other_within, same)
+    (ap (λ next. take place cards ++ next ∷ []) here)

@@ -13,22 +13,27 @@ use Rattle.card_set.specs.Cards.{rank_letters, rank_letter, suit_letter, card_te
 use Rattle.card_set.proofs.CardLaws.{same_card, same_row}
 
 -- what reads exactly the things that satisfy a property reads the same as another that does
-reads_same : {A : Type 0} (P : A → Type 0) (one other : Option A) → IfSome one P → ((x : A) → P x → one ≡ Some x) → ((x : A) → other ≡ Some x → P x) → ((x : A) → P x → other ≡ Some x) → one ≡ other
+reads_same : {A : Type 0} (P : A → Type 0) (one other : Option A) → IfSome one P → ((x : A) → P x → one ≡ Some x)
+    → ((x : A) → other ≡ Some x → P x) → ((x : A) → P x → other ≡ Some x) → one ≡ other
 reads_same P (Some x) other found only other_found other_only = sym (other_only x found)
 reads_same P None None found only other_found other_only = refl
 reads_same P None (Some x) found only other_found other_only = only x (other_found x refl)
 
-bind_found : {A B : Type 0} (o : Option A) (f : A → Option B) (y : B) → option_and_then f o ≡ Some y → (x : A) × (o ≡ Some x) × (f x ≡ Some y)
+bind_found : {A B : Type 0} (o : Option A) (f : A → Option B) (y : B) → option_and_then f o ≡ Some y
+    → (x : A) × (o ≡ Some x) × (f x ≡ Some y)
 bind_found None f y h = absurd cc
 bind_found (Some x) f y h = (x, refl, h)
 
-map_found : {A B : Type 0} (f : A → B) (o : Option A) (y : B) → option_map f o ≡ Some y → (x : A) × (o ≡ Some x) × (f x ≡ y)
+map_found : {A B : Type 0} (f : A → B) (o : Option A) (y : B) → option_map f o ≡ Some y
+    → (x : A) × (o ≡ Some x) × (f x ≡ y)
 map_found f None y h = absurd cc
 map_found f (Some x) y h = (x, refl, same_Some (f x) y h)
 
 -- a letter that was looked up stands at the place that was found
-place_found : (letters : List ℕ) (letter place : ℕ) → position (λ known. known == letter) letters ≡ Some place → slice_index letters place ≡ letter
-place_found letters letter place h = eqb-true (slice_index letters place) letter (position-Some (λ known. known == letter) letters place 0 h).1
+place_found : (letters : List ℕ) (letter place : ℕ) → position (λ known. known == letter) letters ≡ Some place
+    → slice_index letters place ≡ letter
+place_found letters letter place h =
+    eqb-true (slice_index letters place) letter (position-Some (λ known. known == letter) letters place 0 h).1
 
 and_parts : (a b : Bool) → (a && b) ≡ true → (a ≡ true) × (b ≡ true)
 and_parts true b h = (refl, h)
@@ -51,13 +56,16 @@ holds_below p (suc n) k h below =
 
 -- whether each letter is found at its own place, as where no letter comes twice
 is_found_again : List ℕ → Bool
-is_found_again letters = all_below (λ place. position_or_len (λ known. known == slice_index letters place) letters == place) (length letters)
+is_found_again letters =
+    all_below (λ place. position_or_len (λ known. known == slice_index letters place) letters == place) (length letters)
 
 -- a letter is found at its place
-place_again : (letters : List ℕ) (place : ℕ) → is_found_again letters ≡ true → place < length letters → position (λ known. known == slice_index letters place) letters ≡ Some place
+place_again : (letters : List ℕ) (place : ℕ) → is_found_again letters ≡ true → place < length letters
+    → position (λ known. known == slice_index letters place) letters ≡ Some place
 unfolding is_found_again
 place_again letters place h within =
-    let test = holds_below (λ k. position_or_len (λ known. known == slice_index letters k) letters == k) (length letters) place h within in
+    let test = holds_below (λ k. position_or_len (λ known. known == slice_index letters k) letters == k)
+    (length letters) place h within in
     let found : position_or_len (λ known. known == slice_index letters place) letters ≡ place = eqb-true _ place test in
     let inside : nat_lt place (length letters) ≡ true = grind (arith, nat_tests) in
     rw (found, inside) refl
@@ -81,11 +89,14 @@ suit_again : (suit : ℕ) → suit < 4 → suit_of (suit_letter suit) ≡ Some s
 unfolding is_found_again all_below
 suit_again suit few = place_again (codes "cdhs") suit refl few
 
-card_by_found : (rank suit : ℕ) (two ace four : Bool) (t : nat_le 2 rank ≡ two) (a : nat_le rank 14 ≡ ace) (f : nat_lt suit 4 ≡ four) (card : Card) → card_by rank suit two ace four t a f ≡ Some card → (rank ≡ card.rank) × (suit ≡ card.suit)
+card_by_found : (rank suit : ℕ) (two ace four : Bool) (t : nat_le 2 rank ≡ two) (a : nat_le rank 14 ≡ ace)
+    (f : nat_lt suit 4 ≡ four) (card : Card) → card_by rank suit two ace four t a f ≡ Some card
+    → (rank ≡ card.rank) × (suit ≡ card.suit)
 card_by_found rank suit true true true t a f card h = (cc, cc)
 card_by_found rank suit _ _ _ t a f card h = absurd cc
 
-card_by_again : (card : Card) (two ace four : Bool) (t : nat_le 2 card.rank ≡ two) (a : nat_le card.rank 14 ≡ ace) (f : nat_lt card.suit 4 ≡ four) → card_by card.rank card.suit two ace four t a f ≡ Some card
+card_by_again : (card : Card) (two ace four : Bool) (t : nat_le 2 card.rank ≡ two) (a : nat_le card.rank 14 ≡ ace)
+    (f : nat_lt card.suit 4 ≡ four) → card_by card.rank card.suit two ace four t a f ≡ Some card
 card_by_again card true true true t a f = ap Some (same_card _ card refl refl)
 card_by_again card _ _ _ t a f = absurd (grind (arith, nat_tests))
 
@@ -100,13 +111,16 @@ card_found a b card h =
     let suit = bind_found (suit_of b) (λ s. card_at rank.0 s) card rank.2 in
     let first = rank_found a rank.0 rank.1 in
     let second = suit_found b suit.0 suit.1 in
-    let parts = card_by_found rank.0 suit.0 (nat_le 2 rank.0) (nat_le rank.0 14) (nat_lt suit.0 4) refl refl refl card suit.2 in
-    two_letters (rank_letter card.rank) (suit_letter card.suit) a b (ap rank_letter (sym parts.0) ∙ first) (ap suit_letter (sym parts.1) ∙ second)
+    let parts = card_by_found rank.0 suit.0 (nat_le 2 rank.0) (nat_le rank.0 14)
+    (nat_lt suit.0 4) refl refl refl card suit.2 in
+    two_letters (rank_letter card.rank) (suit_letter card.suit) a b (ap rank_letter (sym parts.0) ∙ first)
+    (ap suit_letter (sym parts.1) ∙ second)
 
 -- each card is read from its text
 pub card_again : (card : Card) → card_of (rank_letter card.rank) (suit_letter card.suit) ≡ Some card
 unfolding card_of
-card_again card = rw (rank_again card.rank card.from_two card.up_to_ace, suit_again card.suit card.one_of_four) (card_by_again card (nat_le 2 card.rank) (nat_le card.rank 14) (nat_lt card.suit 4) refl refl refl)
+card_again card = rw (rank_again card.rank card.from_two card.up_to_ace, suit_again card.suit card.one_of_four)
+    (card_by_again card (nat_le 2 card.rank) (nat_le card.rank 14) (nat_lt card.suit 4) refl refl refl)
 
 cards_found : (bytes : List ℕ) (cards : List Card) → cards_of bytes ≡ Some cards → row_text cards ≡ bytes
 unfolding cards_of
@@ -117,18 +131,21 @@ cards_found (a ∷ b ∷ bytes) cards h =
     let others = map_found (λ cs. card.0 ∷ cs) (cards_of bytes) cards card.2 in
     let first = card_found a b card.0 card.1 in
     let rest = cards_found bytes others.0 others.1 in
-    ap row_text (sym others.2) ∙ ap (λ (text : List ℕ). text ++ row_text others.0) first ∙ ap (λ (text : List ℕ). a ∷ b ∷ text) rest
+    ap row_text (sym others.2) ∙ ap (λ (text : List ℕ). text ++ row_text others.0) first
+    ∙ ap (λ (text : List ℕ). a ∷ b ∷ text) rest
 
 cards_again : (cards : List Card) → cards_of (row_text cards) ≡ Some cards
 unfolding cards_of
 cards_again [] = refl
 cards_again (card ∷ cards) = rw (card_again card, cards_again cards) refl
 
-row_by_found : (cards : List Card) (whole : Bool) (is : (length cards == 52) ≡ whole) (row : CardRow) → row_by cards whole is ≡ Some row → cards ≡ row.cards
+row_by_found : (cards : List Card) (whole : Bool) (is : (length cards == 52) ≡ whole) (row : CardRow)
+    → row_by cards whole is ≡ Some row → cards ≡ row.cards
 row_by_found cards true is row h = cc
 row_by_found cards false is row h = absurd cc
 
-row_by_again : (row : CardRow) (whole : Bool) (is : (length row.cards == 52) ≡ whole) → row_by row.cards whole is ≡ Some row
+row_by_again : (row : CardRow) (whole : Bool) (is : (length row.cards == 52) ≡ whole)
+    → row_by row.cards whole is ≡ Some row
 row_by_again row true is = ap Some (same_row _ row refl)
 row_by_again row false is = let right : length row.cards ≡ 52 = row.whole in absurd (grind (arith, nat_tests))
 
@@ -152,9 +169,13 @@ card_spelled a b card spelled =
     rw (← first, ← second) (card_again card)
 
 -- what reads exactly the texts of cards reads the card that two letters spell
-pub reads_card : (a b : ℕ) (read : Option Card) → IfSome read (λ card. card_text card ≡ a ∷ b ∷ []) → ((card : Card) → card_text card ≡ a ∷ b ∷ [] → read ≡ Some card) → read ≡ card_of a b
-reads_card a b read found only = reads_same (λ card. card_text card ≡ a ∷ b ∷ []) read (card_of a b) found only (card_found a b) (card_spelled a b)
+pub reads_card : (a b : ℕ) (read : Option Card) → IfSome read (λ card. card_text card ≡ a ∷ b ∷ [])
+    → ((card : Card) → card_text card ≡ a ∷ b ∷ [] → read ≡ Some card) → read ≡ card_of a b
+reads_card a b read found only = reads_same (λ card. card_text card ≡ a ∷ b ∷ []) read (card_of a b) found only
+    (card_found a b) (card_spelled a b)
 
 -- what reads exactly the texts of rows reads the row that bytes spell
-pub reads_row : (bytes : List ℕ) (read : Option CardRow) → IfSome read (λ row. row_text row.cards ≡ bytes) → ((row : CardRow) → row_text row.cards ≡ bytes → read ≡ Some row) → read ≡ row_of bytes
-reads_row bytes read found only = reads_same (λ row. row_text row.cards ≡ bytes) read (row_of bytes) found only (row_found bytes) (λ row spelled. ap row_of (sym spelled) ∙ row_again row)
+pub reads_row : (bytes : List ℕ) (read : Option CardRow) → IfSome read (λ row. row_text row.cards ≡ bytes)
+    → ((row : CardRow) → row_text row.cards ≡ bytes → read ≡ Some row) → read ≡ row_of bytes
+reads_row bytes read found only = reads_same (λ row. row_text row.cards ≡ bytes) read (row_of bytes) found only
+    (row_found bytes) (λ row spelled. ap row_of (sym spelled) ∙ row_again row)

@@ -60,7 +60,8 @@ pub seen-found : (seen : List Bool) (cards : List Card) (card : Card) → index_
     → slice_index_or seen (index_of card) false ≡ true
     → (k : ℕ) × (k < length cards) × HoldsAt (λ one. is_same_card one card ≡ true) cards k
 seen-found seen cards card small was is =
-    let some = Any-from_list_any (λ one. index_of one == index_of card) cards (sym (was (index_of card) small) ∙ is) in (
+    let some = Any-from_list_any (λ one. index_of one == index_of card) cards (sym (was (index_of card) small)
+    ∙ is) in (
       some.0,
       some.2,
       λ d. ap (λ one. is_same_card one card) (sym

@@ -12,7 +12,8 @@ use Rattle.deal_order.proofs.Orders.{count_up-append, dealt-count, dealt-distinc
 round-count_up : (dealt : List Bool) (button seats card : ℕ) → AreSeatsOf seats dealt → seats ≤ 10 → button ≤ seats
     → round_places dealt button seats card ≡ count_up (card * seat_count dealt) (seat_count dealt)
 round-count_up dealt button seats card table most at =
-    places-count_up (card * seat_count dealt) (dealt_in_order dealt button seats) (dealt-distinct dealt button seats most at)
+    places-count_up (card * seat_count dealt) (dealt_in_order dealt button seats)
+    (dealt-distinct dealt button seats most at)
     ∙ ap (count_up (card * seat_count dealt)) (dealt-count dealt button seats table at)
 
 -- All hole cards are the first cards.
@@ -60,26 +61,31 @@ count_up-above low from (suc steps) below =
 -- Numbers one after another rise.
 count_up-rising : (from steps : ℕ) → are_rising (count_up from steps) ≡ true
 count_up-rising from zero = refl
-count_up-rising from (suc steps) = rw (count_up-above from (from + 1) steps (omega arith), count_up-rising (from + 1) steps)
+count_up-rising from (suc steps) =
+    rw (count_up-above from (from + 1) steps (omega arith), count_up-rising (from + 1) steps)
 
 -- Numbers one after another are below the one after the last.
-count_up-within : (from steps most : ℕ) → from + steps ≤ most → list_all (λ number. nat_lt number most) (count_up from steps) ≡ true
+count_up-within : (from steps most : ℕ) → from + steps ≤ most
+    → list_all (λ number. nat_lt number most) (count_up from steps) ≡ true
 count_up-within from zero most within = refl
 count_up-within from (suc steps) most within =
     let here : nat_lt from most ≡ true = grind (arith, nat_tests) in
     rw (here, count_up-within (from + 1) steps most (omega arith))
 
 -- Each place is above all before it.
-pub deal-rising : (dealt : List Bool) (button seats holes : ℕ) → AreSeatsOf seats dealt → seats ≤ 10 → button ≤ seats → are_rising (deal_places dealt button seats holes) ≡ true
+pub deal-rising : (dealt : List Bool) (button seats holes : ℕ) → AreSeatsOf seats dealt → seats ≤ 10 → button ≤ seats
+    → are_rising (deal_places dealt button seats holes) ≡ true
 deal-rising dealt button seats holes table most at =
-    ap are_rising (deal-count_up dealt button seats holes table most at) ∙ count_up-rising 0 (holes * seat_count dealt + 8)
+    ap are_rising (deal-count_up dealt button seats holes table most at)
+    ∙ count_up-rising 0 (holes * seat_count dealt + 8)
 
 -- Four cards of ten players are forty.
 pub forty : (holes players : ℕ) → holes ≤ 4 → players ≤ 10 → holes * players ≤ 40
 forty holes players few most = grind arith
 
 -- With at most four hole cards each place is one of the deck's 52.
-pub deal-within : (dealt : List Bool) (button seats holes : ℕ) → AreSeatsOf seats dealt → seats ≤ 10 → button ≤ seats → holes ≤ 4
+pub deal-within : (dealt : List Bool) (button seats holes : ℕ) → AreSeatsOf seats dealt → seats ≤ 10 → button ≤ seats
+    → holes ≤ 4
     → list_all (λ place. nat_lt place 52) (deal_places dealt button seats holes) ≡ true
 deal-within dealt button seats holes table most at few =
     let players = dealt-most dealt seats table in

@@ -13,24 +13,31 @@ use Rattle.button_blinds.specs.SeatSets.{AreSeatsOf, has_seat, seat_count}
 use Rattle.deal_order.specs.DealOrder.{count_up, dealt_in_order, index_in}
 
 -- The next seat of a walk, where it is dealt in and the one looked for.
-pub index-here : (dealt : ℕ → Bool) (step : ℕ → ℕ) (steps taken next seat : ℕ) → taken < steps → dealt (step next) ≡ true → step next ≡ seat
+pub index-here : (dealt : ℕ → Bool) (step : ℕ → ℕ) (steps taken next seat : ℕ) → taken < steps
+    → dealt (step next) ≡ true → step next ≡ seat
     → index_in seat (filter dealt (walk step (steps - taken) next)) ≡ 0
 index-here dealt step steps taken next seat within sits same =
     let is : (step next == seat) ≡ true = grind (arith, nat_tests) in
     rw (walk-next step steps taken next within, sits, is)
 
 -- The next seat of a walk, where it is dealt in and another than the one looked for.
-pub index-passed : (dealt : ℕ → Bool) (step : ℕ → ℕ) (steps taken next seat : ℕ) → taken < steps → dealt (step next) ≡ true → (step next == seat) ≡ false
-    → index_in seat (filter dealt (walk step (steps - taken) next)) ≡ index_in seat (filter dealt (walk step (steps - (taken + 1)) (step next))) + 1
-index-passed dealt step steps taken next seat within sits other = rw (walk-next step steps taken next within, sits, other)
+pub index-passed : (dealt : ℕ → Bool) (step : ℕ → ℕ) (steps taken next seat : ℕ) → taken < steps
+    → dealt (step next) ≡ true → (step next == seat) ≡ false
+    → index_in seat (filter dealt (walk step (steps - taken) next))
+    ≡ index_in seat (filter dealt (walk step (steps - (taken + 1)) (step next))) + 1
+index-passed dealt step steps taken next seat within sits other =
+    rw (walk-next step steps taken next within, sits, other)
 
 -- The next seat of a walk, where it is not dealt in.
-pub index-empty : (dealt : ℕ → Bool) (step : ℕ → ℕ) (steps taken next seat : ℕ) → taken < steps → dealt (step next) ≡ false
-    → index_in seat (filter dealt (walk step (steps - taken) next)) ≡ index_in seat (filter dealt (walk step (steps - (taken + 1)) (step next)))
+pub index-empty : (dealt : ℕ → Bool) (step : ℕ → ℕ) (steps taken next seat : ℕ) → taken < steps
+    → dealt (step next) ≡ false
+    → index_in seat (filter dealt (walk step (steps - taken) next))
+    ≡ index_in seat (filter dealt (walk step (steps - (taken + 1)) (step next)))
 index-empty dealt step steps taken next seat within nobody = rw (walk-next step steps taken next within, nobody)
 
 -- With no step left nobody more comes before.
-pub index-over : (dealt : ℕ → Bool) (step : ℕ → ℕ) (steps taken next seat : ℕ) → steps ≤ taken → index_in seat (filter dealt (walk step (steps - taken) next)) ≡ 0
+pub index-over : (dealt : ℕ → Bool) (step : ℕ → ℕ) (steps taken next seat : ℕ) → steps ≤ taken
+    → index_in seat (filter dealt (walk step (steps - taken) next)) ≡ 0
 index-over dealt step steps taken next seat over =
     let left : steps - taken ≡ 0 = omega arith in rw left
 
@@ -56,19 +63,24 @@ all_below-at test (suc n) k all below =
     ]
 
 -- No seat comes twice in a walk round a table.
-distinct-checked : all_below (λ seats. all_below (λ button. are_distinct (λ one other. one == other) (clockwise_after seats button)) 11) 11 ≡ true
+distinct-checked : all_below
+    (λ seats. all_below (λ button. are_distinct (λ one other. one == other) (clockwise_after seats button)) 11) 11
+    ≡ true
 unfolding all_below
 distinct-checked = refl
 
 -- No seat comes twice in a walk round a table.
-clockwise-distinct : (seats button : ℕ) → seats ≤ 10 → button ≤ seats → are_distinct (λ one other. one == other) (clockwise_after seats button) ≡ true
+clockwise-distinct : (seats button : ℕ) → seats ≤ 10 → button ≤ seats
+    → are_distinct (λ one other. one == other) (clockwise_after seats button) ≡ true
 clockwise-distinct seats button most at =
     all_below-at (λ b. are_distinct (λ one other. one == other) (clockwise_after seats b)) 11 button
-    (all_below-at (λ s. all_below (λ b. are_distinct (λ one other. one == other) (clockwise_after s b)) 11) 11 seats distinct-checked (omega arith))
+    (all_below-at (λ s. all_below (λ b. are_distinct (λ one other. one == other) (clockwise_after s b)) 11) 11 seats
+    distinct-checked (omega arith))
     (omega arith)
 
 -- What all pass, those pass that another test keeps.
-kept-all : (test kept : ℕ → Bool) (seats : List ℕ) → list_all test seats ≡ true → list_all test (filter kept seats) ≡ true
+kept-all : (test kept : ℕ → Bool) (seats : List ℕ) → list_all test seats ≡ true
+    → list_all test (filter kept seats) ≡ true
 kept-all test kept [] all = refl
 kept-all test kept (seat ∷ seats) all =
     let both = both_true (test seat) (list_all test seats) all in
@@ -76,10 +88,12 @@ kept-all test kept (seat ∷ seats) all =
     elim (cases_Bool (kept seat)) [ inl is ↦ rw (is, both.0, later) | inr empty ↦ rw empty later ]
 
 -- Of seats that are distinct, those are that a test keeps.
-kept-distinct : (kept : ℕ → Bool) (seats : List ℕ) → are_distinct (λ one other. one == other) seats ≡ true → are_distinct (λ one other. one == other) (filter kept seats) ≡ true
+kept-distinct : (kept : ℕ → Bool) (seats : List ℕ) → are_distinct (λ one other. one == other) seats ≡ true
+    → are_distinct (λ one other. one == other) (filter kept seats) ≡ true
 kept-distinct kept [] distinct = refl
 kept-distinct kept (seat ∷ seats) distinct =
-    let both = both_true (list_all (λ other. not (seat == other)) seats) (are_distinct (λ one other. one == other) seats) distinct in
+    let both = both_true (list_all (λ other. not (seat == other)) seats)
+    (are_distinct (λ one other. one == other) seats) distinct in
     let later = kept-distinct kept seats both.1 in
     let apart = kept-all (λ other. not (seat == other)) kept seats both.0 in
     elim (cases_Bool (kept seat)) [ inl is ↦ rw (is, apart, later) | inr empty ↦ rw empty later ]
@@ -96,10 +110,12 @@ later-places first before seats (seat ∷ rest) apart =
     rw (other, here, later)
 
 -- Distinct seats have the places from the first on, one after another.
-pub places-count_up : (first : ℕ) (seats : List ℕ) → are_distinct (λ one other. one == other) seats ≡ true → map (λ seat. first + index_in seat seats) seats ≡ count_up first (length seats)
+pub places-count_up : (first : ℕ) (seats : List ℕ) → are_distinct (λ one other. one == other) seats ≡ true
+    → map (λ seat. first + index_in seat seats) seats ≡ count_up first (length seats)
 places-count_up first [] distinct = refl
 places-count_up first (seat ∷ seats) distinct =
-    let both = both_true (list_all (λ other. not (seat == other)) seats) (are_distinct (λ one other. one == other) seats) distinct in
+    let both = both_true (list_all (λ other. not (seat == other)) seats)
+    (are_distinct (λ one other. one == other) seats) distinct in
     let same : (seat == seat) ≡ true = grind (arith, nat_tests) in
     let here : first + 0 ≡ first = omega arith in
     let later = later-places first seat seats seats both.0 ∙ places-count_up (first + 1) seats both.1 in
@@ -120,7 +136,8 @@ walk-from_last seats (suc steps) within =
     rw next (ap (λ rest. 1 ∷ rest) (walk-up seats steps 1 (omega arith)))
 
 -- A walk past the last seat counts up to it, and then goes on from it.
-walk-round : (seats steps more from : ℕ) → from + steps ≡ seats → walk (seat_after seats) (steps + more) from ≡ count_up (from + 1) steps ++ walk (seat_after seats) more seats
+walk-round : (seats steps more from : ℕ) → from + steps ≡ seats
+    → walk (seat_after seats) (steps + more) from ≡ count_up (from + 1) steps ++ walk (seat_after seats) more seats
 walk-round seats zero more from reached =
     let same : from ≡ seats = omega arith in
     let steps : 0 + more ≡ more = omega arith in rw (same, steps)
@@ -130,14 +147,17 @@ walk-round seats (suc steps) more from reached =
     rw (one, next) (ap (λ rest. (from + 1) ∷ rest) (walk-round seats steps more (from + 1) (omega arith)))
 
 -- All seats clockwise from the seat after the button: those above it, and then the others.
-clockwise-split : (seats button : ℕ) → button ≤ seats → clockwise_after seats button ≡ count_up (button + 1) (seats - button) ++ count_up 1 button
+clockwise-split : (seats button : ℕ) → button ≤ seats
+    → clockwise_after seats button ≡ count_up (button + 1) (seats - button) ++ count_up 1 button
 clockwise-split seats button at =
     let all : seats ≡ (seats - button) + button = omega arith in
     let round = walk-round seats (seats - button) button button (omega arith) in
-    ap (λ (n : ℕ). walk (seat_after seats) n button) all ∙ round ∙ ap (λ rest. count_up (button + 1) (seats - button) ++ rest) (walk-from_last seats button at)
+    ap (λ (n : ℕ). walk (seat_after seats) n button) all ∙ round
+    ∙ ap (λ rest. count_up (button + 1) (seats - button) ++ rest) (walk-from_last seats button at)
 
 -- Numbers one after another, in two pieces.
-pub count_up-append : (from one other : ℕ) → count_up from one ++ count_up (from + one) other ≡ count_up from (one + other)
+pub count_up-append : (from one other : ℕ)
+    → count_up from one ++ count_up (from + one) other ≡ count_up from (one + other)
 count_up-append from zero other =
     let start : from + 0 ≡ from = omega arith in
     let all : 0 + other ≡ other = omega arith in rw (start, all)
@@ -147,64 +167,79 @@ count_up-append from (suc one) other =
     rw (start, all) (ap (λ rest. from ∷ rest) (count_up-append (from + 1) one other))
 
 -- How many of two lists a test keeps.
-kept-append : (kept : ℕ → Bool) (one other : List ℕ) → length (filter kept (one ++ other)) ≡ length (filter kept one) + length (filter kept other)
+kept-append : (kept : ℕ → Bool) (one other : List ℕ)
+    → length (filter kept (one ++ other)) ≡ length (filter kept one) + length (filter kept other)
 kept-append kept [] other = omega arith
 kept-append kept (seat ∷ one) other =
     let later = kept-append kept one other in
     elim (cases_Bool (kept seat)) [ inl is ↦ rw is (omega arith) | inr empty ↦ rw empty later ]
 
 -- A test that no number passes keeps none.
-kept-none : (kept : ℕ → Bool) (from steps : ℕ) → ((k : ℕ) → kept (from + k) ≡ false) → length (filter kept (count_up from steps)) ≡ 0
+kept-none : (kept : ℕ → Bool) (from steps : ℕ) → ((k : ℕ) → kept (from + k) ≡ false)
+    → length (filter kept (count_up from steps)) ≡ 0
 kept-none kept from zero none = refl
 kept-none kept from (suc steps) none =
     let here : kept from ≡ false = ap kept (omega arith) ∙ none 0 in
     rw here (kept-none kept (from + 1) steps (λ k. ap kept (omega arith) ∙ none (k + 1)))
 
 -- A set of seats keeps as many of the seats as there are in it.
-kept-tests : (set : List Bool) (kept : ℕ → Bool) (from steps : ℕ) → ((k : ℕ) → kept (from + k) ≡ slice_index_or set k false) → ((k : ℕ) → slice_index_or set k false ≡ true → k < steps)
+kept-tests : (set : List Bool) (kept : ℕ → Bool) (from steps : ℕ)
+    → ((k : ℕ) → kept (from + k) ≡ slice_index_or set k false)
+    → ((k : ℕ) → slice_index_or set k false ≡ true → k < steps)
     → length (filter kept (count_up from steps)) ≡ seat_count set
 kept-tests [] kept from steps same within = kept-none kept from steps same
 kept-tests (true ∷ set) kept from zero same within = absurd (omega (arith, within 0 refl))
 kept-tests (false ∷ set) kept from zero same within =
     let counted = sum_by-cons (λ x. cond x 1 0) false set in
-    let later = kept-tests set kept (from + 1) zero (λ k. ap kept (omega arith) ∙ same (suc k)) (λ k is. absurd (omega (arith, within (suc k) is))) in
+    let later = kept-tests set kept (from + 1) zero (λ k. ap kept (omega arith) ∙ same (suc k))
+    (λ k is. absurd (omega (arith, within (suc k) is))) in
     omega (arith, counted, later)
 kept-tests (true ∷ set) kept from (suc steps) same within =
     let counted = sum_by-cons (λ x. cond x 1 0) true set in
     let here : kept from ≡ true = ap kept (omega arith) ∙ same 0 in
-    let later = kept-tests set kept (from + 1) steps (λ k. ap kept (omega arith) ∙ same (suc k)) (λ k is. omega (arith, within (suc k) is)) in
+    let later = kept-tests set kept (from + 1) steps (λ k. ap kept (omega arith) ∙ same (suc k))
+    (λ k is. omega (arith, within (suc k) is)) in
     rw here (omega (arith, counted, later))
 kept-tests (false ∷ set) kept from (suc steps) same within =
     let counted = sum_by-cons (λ x. cond x 1 0) false set in
     let here : kept from ≡ false = ap kept (omega arith) ∙ same 0 in
-    let later = kept-tests set kept (from + 1) steps (λ k. ap kept (omega arith) ∙ same (suc k)) (λ k is. omega (arith, within (suc k) is)) in
+    let later = kept-tests set kept (from + 1) steps (λ k. ap kept (omega arith) ∙ same (suc k))
+    (λ k is. omega (arith, within (suc k) is)) in
     rw here (omega (arith, counted, later))
 
 -- The seats of a table that a set has are as many as there are in it.
-table-count : (dealt : List Bool) (seats : ℕ) → AreSeatsOf seats dealt → length (filter (has_seat dealt) (count_up 1 seats)) ≡ seat_count dealt
+table-count : (dealt : List Bool) (seats : ℕ) → AreSeatsOf seats dealt
+    → length (filter (has_seat dealt) (count_up 1 seats)) ≡ seat_count dealt
 table-count dealt seats table =
-    kept-tests dealt (has_seat dealt) 1 seats (λ k. let next : 1 + k ≡ suc k = omega arith in ap (has_seat dealt) next) (λ k is. let within = table.within (suc k) is in omega arith)
+    kept-tests dealt (has_seat dealt) 1 seats (λ k. let next : 1 + k ≡ suc k = omega arith in ap (has_seat dealt) next)
+    (λ k is. let within = table.within (suc k) is in omega arith)
 
 -- As many are dealt in as there are seats in the set.
-pub dealt-count : (dealt : List Bool) (button seats : ℕ) → AreSeatsOf seats dealt → button ≤ seats → length (dealt_in_order dealt button seats) ≡ seat_count dealt
+pub dealt-count : (dealt : List Bool) (button seats : ℕ) → AreSeatsOf seats dealt → button ≤ seats
+    → length (dealt_in_order dealt button seats) ≡ seat_count dealt
 dealt-count dealt button seats table at =
     let sits = has_seat dealt in
     let split = ap (λ all. length (filter sits all)) (clockwise-split seats button at) in
     let round = kept-append sits (count_up (button + 1) (seats - button)) (count_up 1 button) in
     let start : 1 + button ≡ button + 1 = omega arith in
     let all : button + (seats - button) ≡ seats = omega arith in
-    let up : count_up 1 button ++ count_up (button + 1) (seats - button) ≡ count_up 1 seats = rw (← start) (count_up-append 1 button (seats - button) ∙ ap (count_up 1) all) in
-    let straight = ap (λ all. length (filter sits all)) (sym up) ∙ kept-append sits (count_up 1 button) (count_up (button + 1) (seats - button)) in
+    let up : count_up 1 button ++ count_up (button + 1) (seats - button) ≡ count_up 1 seats =
+    rw (← start) (count_up-append 1 button (seats - button) ∙ ap (count_up 1) all) in
+    let straight = ap (λ all. length (filter sits all)) (sym up)
+    ∙ kept-append sits (count_up 1 button) (count_up (button + 1) (seats - button)) in
     let counted = table-count dealt seats table in
     split ∙ round ∙ omega arith
 
 -- Of the seats that are dealt in none comes twice.
-pub dealt-distinct : (dealt : List Bool) (button seats : ℕ) → seats ≤ 10 → button ≤ seats → are_distinct (λ one other. one == other) (dealt_in_order dealt button seats) ≡ true
-dealt-distinct dealt button seats most at = kept-distinct (has_seat dealt) (clockwise_after seats button) (clockwise-distinct seats button most at)
+pub dealt-distinct : (dealt : List Bool) (button seats : ℕ) → seats ≤ 10 → button ≤ seats
+    → are_distinct (λ one other. one == other) (dealt_in_order dealt button seats) ≡ true
+dealt-distinct dealt button seats most at = kept-distinct (has_seat dealt) (clockwise_after seats button)
+    (clockwise-distinct seats button most at)
 
 -- No more are dealt in than the table has seats.
 pub dealt-most : (dealt : List Bool) (seats : ℕ) → AreSeatsOf seats dealt → seat_count dealt ≤ seats
-dealt-most dealt seats table = let counted = table-count dealt seats table in let most = kept-most (has_seat dealt) 1 seats in omega arith
+dealt-most dealt seats table = let counted = table-count dealt seats table in let most =
+    kept-most (has_seat dealt) 1 seats in omega arith
   where
     kept-most : (kept : ℕ → Bool) (from steps : ℕ) → length (filter kept (count_up from steps)) ≤ steps
     kept-most kept from zero = omega arith

@@ -15,7 +15,8 @@ use Rattle.entry_list.specs.Entries.{is_known, is_full, IsEntries}
 other_way : (one other : List ℕ) → bytes_eq one other ≡ false → not (bytes_eq other one) ≡ true
 other_way one other differ = elim (cases_Bool (bytes_eq other one)) [
   | inl same ↦
-      let back : bytes_eq one other ≡ true = (bytes_eq-Decides one other).1 (sym ((bytes_eq-Decides other one).0 same)) in
+      let back : bytes_eq one other ≡ true =
+      (bytes_eq-Decides one other).1 (sym ((bytes_eq-Decides other one).0 same)) in
       let never : false ≡ true = sym differ ∙ back in
       absurd cc
   | inr differs ↦ rw differs refl
@@ -26,15 +27,18 @@ neither true other none = absurd cc
 neither false other none = (refl, none)
 
 -- each name of a list differs from one that is not in it
-all_differ : (entries : List (List ℕ)) (name : List ℕ) → is_known entries name ≡ false → list_all (λ earlier. not (bytes_eq earlier name)) entries ≡ true
+all_differ : (entries : List (List ℕ)) (name : List ℕ) → is_known entries name ≡ false
+    → list_all (λ earlier. not (bytes_eq earlier name)) entries ≡ true
 all_differ [] name unknown = refl
 all_differ (first ∷ entries) name unknown =
     let parts = neither (bytes_eq name first) (is_known entries name) unknown in
     and_from _ _ (other_way name first parts.0) (all_differ entries name parts.1)
 
 -- A lawful list stays so once a name was added that was not in it, where there was room.
-pub entries-added : (entries : List (List ℕ)) (name : List ℕ) → IsEntries entries → is_known entries name ≡ false → length entries ≤ 639 → IsEntries (entries ++ name ∷ [])
+pub entries-added : (entries : List (List ℕ)) (name : List ℕ) → IsEntries entries → is_known entries name ≡ false
+    → length entries ≤ 639 → IsEntries (entries ++ name ∷ [])
 entries-added entries name lawful unknown room = record {
   few = simp length-append (omega arith);
-  distinct = is_pairwise-between (λ one other. not (bytes_eq one other)) entries name [] (rw append-nil lawful.distinct) (all_differ entries name unknown) refl;
+  distinct = is_pairwise-between (λ one other. not (bytes_eq one other)) entries name [] (rw append-nil lawful.distinct)
+      (all_differ entries name unknown) refl;
 }

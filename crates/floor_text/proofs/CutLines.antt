@@ -43,17 +43,21 @@ first_feed (b ∷ bs) =
       ]
     ]
 
-slice_split-feed : (xs ys : List ℕ) → HasNoFeed xs → slice_split is_line_feed (xs ++ 10 ∷ ys) ≡ xs ∷ slice_split is_line_feed ys
+slice_split-feed : (xs ys : List ℕ) → HasNoFeed xs
+    → slice_split is_line_feed (xs ++ 10 ∷ ys) ≡ xs ∷ slice_split is_line_feed ys
 slice_split-feed [] ys none = refl
 slice_split-feed (x ∷ xs) ys none =
-    slice_split-cons_no is_line_feed x (xs ++ 10 ∷ ys) (is_other x (first_other x xs none)) ∙ ap (onto_first x) (slice_split-feed xs ys (rest_other x xs none))
+    slice_split-cons_no is_line_feed x (xs ++ 10 ∷ ys) (is_other x (first_other x xs none))
+    ∙ ap (onto_first x) (slice_split-feed xs ys (rest_other x xs none))
 
 slice_split-none : (xs : List ℕ) → HasNoFeed xs → slice_split is_line_feed xs ≡ xs ∷ []
 slice_split-none [] none = refl
 slice_split-none (x ∷ xs) none =
-    slice_split-cons_no is_line_feed x xs (is_other x (first_other x xs none)) ∙ ap (onto_first x) (slice_split-none xs (rest_other x xs none))
+    slice_split-cons_no is_line_feed x xs (is_other x (first_other x xs none))
+    ∙ ap (onto_first x) (slice_split-none xs (rest_other x xs none))
 
-slice_split-some : (xs : List ℕ) → (part : List ℕ) × (parts : List (List ℕ)) × (slice_split is_line_feed xs ≡ part ∷ parts)
+slice_split-some : (xs : List ℕ)
+    → (part : List ℕ) × (parts : List (List ℕ)) × (slice_split is_line_feed xs ≡ part ∷ parts)
 slice_split-some [] = ([], [], refl)
 slice_split-some (x ∷ xs) =
     elim (cases_eq x 10) [
@@ -63,7 +67,8 @@ slice_split-some (x ∷ xs) =
           (x ∷ more.0, more.1, slice_split-cons_no is_line_feed x xs (is_other x other) ∙ ap (onto_first x) more.2)
     ]
 
-without_empty_last-more : (part next : List ℕ) (parts : List (List ℕ)) → without_empty_last (part ∷ next ∷ parts) ≡ part ∷ without_empty_last (next ∷ parts)
+without_empty_last-more : (part next : List ℕ) (parts : List (List ℕ))
+    → without_empty_last (part ∷ next ∷ parts) ≡ part ∷ without_empty_last (next ∷ parts)
 without_empty_last-more [] next parts = refl
 without_empty_last-more (b ∷ bs) next parts = refl
 
@@ -71,12 +76,17 @@ pub lines_of_bytes-nil : lines_of_bytes [] ≡ []
 unfolding lines_of_bytes
 lines_of_bytes-nil = refl
 
-pub lines_of_bytes-line : (line rest : List ℕ) → HasNoFeed line → lines_of_bytes (line ++ 10 ∷ rest) ≡ cut_line line ∷ lines_of_bytes rest
+pub lines_of_bytes-line : (line rest : List ℕ) → HasNoFeed line
+    → lines_of_bytes (line ++ 10 ∷ rest) ≡ cut_line line ∷ lines_of_bytes rest
 unfolding lines_of_bytes
 lines_of_bytes-line line rest none =
     let parts = slice_split-some rest in
-    let split : slice_split is_line_feed (line ++ 10 ∷ rest) ≡ line ∷ parts.0 ∷ parts.1 = slice_split-feed line rest none ∙ ap (λ (ps : List (List ℕ)). line ∷ ps) parts.2 in
-    let kept : without_empty_last (slice_split is_line_feed (line ++ 10 ∷ rest)) ≡ line ∷ without_empty_last (slice_split is_line_feed rest) = ap without_empty_last split ∙ without_empty_last-more line parts.0 parts.1 ∙ ap (λ (ps : List (List ℕ)). line ∷ without_empty_last ps) (sym parts.2) in
+    let split : slice_split is_line_feed (line ++ 10 ∷ rest) ≡ line ∷ parts.0 ∷ parts.1 =
+    slice_split-feed line rest none ∙ ap (λ (ps : List (List ℕ)). line ∷ ps) parts.2 in
+    let kept : without_empty_last (slice_split is_line_feed (line ++ 10 ∷ rest))
+    ≡ line ∷ without_empty_last (slice_split is_line_feed rest) = ap without_empty_last split
+    ∙ without_empty_last-more line parts.0 parts.1
+    ∙ ap (λ (ps : List (List ℕ)). line ∷ without_empty_last ps) (sym parts.2) in
     ap (λ (ps : List (List ℕ)). map cut_line ps) kept
 
 pub lines_of_bytes-last : (line : List ℕ) → HasNoFeed line → 0 < length line → lines_of_bytes line ≡ cut_line line ∷ []
@@ -92,47 +102,64 @@ pub cut_long : (line : List ℕ) → 400 < length line → cut_line line ≡ Non
 cut_long line long = grind (arith, nat_tests)
 
 -- a line that is not too long, whatever follows its line feed
-pub lines_of_bytes-short : (line rest : List ℕ) → HasNoFeed line → length line ≤ 400 → lines_of_bytes (line ++ 10 ∷ rest) ≡ Some line ∷ lines_of_bytes rest
+pub lines_of_bytes-short : (line rest : List ℕ) → HasNoFeed line → length line ≤ 400
+    → lines_of_bytes (line ++ 10 ∷ rest) ≡ Some line ∷ lines_of_bytes rest
 lines_of_bytes-short line rest none short =
     lines_of_bytes-line line rest none ∙ ap (λ (l : Option (List ℕ)). l ∷ lines_of_bytes rest) (cut_short line short)
 
-long_last : (xs rest : List ℕ) → HasNoFeed xs → 400 < length xs → HasNoFeed rest → lines_of_bytes (xs ++ rest) ≡ None ∷ []
+long_last : (xs rest : List ℕ) → HasNoFeed xs → 400 < length xs → HasNoFeed rest
+    → lines_of_bytes (xs ++ rest) ≡ None ∷ []
 long_last xs rest none long none_after =
     let all : length (xs ++ rest) ≡ length xs + length rest = length-append xs rest in
-    lines_of_bytes-last (xs ++ rest) (HasNoFeed-append xs rest none none_after) (omega arith) ∙ ap (λ (l : Option (List ℕ)). l ∷ []) (cut_long (xs ++ rest) (omega arith))
+    lines_of_bytes-last (xs ++ rest) (HasNoFeed-append xs rest none none_after) (omega arith)
+    ∙ ap (λ (l : Option (List ℕ)). l ∷ []) (cut_long (xs ++ rest) (omega arith))
 
-long_line : (xs rest front behind : List ℕ) → HasNoFeed xs → 400 < length xs → rest ≡ front ++ 10 ∷ behind → HasNoFeed front → lines_of_bytes (xs ++ rest) ≡ None ∷ lines_of_bytes behind
+long_line : (xs rest front behind : List ℕ) → HasNoFeed xs → 400 < length xs → rest ≡ front ++ 10 ∷ behind
+    → HasNoFeed front → lines_of_bytes (xs ++ rest) ≡ None ∷ lines_of_bytes behind
 long_line xs rest front behind none long is none_before =
     let all : length (xs ++ front) ≡ length xs + length front = length-append xs front in
-    let same : xs ++ rest ≡ (xs ++ front) ++ 10 ∷ behind = ap (λ (ys : List ℕ). xs ++ ys) is ∙ sym (append_assoc xs front (10 ∷ behind)) in
-    ap lines_of_bytes same ∙ lines_of_bytes-line (xs ++ front) behind (HasNoFeed-append xs front none none_before) ∙ ap (λ (l : Option (List ℕ)). l ∷ lines_of_bytes behind) (cut_long (xs ++ front) (omega arith))
+    let same : xs ++ rest ≡ (xs ++ front) ++ 10 ∷ behind = ap (λ (ys : List ℕ). xs ++ ys) is
+    ∙ sym (append_assoc xs front (10 ∷ behind)) in
+    ap lines_of_bytes same ∙ lines_of_bytes-line (xs ++ front) behind (HasNoFeed-append xs front none none_before)
+    ∙ ap (λ (l : Option (List ℕ)). l ∷ lines_of_bytes behind) (cut_long (xs ++ front) (omega arith))
 
 -- of the bytes of a line that is too long it does not matter which come, whatever follows
-pub lines_of_long : (xs ys rest : List ℕ) → HasNoFeed xs → HasNoFeed ys → 400 < length xs → 400 < length ys → lines_of_bytes (xs ++ rest) ≡ lines_of_bytes (ys ++ rest)
+pub lines_of_long : (xs ys rest : List ℕ) → HasNoFeed xs → HasNoFeed ys → 400 < length xs → 400 < length ys
+    → lines_of_bytes (xs ++ rest) ≡ lines_of_bytes (ys ++ rest)
 lines_of_long xs ys rest no_x no_y long_x long_y =
     elim (first_feed rest) [
       | inl none ↦ long_last xs rest no_x long_x none ∙ sym (long_last ys rest no_y long_y none)
-      | inr cut ↦ long_line xs rest cut.0 cut.1 no_x long_x cut.2 cut.3 ∙ sym (long_line ys rest cut.0 cut.1 no_y long_y cut.2 cut.3)
+      | inr cut ↦ long_line xs rest cut.0 cut.1 no_x long_x cut.2 cut.3
+          ∙ sym (long_line ys rest cut.0 cut.1 no_y long_y cut.2 cut.3)
     ]
 
 -- a byte that is no line feed is kept while there is room for it
-pub begun_more : (begun : List ℕ) (byte : ℕ) (rest : List ℕ) → lines_of_bytes (begun ++ byte ∷ rest) ≡ lines_of_bytes ((begun ++ byte ∷ []) ++ rest)
+pub begun_more : (begun : List ℕ) (byte : ℕ) (rest : List ℕ)
+    → lines_of_bytes (begun ++ byte ∷ rest) ≡ lines_of_bytes ((begun ++ byte ∷ []) ++ rest)
 begun_more begun byte rest = ap lines_of_bytes (sym (append_assoc begun (byte ∷ []) rest))
 
 -- and no more where the line is too long by then
-pub begun_long : (begun : List ℕ) (byte : ℕ) (rest : List ℕ) → HasNoFeed begun → byte ≢ 10 → 400 < length begun → lines_of_bytes (begun ++ byte ∷ rest) ≡ lines_of_bytes (begun ++ rest)
+pub begun_long : (begun : List ℕ) (byte : ℕ) (rest : List ℕ) → HasNoFeed begun → byte ≢ 10 → 400 < length begun
+    → lines_of_bytes (begun ++ byte ∷ rest) ≡ lines_of_bytes (begun ++ rest)
 begun_long begun byte rest none other long =
     let all : length (begun ++ byte ∷ []) ≡ length begun + 1 = length-append begun (byte ∷ []) in
-    begun_more begun byte rest ∙ lines_of_long (begun ++ byte ∷ []) begun rest (HasNoFeed-append begun (byte ∷ []) none (HasNoFeed-cons byte [] other refl)) none (omega arith) long
+    begun_more begun byte rest
+    ∙ lines_of_long (begun ++ byte ∷ []) begun rest
+    (HasNoFeed-append begun (byte ∷ []) none (HasNoFeed-cons byte [] other refl)) none (omega arith) long
 
 pub lines_of_none : (bytes : List ℕ) → length bytes ≡ 0 → lines_of_bytes bytes ≡ []
 lines_of_none bytes none = ap lines_of_bytes (nil_from_length bytes none) ∙ lines_of_bytes-nil
 
 -- one line handed out at a line feed
-pub handed_at_feed : (line rest new : List ℕ) (byte : ℕ) (handed : List (Option (List ℕ))) → byte ≡ 10 → HasNoFeed line → handed ≡ cut_line line ∷ [] → new ≡ [] → lines_of_bytes (line ++ byte ∷ rest) ≡ handed ++ lines_of_bytes (new ++ rest)
+pub handed_at_feed : (line rest new : List ℕ) (byte : ℕ) (handed : List (Option (List ℕ))) → byte ≡ 10 → HasNoFeed line
+    → handed ≡ cut_line line ∷ [] → new ≡ []
+    → lines_of_bytes (line ++ byte ∷ rest) ≡ handed ++ lines_of_bytes (new ++ rest)
 handed_at_feed line rest new byte handed feed none is empty =
-    ap (λ (b : ℕ). lines_of_bytes (line ++ b ∷ rest)) feed ∙ lines_of_bytes-line line rest none ∙ sym (ap (λ (h : List (Option (List ℕ))). h ++ lines_of_bytes (new ++ rest)) is ∙ ap (λ (n : List ℕ). cut_line line ∷ lines_of_bytes (n ++ rest)) empty)
+    ap (λ (b : ℕ). lines_of_bytes (line ++ b ∷ rest)) feed ∙ lines_of_bytes-line line rest none
+    ∙ sym (ap (λ (h : List (Option (List ℕ))). h ++ lines_of_bytes (new ++ rest)) is
+    ∙ ap (λ (n : List ℕ). cut_line line ∷ lines_of_bytes (n ++ rest)) empty)
 
 -- the last line handed out at the end
-pub handed_at_end : (line : List ℕ) (handed : List (Option (List ℕ))) → HasNoFeed line → 0 < length line → handed ≡ cut_line line ∷ [] → lines_of_bytes line ≡ handed
+pub handed_at_end : (line : List ℕ) (handed : List (Option (List ℕ))) → HasNoFeed line → 0 < length line
+    → handed ≡ cut_line line ∷ [] → lines_of_bytes line ≡ handed
 handed_at_end line handed none some is = lines_of_bytes-last line none some ∙ sym is

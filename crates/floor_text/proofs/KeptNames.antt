@@ -17,8 +17,10 @@ length-in_front room front fits = simp (length-append, length-drop, length-repli
 take-in_front : (room : ℕ) (front : List ℕ) → take (length front) (in_front room front) ≡ front
 take-in_front room front = take_at front (drop (length front) (replicate room 0)) (length front) refl
 
-in_front-padded : (room : ℕ) (front : List ℕ) → in_front room front ≡ take (length front) (in_front room front) ++ replicate (room - length front) 0
-in_front-padded room front = rw (take-in_front room front) (ap (λ (xs : List ℕ). front ++ xs) (drop-replicate (length front) room 0))
+in_front-padded : (room : ℕ) (front : List ℕ)
+    → in_front room front ≡ take (length front) (in_front room front) ++ replicate (room - length front) 0
+in_front-padded room front =
+    rw (take-in_front room front) (ap (λ (xs : List ℕ). front ++ xs) (drop-replicate (length front) room 0))
 
 kept : (name : List ℕ) → IsTrue (is_name name) → IsKept (in_front 16 name) (length name)
 kept name is =
@@ -30,7 +32,8 @@ kept name is =
       name = subst P (sym (take-in_front 16 name)) is;
     }
 
-pub kept_in_front : (name copied : List ℕ) → IsTrue (is_name name) → copied ≡ name → IsKept (copied ++ drop (length name) (replicate 16 0)) (length name)
+pub kept_in_front : (name copied : List ℕ) → IsTrue (is_name name) → copied ≡ name
+    → IsKept (copied ++ drop (length name) (replicate 16 0)) (length name)
 kept_in_front name copied is same =
     let P : List ℕ → Type 0 = λ xs. IsKept (xs ++ drop (length name) (replicate 16 0)) (length name) in
     subst P (sym same) (kept name is)

@@ -43,7 +43,8 @@ none_of_both true b x h = rw h refl
 none_of_both false b x h = refl
 
 -- digits of which a front is too great already are none
-pub number_of-great : (bytes : List ℕ) (i n : ℕ) → n ≡ digits_value 10 (take i bytes) → 9007199254740991 < n → number_of bytes ≡ None
+pub number_of-great : (bytes : List ℕ) (i n : ℕ) → n ≡ digits_value 10 (take i bytes) → 9007199254740991 < n
+    → number_of bytes ≡ None
 unfolding number_of
 number_of-great bytes i n front great =
     let more = digits_value-take-le 10 bytes i (omega arith) in
@@ -51,5 +52,7 @@ number_of-great bytes i n front great =
     none_of_both (is_spelled bytes) (leb (digits_value 10 bytes) 9007199254740991) (digits_value 10 bytes) over
 
 -- digits whose number is small enough are that number
-pub number_of-spelled : (bytes : List ℕ) (n : ℕ) → is_spelled bytes ≡ true → n ≡ digits_value 10 bytes → n ≤ 9007199254740991 → number_of bytes ≡ Some n
-number_of-spelled bytes n spelled value small = number_only bytes n small (decimal_of_spelled bytes spelled (omega arith) ∙ ap decimal (sym value))
+pub number_of-spelled : (bytes : List ℕ) (n : ℕ) → is_spelled bytes ≡ true → n ≡ digits_value 10 bytes
+    → n ≤ 9007199254740991 → number_of bytes ≡ Some n
+number_of-spelled bytes n spelled value small =
+    number_only bytes n small (decimal_of_spelled bytes spelled (omega arith) ∙ ap decimal (sym value))

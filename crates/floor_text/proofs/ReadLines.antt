@@ -26,29 +26,39 @@ take_to held from to order =
     let size : to ≡ from + (to - from) = omega arith in
     ap (λ (n : ℕ). take n held) size ∙ take-add from (to - from) held
 
-none_up_to : (held : List ℕ) (from to : ℕ) → from ≤ to → HasNoFeed (take from held) → HasNoFeed (slice_range held from to) → HasNoFeed (take to held)
+none_up_to : (held : List ℕ) (from to : ℕ) → from ≤ to → HasNoFeed (take from held)
+    → HasNoFeed (slice_range held from to) → HasNoFeed (take to held)
 none_up_to held from to order before between =
-    ap (list_any is_line_feed) (take_to held from to order) ∙ HasNoFeed-append (take from held) (slice_range held from to) before between
+    ap (list_any is_line_feed) (take_to held from to order)
+    ∙ HasNoFeed-append (take from held) (slice_range held from to) before between
 
-front_of_range : (held : List ℕ) (from at to : ℕ) → from ≤ at → at ≤ to → take (at - from) (slice_range held from to) ≡ slice_range held from at
+front_of_range : (held : List ℕ) (from at to : ℕ) → from ≤ at → at ≤ to
+    → take (at - from) (slice_range held from to) ≡ slice_range held from at
 front_of_range held from at to low high = take-take (at - from) (to - from) (drop from held) (omega arith)
 
-first_from : (held : List ℕ) (from to at : ℕ) → from ≤ to → to ≤ length held → HasNoFeed (take from held) → IsFirstFeed (slice_range held from to) (at - from) → from ≤ at → (at < to) × IsFirstFeed held at
+first_from : (held : List ℕ) (from to at : ℕ) → from ≤ to → to ≤ length held → HasNoFeed (take from held)
+    → IsFirstFeed (slice_range held from to) (at - from) → from ≤ at → (at < to) × IsFirstFeed held at
 first_from held from to at order inside before is low =
     let within : at - from < length (slice_range held from to) = is.within in
     let below : at < to = omega (arith, length-between held from to inside) in
-    let none : HasNoFeed (slice_range held from at) = ap (list_any is_line_feed) (sym (front_of_range held from at to low (omega arith))) ∙ is.before in
+    let none : HasNoFeed (slice_range held from at) =
+    ap (list_any is_line_feed) (sym (front_of_range held from at to low (omega arith))) ∙ is.before in
     let place : from + (at - from) ≡ at = omega arith in (
       below,
       record {
         within = omega arith;
         before = none_up_to held from at low before none;
-        feed = ap (λ (k : ℕ). get_or held k 0) (sym place) ∙ sym (get_or-between held from to (at - from) 0 (omega arith)) ∙ is.feed;
+        feed = ap (λ (k : ℕ). get_or held k 0) (sym place)
+            ∙ sym (get_or-between held from to (at - from) 0 (omega arith)) ∙ is.feed;
       },
     )
 
 -- the search goes on where an earlier one ended
-pub feed_from_found : (held : List ℕ) (from to : ℕ) (r : Option ℕ) → from ≤ to → to ≤ length held → HasNoFeed (take from held) → MatchOption r (HasNoFeed (slice_range held from to)) (λ at. IsFirstFeed (slice_range held from to) (at - from) × (from ≤ at)) → MatchOption r (HasNoFeed (take to held)) (λ at. (at < to) × IsFirstFeed held at)
+pub feed_from_found : (held : List ℕ) (from to : ℕ) (r : Option ℕ) → from ≤ to → to ≤ length held
+    → HasNoFeed (take from held)
+    → MatchOption r (HasNoFeed (slice_range held from to))
+    (λ at. IsFirstFeed (slice_range held from to) (at - from) × (from ≤ at))
+    → MatchOption r (HasNoFeed (take to held)) (λ at. (at < to) × IsFirstFeed held at)
 feed_from_found held from to None order inside before none = none_up_to held from to order before none
 feed_from_found held from to (Some at) order inside before found =
     first_from held from to at order inside before found.0 found.1
@@ -58,18 +68,23 @@ within_is_all r within = grind (arith, nat_tests)
 
 pub whole_no_feed : (r : Reading) → r.taken ≤ r.limit → HasNoFeed (take (held_within r) r.held) → HasNoFeed r.held
 whole_no_feed r within none =
-    ap (list_any is_line_feed) (sym (ap (λ (n : ℕ). take n r.held) (within_is_all r within) ∙ take_all (length r.held) r.held (omega arith))) ∙ none
+    ap (list_any is_line_feed)
+    (sym (ap (λ (n : ℕ). take n r.held) (within_is_all r within) ∙ take_all (length r.held) r.held (omega arith)))
+    ∙ none
 
 -- the first 401 bytes of a line begun stand for it
-pub lines_of_kept : (held rest : List ℕ) → HasNoFeed held → lines_of_bytes (held ++ rest) ≡ lines_of_bytes (take 401 held ++ rest)
+pub lines_of_kept : (held rest : List ℕ) → HasNoFeed held
+    → lines_of_bytes (held ++ rest) ≡ lines_of_bytes (take 401 held ++ rest)
 lines_of_kept held rest none =
     elim (cases_lt (length held) 401) [
       | inl short ↦ ap (λ (xs : List ℕ). lines_of_bytes (xs ++ rest)) (sym (take_all 401 held (omega arith)))
-      | inr long ↦ lines_of_long held (take 401 held) rest none (HasNoFeed-take 401 held none) (omega arith) (omega (arith, length-take-le 401 held long))
+      | inr long ↦ lines_of_long held (take 401 held) rest none (HasNoFeed-take 401 held none) (omega arith)
+          (omega (arith, length-take-le 401 held long))
     ]
 
 -- a call that took nothing, of a source that has left what it had
-kept_at : (old new : Reading) (bytes : List ℕ) (left : Option (List ℕ)) → left ≡ Some bytes → new.taken ≡ old.taken → HasNoFeed old.held → new.held ≡ take 401 old.held → Reads old new bytes left []
+kept_at : (old new : Reading) (bytes : List ℕ) (left : Option (List ℕ)) → left ≡ Some bytes → new.taken ≡ old.taken
+    → HasNoFeed old.held → new.held ≡ take 401 old.held → Reads old new bytes left []
 kept_at old new bytes left same taken none held =
     let nothing : new.taken - old.taken ≡ 0 = omega arith in
     let rest : drop (new.taken - old.taken) bytes ≡ bytes = ap (λ (n : ℕ). drop n bytes) nothing in
@@ -77,60 +92,81 @@ kept_at old new bytes left same taken none held =
       later = omega arith;
       within = omega arith;
       rest = same ∙ ap Some (sym rest);
-      lines = lines_of_kept old.held bytes none ∙ sym (ap (λ (xs : List ℕ). lines_of_bytes (xs ++ drop (new.taken - old.taken) bytes)) held ∙ ap (λ (xs : List ℕ). lines_of_bytes (take 401 old.held ++ xs)) rest);
+      lines = lines_of_kept old.held bytes none
+          ∙ sym (ap (λ (xs : List ℕ). lines_of_bytes (xs ++ drop (new.taken - old.taken) bytes)) held
+          ∙ ap (λ (xs : List ℕ). lines_of_bytes (take 401 old.held ++ xs)) rest);
     }
 
-pub kept_reads : (old new : Reading) (before left : Option (List ℕ)) → left ≡ before → new.taken ≡ old.taken → HasNoFeed old.held → new.held ≡ take 401 old.held → IfSome before (λ bytes. Reads old new bytes left [])
+pub kept_reads : (old new : Reading) (before left : Option (List ℕ)) → left ≡ before → new.taken ≡ old.taken
+    → HasNoFeed old.held → new.held ≡ take 401 old.held → IfSome before (λ bytes. Reads old new bytes left [])
 kept_reads old new None left same taken none held = tt
 kept_reads old new (Some bytes) left same taken none held = kept_at old new bytes left same taken none held
 
 -- a call that took a block
-filled_at : (old new : Reading) (bytes : List ℕ) (left : Option (List ℕ)) (ask n : ℕ) → Fills (take 401 old.held) bytes left new.held ask n → new.taken ≡ old.taken + n → HasNoFeed old.held → Reads old new bytes left []
+filled_at : (old new : Reading) (bytes : List ℕ) (left : Option (List ℕ)) (ask n : ℕ)
+    → Fills (take 401 old.held) bytes left new.held ask n → new.taken ≡ old.taken + n → HasNoFeed old.held
+    → Reads old new bytes left []
 filled_at old new bytes left ask n fills taken none =
     let count : new.taken - old.taken ≡ n = omega arith in
     let within : n ≤ length bytes = fills.within in
     let rest : drop (new.taken - old.taken) bytes ≡ drop n bytes = ap (λ (k : ℕ). drop k bytes) count in
-    let all : new.held ++ drop n bytes ≡ take 401 old.held ++ bytes = ap (λ (xs : List ℕ). xs ++ drop n bytes) fills.behind ∙ append_assoc (take 401 old.held) (take n bytes) (drop n bytes) ∙ ap (λ (xs : List ℕ). take 401 old.held ++ xs) (take-append-drop n bytes) in
+    let all : new.held ++ drop n bytes ≡ take 401 old.held ++ bytes =
+    ap (λ (xs : List ℕ). xs ++ drop n bytes) fills.behind
+    ∙ append_assoc (take 401 old.held) (take n bytes) (drop n bytes)
+    ∙ ap (λ (xs : List ℕ). take 401 old.held ++ xs) (take-append-drop n bytes) in
     record {
       later = omega arith;
       within = omega arith;
       rest = fills.rest ∙ ap Some (sym rest);
-      lines = lines_of_kept old.held bytes none ∙ sym (ap (λ (xs : List ℕ). lines_of_bytes (new.held ++ xs)) rest ∙ ap lines_of_bytes all);
+      lines = lines_of_kept old.held bytes none
+          ∙ sym (ap (λ (xs : List ℕ). lines_of_bytes (new.held ++ xs)) rest ∙ ap lines_of_bytes all);
     }
 
-pub filled_reads : (old new : Reading) (before left : Option (List ℕ)) (ask n : ℕ) → IfSome before (λ bytes. Fills (take 401 old.held) bytes left new.held ask n) → new.taken ≡ old.taken + n → HasNoFeed old.held → IfSome before (λ bytes. Reads old new bytes left [])
+pub filled_reads : (old new : Reading) (before left : Option (List ℕ)) (ask n : ℕ)
+    → IfSome before (λ bytes. Fills (take 401 old.held) bytes left new.held ask n) → new.taken ≡ old.taken + n
+    → HasNoFeed old.held → IfSome before (λ bytes. Reads old new bytes left [])
 filled_reads old new None left ask n fills taken none = tt
 filled_reads old new (Some bytes) left ask n fills taken none =
     filled_at old new bytes left ask n fills taken none
 
 -- no byte came of a source that tells, so it is at its end
-pub filled_none : (kept held : List ℕ) (before left : Option (List ℕ)) (ask n : ℕ) → IfSome before (λ bytes. Fills kept bytes left held ask n) → 0 < ask → n ≡ 0 → IfSome before (λ _. left ≡ Some [])
+pub filled_none : (kept held : List ℕ) (before left : Option (List ℕ)) (ask n : ℕ)
+    → IfSome before (λ bytes. Fills kept bytes left held ask n) → 0 < ask → n ≡ 0 → IfSome before (λ _. left ≡ Some [])
 filled_none kept held None left ask n fills asked none = tt
 filled_none kept held (Some bytes) left ask n fills asked none =
     let empty : bytes ≡ [] = nil_from_length bytes (fills.at_end asked none) in
     fills.rest ∙ ap (λ (k : ℕ). Some (drop k bytes)) none ∙ ap Some empty
 
 -- one call after another: the lines that both handed out, in their order
-pub reads_then : (a b c : Reading) (bytes : List ℕ) (o1 o2 : Option (List ℕ)) (first second : List (Option (List ℕ))) → Reads a b bytes o1 first → Reads b c (drop (b.taken - a.taken) bytes) o2 second → Reads a c bytes o2 (first ++ second)
+pub reads_then : (a b c : Reading) (bytes : List ℕ) (o1 o2 : Option (List ℕ)) (first second : List (Option (List ℕ)))
+    → Reads a b bytes o1 first → Reads b c (drop (b.taken - a.taken) bytes) o2 second
+    → Reads a c bytes o2 (first ++ second)
 reads_then a b c bytes o1 o2 first second one two =
     let p : a.taken ≤ b.taken = one.later in
     let q : b.taken ≤ c.taken = two.later in
     let within : b.taken ≤ a.taken + length bytes = one.within in
     let inner : c.taken ≤ b.taken + length (drop (b.taken - a.taken) bytes) = two.within in
     let count : b.taken - a.taken + (c.taken - b.taken) ≡ c.taken - a.taken = omega arith in
-    let rest : drop (c.taken - b.taken) (drop (b.taken - a.taken) bytes) ≡ drop (c.taken - a.taken) bytes = drop-drop (c.taken - b.taken) (b.taken - a.taken) bytes ∙ ap (λ (n : ℕ). drop n bytes) count in
+    let rest : drop (c.taken - b.taken) (drop (b.taken - a.taken) bytes) ≡ drop (c.taken - a.taken) bytes =
+    drop-drop (c.taken - b.taken) (b.taken - a.taken) bytes ∙ ap (λ (n : ℕ). drop n bytes) count in
     record {
       later = omega arith;
       within = omega (arith, length-drop (b.taken - a.taken) bytes);
       rest = two.rest ∙ ap Some rest;
-      lines = one.lines ∙ ap (λ (ls : List (Option (List ℕ))). first ++ ls) (two.lines ∙ ap (λ (xs : List ℕ). second ++ lines_of_bytes (c.held ++ xs)) rest) ∙ sym (append_assoc first second (lines_of_bytes (c.held ++ drop (c.taken - a.taken) bytes)));
+      lines = one.lines ∙ ap (λ (ls : List (Option (List ℕ))). first ++ ls) (two.lines
+          ∙ ap (λ (xs : List ℕ). second ++ lines_of_bytes (c.held ++ xs)) rest)
+          ∙ sym (append_assoc first second (lines_of_bytes (c.held ++ drop (c.taken - a.taken) bytes)));
     }
 
 -- the same of a source that may tell
-pub goes_on : (a b c : Reading) (o0 o1 o2 : Option (List ℕ)) (first second : List (Option (List ℕ))) → IfSome o0 (λ bytes. Reads a b bytes o1 first) → IfSome o1 (λ bytes. Reads b c bytes o2 second) → IfSome o0 (λ bytes. Reads a c bytes o2 (first ++ second))
+pub goes_on : (a b c : Reading) (o0 o1 o2 : Option (List ℕ)) (first second : List (Option (List ℕ)))
+    → IfSome o0 (λ bytes. Reads a b bytes o1 first) → IfSome o1 (λ bytes. Reads b c bytes o2 second)
+    → IfSome o0 (λ bytes. Reads a c bytes o2 (first ++ second))
 goes_on a b c None o1 o2 first second one two = tt
 goes_on a b c (Some bytes) o1 o2 first second one two =
-    reads_then a b c bytes o1 o2 first second one (MatchOption-at_some (Unit {0}) (λ (bs : List ℕ). Reads b c bs o2 second) (drop (b.taken - a.taken) bytes) one.rest two)
+    reads_then a b c bytes o1 o2 first second one
+    (MatchOption-at_some (Unit {0}) (λ (bs : List ℕ). Reads b c bs o2 second)
+    (drop (b.taken - a.taken) bytes) one.rest two)
 
 -- the first call of none
 pub begins : (a : Reading) (o : Option (List ℕ)) → IfSome o (λ bytes. Reads a a bytes o [])
@@ -146,13 +182,19 @@ begins a (Some bytes) =
     }
 
 -- a line handed out at its line feed
-cut_at : (held rest : List ℕ) (at : ℕ) → IsFirstFeed held at → lines_of_bytes (held ++ rest) ≡ cut_line (take at held) ∷ lines_of_bytes (drop (at + 1) held ++ rest)
+cut_at : (held rest : List ℕ) (at : ℕ) → IsFirstFeed held at
+    → lines_of_bytes (held ++ rest) ≡ cut_line (take at held) ∷ lines_of_bytes (drop (at + 1) held ++ rest)
 cut_at held rest at is =
-    let tail : drop at held ≡ 10 ∷ drop (at + 1) held = drop_more held at 0 is.within ∙ ap (λ (b : ℕ). b ∷ drop (at + 1) held) is.feed in
-    let split : held ++ rest ≡ take at held ++ 10 ∷ (drop (at + 1) held ++ rest) = ap (λ (xs : List ℕ). xs ++ rest) (sym (take-append-drop at held) ∙ ap (λ (xs : List ℕ). take at held ++ xs) tail) ∙ append_assoc (take at held) (10 ∷ drop (at + 1) held) rest in
+    let tail : drop at held ≡ 10 ∷ drop (at + 1) held = drop_more held at 0 is.within
+    ∙ ap (λ (b : ℕ). b ∷ drop (at + 1) held) is.feed in
+    let split : held ++ rest ≡ take at held ++ 10 ∷ (drop (at + 1) held ++ rest) =
+    ap (λ (xs : List ℕ). xs ++ rest) (sym (take-append-drop at held)
+    ∙ ap (λ (xs : List ℕ). take at held ++ xs) tail) ∙ append_assoc (take at held) (10 ∷ drop (at + 1) held) rest in
     ap lines_of_bytes split ∙ lines_of_bytes-line (take at held) (drop (at + 1) held ++ rest) is.before
 
-handed_at : (b c : Reading) (bytes : List ℕ) (at : ℕ) (handed : List (Option (List ℕ))) → IsFirstFeed b.held at → handed ≡ cut_line (take at b.held) ∷ [] → c.held ≡ drop (at + 1) b.held → c.taken ≡ b.taken → Reads b c bytes (Some bytes) handed
+handed_at : (b c : Reading) (bytes : List ℕ) (at : ℕ) (handed : List (Option (List ℕ))) → IsFirstFeed b.held at
+    → handed ≡ cut_line (take at b.held) ∷ [] → c.held ≡ drop (at + 1) b.held → c.taken ≡ b.taken
+    → Reads b c bytes (Some bytes) handed
 handed_at b c bytes at handed is line held taken =
     let nothing : c.taken - b.taken ≡ 0 = omega arith in
     let rest : drop (c.taken - b.taken) bytes ≡ bytes = ap (λ (n : ℕ). drop n bytes) nothing in
@@ -160,15 +202,21 @@ handed_at b c bytes at handed is line held taken =
       later = omega arith;
       within = omega arith;
       rest = ap Some (sym rest);
-      lines = cut_at b.held bytes at is ∙ sym (ap (λ (h : List (Option (List ℕ))). h ++ lines_of_bytes (c.held ++ drop (c.taken - b.taken) bytes)) line ∙ ap (λ (xs : List ℕ). cut_line (take at b.held) ∷ lines_of_bytes (xs ++ drop (c.taken - b.taken) bytes)) held ∙ ap (λ (xs : List ℕ). cut_line (take at b.held) ∷ lines_of_bytes (drop (at + 1) b.held ++ xs)) rest);
+      lines = cut_at b.held bytes at is
+          ∙ sym (ap (λ (h : List (Option (List ℕ))). h ++ lines_of_bytes (c.held ++ drop (c.taken - b.taken) bytes))
+          line ∙ ap (λ (xs : List ℕ). cut_line (take at b.held) ∷ lines_of_bytes (xs ++ drop (c.taken - b.taken) bytes))
+          held ∙ ap (λ (xs : List ℕ). cut_line (take at b.held) ∷ lines_of_bytes (drop (at + 1) b.held ++ xs)) rest);
     }
 
-pub handed_reads : (b c : Reading) (o : Option (List ℕ)) (at : ℕ) (handed : List (Option (List ℕ))) → IsFirstFeed b.held at → handed ≡ cut_line (take at b.held) ∷ [] → c.held ≡ drop (at + 1) b.held → c.taken ≡ b.taken → IfSome o (λ bytes. Reads b c bytes o handed)
+pub handed_reads : (b c : Reading) (o : Option (List ℕ)) (at : ℕ) (handed : List (Option (List ℕ)))
+    → IsFirstFeed b.held at → handed ≡ cut_line (take at b.held) ∷ [] → c.held ≡ drop (at + 1) b.held
+    → c.taken ≡ b.taken → IfSome o (λ bytes. Reads b c bytes o handed)
 handed_reads b c None at handed is line held taken = tt
 handed_reads b c (Some bytes) at handed is line held taken = handed_at b c bytes at handed is line held taken
 
 -- what is held handed out at the end of a source
-last_at : (b c : Reading) (handed : List (Option (List ℕ))) → handed ≡ lines_of_bytes b.held → c.held ≡ [] → c.taken ≡ b.taken → Reads b c [] (Some []) handed
+last_at : (b c : Reading) (handed : List (Option (List ℕ))) → handed ≡ lines_of_bytes b.held → c.held ≡ []
+    → c.taken ≡ b.taken → Reads b c [] (Some []) handed
 last_at b c handed line held taken =
     let no_bytes : List ℕ = [] in
     let rest : drop (c.taken - b.taken) no_bytes ≡ no_bytes = drop_all (c.taken - b.taken) no_bytes (omega arith) in
@@ -176,26 +224,34 @@ last_at b c handed line held taken =
       later = omega arith;
       within = omega arith;
       rest = ap Some (sym rest);
-      lines = ap lines_of_bytes (append-nil b.held) ∙ sym line ∙ sym (ap (λ (xs : List ℕ). handed ++ lines_of_bytes (xs ++ drop (c.taken - b.taken) no_bytes)) held ∙ ap (λ (xs : List ℕ). handed ++ lines_of_bytes xs) rest ∙ ap (λ (ls : List (Option (List ℕ))). handed ++ ls) lines_of_bytes-nil ∙ append-nil handed);
+      lines = ap lines_of_bytes (append-nil b.held) ∙ sym line
+          ∙ sym (ap (λ (xs : List ℕ). handed ++ lines_of_bytes (xs ++ drop (c.taken - b.taken) no_bytes)) held
+          ∙ ap (λ (xs : List ℕ). handed ++ lines_of_bytes xs) rest
+          ∙ ap (λ (ls : List (Option (List ℕ))). handed ++ ls) lines_of_bytes-nil ∙ append-nil handed);
     }
 
-pub last_reads : (a b c : Reading) (o0 o2 : Option (List ℕ)) (handed : List (Option (List ℕ))) → IfSome o0 (λ bytes. Reads a b bytes o2 []) → IfSome o0 (λ _. o2 ≡ Some []) → handed ≡ lines_of_bytes b.held → c.held ≡ [] → c.taken ≡ b.taken → IfSome o0 (λ bytes. Reads a c bytes o2 handed)
+pub last_reads : (a b c : Reading) (o0 o2 : Option (List ℕ)) (handed : List (Option (List ℕ)))
+    → IfSome o0 (λ bytes. Reads a b bytes o2 []) → IfSome o0 (λ _. o2 ≡ Some []) → handed ≡ lines_of_bytes b.held
+    → c.held ≡ [] → c.taken ≡ b.taken → IfSome o0 (λ bytes. Reads a c bytes o2 handed)
 last_reads a b c None o2 handed reads end line held taken = tt
 last_reads a b c (Some bytes) o2 handed reads end line held taken =
     let P : Option (List ℕ) → Type 0 = λ o. Reads b c [] o handed in
     let last : Reads b c [] o2 handed = subst P (sym end) (last_at b c handed line held taken) in
-    let none : [] ≡ drop (b.taken - a.taken) bytes = same_Some [] (drop (b.taken - a.taken) bytes) (sym end ∙ reads.rest) in
+    let none : [] ≡ drop (b.taken - a.taken) bytes =
+    same_Some [] (drop (b.taken - a.taken) bytes) (sym end ∙ reads.rest) in
     let Q : List ℕ → Type 0 = λ bs. Reads b c bs o2 handed in
     reads_then a b c bytes o2 o2 [] handed reads (subst Q none last)
 
 -- where the source ended in a call that goes on from an earlier one
-pub ends_then : (a b : Reading) (o0 o1 o2 : Option (List ℕ)) → IfSome o0 (λ bytes. Reads a b bytes o1 []) → IfSome o1 (λ _. o2 ≡ Some []) → IfSome o0 (λ _. o2 ≡ Some [])
+pub ends_then : (a b : Reading) (o0 o1 o2 : Option (List ℕ)) → IfSome o0 (λ bytes. Reads a b bytes o1 [])
+    → IfSome o1 (λ _. o2 ≡ Some []) → IfSome o0 (λ _. o2 ≡ Some [])
 ends_then a b None o1 o2 reads end = tt
 ends_then a b (Some bytes) o1 o2 reads end =
     MatchOption-at_some (Unit {0}) (λ (_ : List ℕ). o2 ≡ Some []) (drop (b.taken - a.taken) bytes) reads.rest end
 
 -- what was kept stands before the bytes that came, and was searched
-pub searched_none : (kept held : List ℕ) (n : ℕ) → HasNoFeed kept → take (length kept) held ≡ kept → length held ≡ length kept + n → HasNoFeed (take (length held - n) held)
+pub searched_none : (kept held : List ℕ) (n : ℕ) → HasNoFeed kept → take (length kept) held ≡ kept
+    → length held ≡ length kept + n → HasNoFeed (take (length held - n) held)
 searched_none kept held n none front count =
     let before : length held - n ≡ length kept = omega arith in
     ap (λ (m : ℕ). list_any is_line_feed (take m held)) before ∙ ap (list_any is_line_feed) front ∙ none

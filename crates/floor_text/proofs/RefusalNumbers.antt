@@ -7,7 +7,11 @@ use Rattle.floor_text.specs.declared.refusal.Refusal.TheVariants.{Syntax, NoPlan
 use Rattle.floor_text.specs.Refusals.{refusal_number, refusal_name}
 
 abbrev refusals : List Refusal
-refusals = Syntax ∷ NoPlan ∷ PlanLate ∷ PlanWrong ∷ Stopped ∷ NameKnown ∷ NameUnknown ∷ NoTable ∷ NoSeat ∷ SeatTaken ∷ NotFewest ∷ LateClosed ∷ Playing ∷ NotPlaying ∷ Lone ∷ Halted ∷ RaceDue ∷ RoundDone ∷ DeckWrong ∷ NotDealt ∷ NotTurn ∷ HandOver ∷ NotOver ∷ CheckFacing ∷ NothingToCall ∷ BetFacing ∷ NothingToRaise ∷ TooSmall ∷ PastStack ∷ PastPot ∷ NotReopened ∷ NotUnit ∷ NotFullest ∷ NotShortest ∷ EvenEnough ∷ NotNextToBreak ∷ NoRoom ∷ DrawWrong ∷ LastLevel ∷ RoundOpen ∷ SwitchWrong ∷ NoRace ∷ Over ∷ ListFull ∷ NotBuilt ∷ []
+refusals = Syntax ∷ NoPlan ∷ PlanLate ∷ PlanWrong ∷ Stopped ∷ NameKnown ∷ NameUnknown ∷ NoTable ∷ NoSeat ∷ SeatTaken ∷
+    NotFewest ∷ LateClosed ∷ Playing ∷ NotPlaying ∷ Lone ∷ Halted ∷ RaceDue ∷ RoundDone ∷ DeckWrong ∷ NotDealt ∷ NotTurn
+    ∷ HandOver ∷ NotOver ∷ CheckFacing ∷ NothingToCall ∷ BetFacing ∷ NothingToRaise ∷ TooSmall ∷ PastStack ∷ PastPot ∷
+    NotReopened ∷ NotUnit ∷ NotFullest ∷ NotShortest ∷ EvenEnough ∷ NotNextToBreak ∷ NoRoom ∷ DrawWrong ∷ LastLevel ∷
+    RoundOpen ∷ SwitchWrong ∷ NoRace ∷ Over ∷ ListFull ∷ NotBuilt ∷ []
 
 abbrev first_with_number : ℕ → List Refusal → Refusal
 first_with_number n [] = NotBuilt

@@ -11,10 +11,12 @@ use Rattle.std.proofs.lemmas.Fmt.{decimal_digit, decimal_nonempty, first_decimal
 use Rattle.std.proofs.lemmas.Str.Parse.{IsNumeralModel, IsDigitsTest, numerals_by_value, digits_value-take-le}
 use Rattle.floor_text.specs.Numbers.{is_spelled}
 
-tells_first : (c : ℕ) (cs : List ℕ) → list_all is_ascii_digit (c ∷ cs) ≡ true → IsInRange 48 57 c × (list_all is_ascii_digit cs ≡ true)
+tells_first : (c : ℕ) (cs : List ℕ) → list_all is_ascii_digit (c ∷ cs) ≡ true
+    → IsInRange 48 57 c × (list_all is_ascii_digit cs ≡ true)
 tells_first c cs h = grind (arith, nat_tests)
 
-tells_more : (c : ℕ) (cs : List ℕ) → IsInRange 48 57 c → list_all is_ascii_digit cs ≡ true → list_all is_ascii_digit (c ∷ cs) ≡ true
+tells_more : (c : ℕ) (cs : List ℕ) → IsInRange 48 57 c → list_all is_ascii_digit cs ≡ true
+    → list_all is_ascii_digit (c ∷ cs) ≡ true
 tells_more c cs h t = grind (arith, nat_tests)
 
 tells_digits : IsDigitsTest (λ ds. list_all is_ascii_digit ds ≡ true)
@@ -23,7 +25,8 @@ tells_digits = record { empty = refl; parts = tells_first; more = tells_more }
 own : IsNumeralModel (λ ds. list_all is_ascii_digit ds ≡ true) (digits_value 10)
 own = numerals_by_value (λ ds. list_all is_ascii_digit ds ≡ true) tells_digits
 
-digit_at : (ds : List ℕ) (i : ℕ) → list_all is_ascii_digit ds ≡ true → i < length ds → (48 ≤ get_or ds i 0) × (get_or ds i 0 ≤ 57)
+digit_at : (ds : List ℕ) (i : ℕ) → list_all is_ascii_digit ds ≡ true → i < length ds
+    → (48 ≤ get_or ds i 0) × (get_or ds i 0 ≤ 57)
 digit_at [] i all within = absurd (omega arith)
 digit_at (d ∷ ds) zero all within = (tells_first d ds all).0
 digit_at (d ∷ ds) (suc i) all within = digit_at ds i (tells_first d ds all).1 (omega arith)
@@ -42,7 +45,8 @@ lone_zero_from_spelled [] h leads = cc
 lone_zero_from_spelled (only ∷ []) h leads = refl
 lone_zero_from_spelled (first ∷ second ∷ rest) h leads = grind (arith, nat_tests)
 
-spelled_from_digits : (ds : List ℕ) → list_all is_ascii_digit ds ≡ true → 0 < length ds → (48 < get_or ds 0 0) ⊎ (length ds ≡ 1) → is_spelled ds ≡ true
+spelled_from_digits : (ds : List ℕ) → list_all is_ascii_digit ds ≡ true → 0 < length ds
+    → (48 < get_or ds 0 0) ⊎ (length ds ≡ 1) → is_spelled ds ≡ true
 spelled_from_digits [] all some first = absurd (omega arith)
 spelled_from_digits (only ∷ []) all some first = grind (arith, nat_tests)
 spelled_from_digits (first ∷ second ∷ rest) all some leads = grind (arith, nat_tests)
@@ -50,11 +54,14 @@ spelled_from_digits (first ∷ second ∷ rest) all some leads = grind (arith, n
 spelled_decimal : (n : ℕ) → n < 2 ^ 64 → is_spelled (decimal n) ≡ true
 spelled_decimal zero small = rw (decimal_digit 0 (omega arith)) refl
 spelled_decimal (suc n) small =
-    spelled_from_digits (decimal (suc n)) (digits_decimal own (suc n) small) (decimal_nonempty (suc n) small) (inl (first_decimal (suc n) (omega arith) small))
+    spelled_from_digits (decimal (suc n)) (digits_decimal own (suc n) small) (decimal_nonempty (suc n) small)
+    (inl (first_decimal (suc n) (omega arith) small))
 
-pub decimal_of_spelled : (ds : List ℕ) → is_spelled ds ≡ true → digits_value 10 ds < 2 ^ 64 → ds ≡ decimal (digits_value 10 ds)
+pub decimal_of_spelled : (ds : List ℕ) → is_spelled ds ≡ true → digits_value 10 ds < 2 ^ 64
+    → ds ≡ decimal (digits_value 10 ds)
 decimal_of_spelled ds spelled small =
-    sym (decimal-digits_value own ds (digits_from_spelled ds spelled) (some_from_spelled ds spelled) (lone_zero_from_spelled ds spelled) small)
+    sym (decimal-digits_value own ds (digits_from_spelled ds spelled) (some_from_spelled ds spelled)
+    (lone_zero_from_spelled ds spelled) small)
 
 value_of_decimal : (n : ℕ) → n < 2 ^ 64 → digits_value 10 (decimal n) ≡ n
 value_of_decimal n small = digits_value-decimal own n small
@@ -66,7 +73,8 @@ digit_value_is : (c : ℕ) → 48 ≤ c → c ≤ 57 → digit_value c ≡ c - 4
 digit_value_is c low high = grind (arith, nat_tests)
 
 -- one digit more
-pub digits_value_next : (ds : List ℕ) (i : ℕ) → list_all is_ascii_digit ds ≡ true → i < length ds → digits_value 10 (take (i + 1) ds) ≡ 10 * digits_value 10 (take i ds) + (get_or ds i 0 - 48)
+pub digits_value_next : (ds : List ℕ) (i : ℕ) → list_all is_ascii_digit ds ≡ true → i < length ds
+    → digits_value 10 (take (i + 1) ds) ≡ 10 * digits_value 10 (take i ds) + (get_or ds i 0 - 48)
 digits_value_next ds i all within =
     let digit = digit_at ds i all within in
     let value = digit_value_is (get_or ds i 0) digit.0 digit.1 in

@@ -14,12 +14,24 @@ written_none None all = (0, omega arith, refl, tt)
 written_none (Some before) all = (0, omega arith, refl, ap Some (sym (append-nil before)))
 
 -- one piece more
-pub written_more : (old now next : Option (List ℕ)) (all rest more : List ℕ) (n : ℕ) → IsWritten old now all rest → n ≤ length rest → more ≡ drop n rest → IfSome now (λ before. next ≡ Some (before ++ take n rest)) → IsWritten old next all more
+pub written_more : (old now next : Option (List ℕ)) (all rest more : List ℕ) (n : ℕ) → IsWritten old now all rest
+    → n ≤ length rest → more ≡ drop n rest → IfSome now (λ before. next ≡ Some (before ++ take n rest))
+    → IsWritten old next all more
 written_more None now next all rest more n is fits left piece =
     let size = ap length is.2 in
     (is.0 + n, omega (arith, length-drop is.0 all), left ∙ ap (drop n) is.2 ∙ drop-drop n is.0 all, tt)
 written_more (Some before) now next all rest more n is fits left piece =
     let size = ap length is.2 in
-    let wrote : next ≡ Some (before ++ take is.0 all ++ take n rest) = MatchOption-at_some (Unit {0}) (λ (bs : List ℕ). next ≡ Some (bs ++ take n rest)) (before ++ take is.0 all) is.3 piece in
-    let joined : before ++ take is.0 all ++ take n rest ≡ before ++ take (is.0 + n) all = append_assoc before (take is.0 all) (take n rest) ∙ ap (λ (xs : List ℕ). before ++ (take is.0 all ++ take n xs)) is.2 ∙ ap (λ (xs : List ℕ). before ++ xs) (sym (take-add is.0 n all)) in
-    (is.0 + n, omega (arith, length-drop is.0 all), left ∙ ap (drop n) is.2 ∙ drop-drop n is.0 all, wrote ∙ ap Some joined)
+    let wrote : next ≡ Some (before ++ take is.0 all ++ take n rest) =
+    MatchOption-at_some (Unit {0}) (λ (bs : List ℕ). next ≡ Some (bs ++ take n rest))
+    (before ++ take is.0 all) is.3 piece in
+    let joined : before ++ take is.0 all ++ take n rest ≡ before ++ take (is.0 + n) all =
+    append_assoc before (take is.0 all) (take n rest)
+    ∙ ap (λ (xs : List ℕ). before ++ (take is.0 all ++ take n xs)) is.2
+    ∙ ap (λ (xs : List ℕ). before ++ xs) (sym (take-add is.0 n all)) in (
+      is.0 + n,
+      omega (arith, length-drop is.0 all),
+      left ∙ ap (drop n) is.2 ∙ drop-drop n is.0 all,
+      wrote
+          ∙ ap Some joined,
+    )

@@ -10,7 +10,8 @@ use Rattle.hand_rank.specs.Values.{five_card_value}
 use Rattle.hand_rank.specs.BestHigh.{greater, greatest, best_high}
 
 -- the greatest value of some choices and of others is the greater of the two
-pub best_high-append : (some others : List (List Card)) → best_high (some ++ others) ≡ greater (best_high some) (best_high others)
+pub best_high-append : (some others : List (List Card))
+    → best_high (some ++ others) ≡ greater (best_high some) (best_high others)
 unfolding best_high
 best_high-append [] others = sym (from_none (greatest (map five_card_value others)))
   where
@@ -18,7 +19,8 @@ best_high-append [] others = sym (from_none (greatest (map five_card_value other
     from_none [] = refl
     from_none (x ∷ xs) = refl
 best_high-append (cards ∷ some) others =
-    ap (greater (five_card_value cards)) (best_high-append some others) ∙ sym (max_assoc (five_card_value cards) (best_high some) (best_high others))
+    ap (greater (five_card_value cards)) (best_high-append some others)
+    ∙ sym (max_assoc (five_card_value cards) (best_high some) (best_high others))
 
 pub best_high-one : (cards : List Card) → best_high (cards ∷ []) ≡ five_card_value cards
 unfolding best_high
@@ -29,7 +31,8 @@ unfolding best_high
 best_high-none = refl
 
 -- one more choice
-pub best_high-more : {A : Type 0} (hand : A → List Card) (xs : List A) (i : ℕ) (x : A) (best : List ℕ) → i < length xs → x ≡ get_or xs i x → best ≡ best_high (map hand (take i xs))
+pub best_high-more : {A : Type 0} (hand : A → List Card) (xs : List A) (i : ℕ) (x : A) (best : List ℕ) → i < length xs
+    → x ≡ get_or xs i x → best ≡ best_high (map hand (take i xs))
     → greater best (five_card_value (hand x)) ≡ best_high (map hand (take (i + 1) xs))
 best_high-more hand xs i x best within at is =
     ap₂ greater is (sym (best_high-one (hand x)))
@@ -38,22 +41,26 @@ best_high-more hand xs i x best within at is =
     ∙ ap best_high (sym (map_more hand xs i x within))
 
 -- the choices with one more pair
-pub best_high-pair : {A : Type 0} (hands : A → List (List Card)) (xs : List A) (i : ℕ) (x : A) (best more : List ℕ) → i < length xs → x ≡ get_or xs i x → best ≡ best_high (flat_map hands (take i xs)) → more ≡ best_high (hands x)
+pub best_high-pair : {A : Type 0} (hands : A → List (List Card)) (xs : List A) (i : ℕ) (x : A) (best more : List ℕ)
+    → i < length xs → x ≡ get_or xs i x → best ≡ best_high (flat_map hands (take i xs)) → more ≡ best_high (hands x)
     → greater best more ≡ best_high (flat_map hands (take (i + 1) xs))
 best_high-pair hands xs i x best more within at is last =
     ap₂ greater is last
     ∙ sym (best_high-append (flat_map hands (take i xs)) (hands x))
     ∙ ap (λ hs. best_high (flat_map hands (take i xs) ++ hs)) (sym (append-nil (hands x)))
     ∙ ap (λ y. best_high (flat_map hands (take i xs) ++ flat_map hands (y ∷ []))) at
-    ∙ ap best_high (sym (flat_map-append hands (take i xs) (get_or xs i x ∷ [])) ∙ ap (flat_map hands) (sym (take_more xs i x within)))
+    ∙ ap best_high (sym (flat_map-append hands (take i xs) (get_or xs i x ∷ []))
+    ∙ ap (flat_map hands) (sym (take_more xs i x within)))
 
 -- the greatest value when all choices have been looked at
-pub best_high-all : {A : Type 0} (chosen : List A → List (List Card)) (xs ys : List A) (i : ℕ) (best : List ℕ) → length xs ≤ i → xs ≡ ys → best ≡ best_high (chosen (take i xs)) → best ≡ best_high (chosen ys)
+pub best_high-all : {A : Type 0} (chosen : List A → List (List Card)) (xs ys : List A) (i : ℕ) (best : List ℕ)
+    → length xs ≤ i → xs ≡ ys → best ≡ best_high (chosen (take i xs)) → best ≡ best_high (chosen ys)
 best_high-all chosen xs ys i best end same is =
     is ∙ ap (λ zs. best_high (chosen zs)) (take_all i xs end ∙ same)
 
 -- one more choice of a list
-pub best_high-next : (hands : List (List Card)) (i : ℕ) (cards : List Card) (best : List ℕ) → i < length hands → cards ≡ get_or hands i cards → best ≡ best_high (take i hands)
+pub best_high-next : (hands : List (List Card)) (i : ℕ) (cards : List Card) (best : List ℕ) → i < length hands
+    → cards ≡ get_or hands i cards → best ≡ best_high (take i hands)
     → greater best (five_card_value cards) ≡ best_high (take (i + 1) hands)
 best_high-next hands i cards best within at is =
     ap₂ greater is (sym (best_high-one cards))

@@ -25,7 +25,8 @@ unfolding falling down
 filter-down test zero = refl
 filter-down test (suc n) = ap (λ ranks. cond (test n) (n ∷ ranks) ranks) (filter-down test n)
 
-filter-low : (test : ℕ → Bool) (ranks : List ℕ) → test 1 ≡ false → test 0 ≡ false → filter test (ranks ++ 1 ∷ 0 ∷ []) ≡ filter test ranks
+filter-low : (test : ℕ → Bool) (ranks : List ℕ) → test 1 ≡ false → test 0 ≡ false
+    → filter test (ranks ++ 1 ∷ 0 ∷ []) ≡ filter test ranks
 filter-low test ranks one none =
     filter-append test ranks (1 ∷ 0 ∷ []) ∙ rw (one, none) (append-nil (filter test ranks))
 
@@ -43,7 +44,8 @@ other-rank (card ∷ cards) r out =
     let other : eqb card.rank r ≡ false = grind (arith, nat_tests) in
     count_of_rank-cons card cards r ∙ rw other (omega arith)
 
-that_occur-falling : (cards : List Card) (times : ℕ) → 1 ≤ times → ranks_that_occur cards times ≡ falling (λ r. eqb (count_of_rank cards r) times) 15
+that_occur-falling : (cards : List Card) (times : ℕ) → 1 ≤ times
+    → ranks_that_occur cards times ≡ falling (λ r. eqb (count_of_rank cards r) times) 15
 unfolding ranks_that_occur
 that_occur-falling cards times some =
     let one = other-rank cards 1 (inr (omega arith)) in
@@ -55,8 +57,10 @@ pub distinct_ranks-sections : (cards : List Card) → distinct_ranks cards ≡ s
 unfolding distinct_ranks sections
 distinct_ranks-sections cards =
     ap₂ (λ x y. x ++ y) (ap₂ (λ x y. x ++ y) (ap₂ (λ x y. x ++ y)
-    (that_occur-falling cards 4 (omega arith)) (that_occur-falling cards 3 (omega arith))) (that_occur-falling cards 2 (omega arith))) (that_occur-falling cards 1 (omega arith))
-    ∙ joined (falling (λ r. eqb (count_of_rank cards r) 4) 15) (falling (λ r. eqb (count_of_rank cards r) 3) 15) (falling (λ r. eqb (count_of_rank cards r) 2) 15) (falling (λ r. eqb (count_of_rank cards r) 1) 15)
+    (that_occur-falling cards 4 (omega arith)) (that_occur-falling cards 3 (omega arith)))
+    (that_occur-falling cards 2 (omega arith))) (that_occur-falling cards 1 (omega arith))
+    ∙ joined (falling (λ r. eqb (count_of_rank cards r) 4) 15) (falling (λ r. eqb (count_of_rank cards r) 3) 15)
+    (falling (λ r. eqb (count_of_rank cards r) 2) 15) (falling (λ r. eqb (count_of_rank cards r) 1) 15)
   where
     joined : (a b c d : List ℕ) → ((a ++ b) ++ c) ++ d ≡ a ++ (b ++ (c ++ (d ++ [])))
     joined a b c d = simp (append_assoc, append-nil)
@@ -84,7 +88,8 @@ unfolding total
 total-one rank zero below = absurd (omega arith)
 total-one rank (suc n) below =
     elim (eqb rank n) as (λ t. eqb rank n ≡ t → cond t 1 0 + total (λ r. cond (eqb rank r) 1 0) n ≡ 1) [
-      | true ↦ λ same. let is = eqb-true rank n same in let none = total-above rank n (omega arith) in omega (arith, none)
+      | true ↦ λ same. let is = eqb-true rank n same in let none = total-above rank n (omega arith) in
+          omega (arith, none)
       | false ↦ λ other. let later = total-one rank n (grind (arith, nat_tests)) in omega (arith, later)
     ] refl
 
@@ -95,15 +100,20 @@ total-cards (card ∷ cards) =
     let top = card.up_to_ace in
     let later = total-cards cards in
     let one = total-one card.rank 15 (omega arith) in
-    let split = total-same (count_of_rank (card ∷ cards)) (λ r. cond (eqb card.rank r) 1 0 + count_of_rank cards r) 15 (λ r within. count_of_rank-cons card cards r) in
+    let split = total-same (count_of_rank (card ∷ cards)) (λ r. cond (eqb card.rank r) 1 0 + count_of_rank cards r) 15
+    (λ r within. count_of_rank-cons card cards r) in
     let both = total-add (λ r. cond (eqb card.rank r) 1 0) (count_of_rank cards) 15 in
     omega (arith, split, both, one, later)
 
-pub count_of_suit-cons : (suit r : ℕ) (card : Card) (cards : List Card) → count_of_suit (card ∷ cards) suit r ≡ cond (eqb card.suit suit && eqb card.rank r) 1 0 + count_of_suit cards suit r
+pub count_of_suit-cons : (suit r : ℕ) (card : Card) (cards : List Card)
+    → count_of_suit (card ∷ cards) suit r
+    ≡ cond (eqb card.suit suit && eqb card.rank r) 1 0 + count_of_suit cards suit r
 count_of_suit-cons suit r card cards = count_by-cons (λ (c : Card). eqb c.suit suit && eqb c.rank r) card cards
 
 -- the cards of a rank are of four suits
-pub by-suits : (cards : List Card) (r : ℕ) → count_of_rank cards r ≡ count_of_suit cards 0 r + count_of_suit cards 1 r + count_of_suit cards 2 r + count_of_suit cards 3 r
+pub by-suits : (cards : List Card) (r : ℕ)
+    → count_of_rank cards r
+    ≡ count_of_suit cards 0 r + count_of_suit cards 1 r + count_of_suit cards 2 r + count_of_suit cards 3 r
 by-suits [] r = refl
 by-suits (card ∷ cards) r =
     let later = by-suits cards r in
@@ -115,23 +125,29 @@ by-suits (card ∷ cards) r =
     let all = count_of_rank-cons card cards r in
     rw (all, a, b, c, d) (one-suit card.suit r card.rank _ _ _ _ _ suit later)
   where
-    one-suit : (suit r rank n x y z w : ℕ) → suit < 4 → n ≡ x + y + z + w → cond (eqb rank r) 1 0 + n ≡ cond (eqb suit 0 && eqb rank r) 1 0 + x + (cond (eqb suit 1 && eqb rank r) 1 0 + y) + (cond (eqb suit 2 && eqb rank r) 1 0 + z) + (cond (eqb suit 3 && eqb rank r) 1 0 + w)
+    one-suit : (suit r rank n x y z w : ℕ) → suit < 4 → n ≡ x + y + z + w
+        → cond (eqb rank r) 1 0 + n ≡ cond (eqb suit 0 && eqb rank r) 1 0 + x +
+        (cond (eqb suit 1 && eqb rank r) 1 0 + y) + (cond (eqb suit 2 && eqb rank r) 1 0 + z) +
+        (cond (eqb suit 3 && eqb rank r) 1 0 + w)
     one-suit suit r rank n x y z w few less = grind (arith, nat_tests)
 
 -- of cards that do not repeat, each suit has each rank once at most
-not-again : (card : Card) (cards : List Card) (suit r : ℕ) → card.suit ≡ suit → card.rank ≡ r → list_any (is_same_card card) cards ≡ false → count_of_suit cards suit r ≡ 0
+not-again : (card : Card) (cards : List Card) (suit r : ℕ) → card.suit ≡ suit → card.rank ≡ r
+    → list_any (is_same_card card) cards ≡ false → count_of_suit cards suit r ≡ 0
 not-again card [] suit r of_suit of_rank none = refl
 not-again card (other ∷ cards) suit r of_suit of_rank none =
     let parts = or_none (is_same_card card other) (list_any (is_same_card card) cards) none in
     let later = not-again card cards suit r of_suit of_rank parts.1 in
     count_of_suit-cons suit r other cards
-    ∙ ap₂ (λ x y. cond x 1 0 + y) (differs card.rank card.suit other.rank other.suit suit r of_suit of_rank parts.0) later
+    ∙ ap₂ (λ x y. cond x 1 0 + y) (differs card.rank card.suit other.rank other.suit suit r of_suit of_rank parts.0)
+    later
   where
     or_none : (a b : Bool) → (a || b) ≡ false → (a ≡ false) × (b ≡ false)
     or_none true b h = absurd cc
     or_none false b h = (refl, h)
 
-    differs : (rank suit_of other other_suit suit r : ℕ) → suit_of ≡ suit → rank ≡ r → (eqb rank other && eqb suit_of other_suit) ≡ false → (eqb other_suit suit && eqb other r) ≡ false
+    differs : (rank suit_of other other_suit suit r : ℕ) → suit_of ≡ suit → rank ≡ r
+        → (eqb rank other && eqb suit_of other_suit) ≡ false → (eqb other_suit suit && eqb other r) ≡ false
     differs rank suit_of other other_suit suit r of_suit of_rank not_same = grind (arith, nat_tests)
 
 pub suit-once : (cards : List Card) (suit r : ℕ) → repeats_a_card cards ≡ false → count_of_suit cards suit r ≤ 1
@@ -140,13 +156,16 @@ suit-once (card ∷ cards) suit r none =
     let parts = or_none (list_any (is_same_card card) cards) (repeats_a_card cards) none in
     let later = suit-once cards suit r parts.1 in
     let all = count_of_suit-cons suit r card cards in
-    elim (eqb card.suit suit && eqb card.rank r) as (λ b. (eqb card.suit suit && eqb card.rank r) ≡ b → count_of_suit (card ∷ cards) suit r ≤ 1) [
+    elim (eqb card.suit suit && eqb card.rank r) as (λ b. (eqb card.suit suit && eqb card.rank r) ≡ b
+    → count_of_suit (card ∷ cards) suit r ≤ 1) [
       | true ↦ λ same.
           let alone = not-again card cards suit r (grind (arith, nat_tests)) (grind (arith, nat_tests)) parts.0 in
-          let here : count_of_suit (card ∷ cards) suit r ≡ 1 + count_of_suit cards suit r = all ∙ ap (λ b. cond b 1 0 + count_of_suit cards suit r) same in
+          let here : count_of_suit (card ∷ cards) suit r ≡ 1 + count_of_suit cards suit r = all
+          ∙ ap (λ b. cond b 1 0 + count_of_suit cards suit r) same in
           omega arith
       | false ↦ λ other.
-          let here : count_of_suit (card ∷ cards) suit r ≡ 0 + count_of_suit cards suit r = all ∙ ap (λ b. cond b 1 0 + count_of_suit cards suit r) other in
+          let here : count_of_suit (card ∷ cards) suit r ≡ 0 + count_of_suit cards suit r = all
+          ∙ ap (λ b. cond b 1 0 + count_of_suit cards suit r) other in
           omega arith
     ] refl
   where
@@ -167,14 +186,21 @@ once-few cards r once =
     omega arith
 
 -- the ranks of the cards of a suit
-pub suited-rank : (suit : ℕ) (cards : List Card) (r : ℕ) → count_of_rank (filter (λ c. eqb c.suit suit) cards) r ≡ count_of_suit cards suit r
+pub suited-rank : (suit : ℕ) (cards : List Card) (r : ℕ)
+    → count_of_rank (filter (λ c. eqb c.suit suit) cards) r ≡ count_of_suit cards suit r
 suited-rank suit [] r = refl
 suited-rank suit (card ∷ cards) r =
     let later = suited-rank suit cards r in
     let all = count_of_suit-cons suit r card cards in
-    elim (eqb card.suit suit) as (λ b. eqb card.suit suit ≡ b → count_of_rank (cond b (card ∷ filter (λ c. eqb c.suit suit) cards) (filter (λ c. eqb c.suit suit) cards)) r ≡ count_of_suit (card ∷ cards) suit r) [
-      | true ↦ λ is. count_of_rank-cons card (filter (λ c. eqb c.suit suit) cards) r ∙ ap (λ n. cond (eqb card.rank r) 1 0 + n) later ∙ sym (all ∙ ap (λ b. cond (b && eqb card.rank r) 1 0 + count_of_suit cards suit r) is)
-      | false ↦ λ is. later ∙ sym (all ∙ ap (λ b. cond (b && eqb card.rank r) 1 0 + count_of_suit cards suit r) is ∙ none (count_of_suit cards suit r))
+    elim (eqb card.suit suit) as (λ b. eqb card.suit suit ≡ b
+    → count_of_rank (cond b (card ∷ filter (λ c. eqb c.suit suit) cards) (filter (λ c. eqb c.suit suit) cards)) r
+    ≡ count_of_suit (card ∷ cards) suit r) [
+      | true ↦ λ is. count_of_rank-cons card (filter (λ c. eqb c.suit suit) cards) r
+          ∙ ap (λ n. cond (eqb card.rank r) 1 0 + n) later
+          ∙ sym (all ∙ ap (λ b. cond (b && eqb card.rank r) 1 0 + count_of_suit cards suit r) is)
+      | false ↦ λ is. later
+          ∙ sym (all ∙ ap (λ b. cond (b && eqb card.rank r) 1 0 + count_of_suit cards suit r) is
+          ∙ none (count_of_suit cards suit r))
     ] refl
   where
     none : (n : ℕ) → 0 + n ≡ n
@@ -185,7 +211,8 @@ and_parts true b h = (refl, h)
 and_parts false b h = absurd cc
 
 -- where all cards have a suit, it has all ranks
-pub all-suited : (suit : ℕ) (cards : List Card) (r : ℕ) → list_all (λ (card : Card). eqb card.suit suit) cards ≡ true → count_of_suit cards suit r ≡ count_of_rank cards r
+pub all-suited : (suit : ℕ) (cards : List Card) (r : ℕ) → list_all (λ (card : Card). eqb card.suit suit) cards ≡ true
+    → count_of_suit cards suit r ≡ count_of_rank cards r
 all-suited suit [] r all = refl
 all-suited suit (card ∷ cards) r all =
     let parts = and_parts (eqb card.suit suit) (list_all (λ (c : Card). eqb c.suit suit) cards) all in
@@ -194,13 +221,15 @@ all-suited suit (card ∷ cards) r all =
     ∙ sym (count_of_rank-cons card cards r)
 
 -- all cards have a suit where they are of one, and the other way round
-pub one_suit-all : (cards : List Card) → are_of_one_suit cards ≡ true → (suit : ℕ) × (suit < 4) × (list_all (λ (card : Card). eqb card.suit suit) cards ≡ true)
+pub one_suit-all : (cards : List Card) → are_of_one_suit cards ≡ true
+    → (suit : ℕ) × (suit < 4) × (list_all (λ (card : Card). eqb card.suit suit) cards ≡ true)
 one_suit-all [] one = (0, omega arith, refl)
 one_suit-all (card ∷ cards) one =
     let itself : eqb card.suit card.suit ≡ true = eq-eqb card.suit card.suit refl in
     (card.suit, card.one_of_four, rw itself one)
 
-pub all-one_suit : (suit : ℕ) (cards : List Card) → list_all (λ (card : Card). eqb card.suit suit) cards ≡ true → are_of_one_suit cards ≡ true
+pub all-one_suit : (suit : ℕ) (cards : List Card) → list_all (λ (card : Card). eqb card.suit suit) cards ≡ true
+    → are_of_one_suit cards ≡ true
 all-one_suit suit [] all = refl
 all-one_suit suit (card ∷ cards) all =
     let parts = and_parts (eqb card.suit suit) (list_all (λ (c : Card). eqb c.suit suit) cards) all in

@@ -32,17 +32,21 @@ unfolding best_high
 best_high-combined [] = refl
 best_high-combined (cards ∷ hands) = ap (greater (five_card_value cards)) (best_high-combined hands)
 
-ranks_that_occur-same : (cards others : List Card) → ((r : ℕ) → count_of_rank cards r ≡ count_of_rank others r) → (times : ℕ) → ranks_that_occur cards times ≡ ranks_that_occur others times
+ranks_that_occur-same : (cards others : List Card) → ((r : ℕ) → count_of_rank cards r ≡ count_of_rank others r)
+    → (times : ℕ) → ranks_that_occur cards times ≡ ranks_that_occur others times
 unfolding ranks_that_occur
 ranks_that_occur-same cards others same times = λ i. filter (λ rank. eqb (same rank i) times) ranks_down
 
-distinct_ranks-same : (cards others : List Card) → ((r : ℕ) → count_of_rank cards r ≡ count_of_rank others r) → distinct_ranks cards ≡ distinct_ranks others
+distinct_ranks-same : (cards others : List Card) → ((r : ℕ) → count_of_rank cards r ≡ count_of_rank others r)
+    → distinct_ranks cards ≡ distinct_ranks others
 unfolding distinct_ranks
 distinct_ranks-same cards others same =
-    λ i. ranks_that_occur-same cards others same 4 i ++ ranks_that_occur-same cards others same 3 i ++ ranks_that_occur-same cards others same 2 i ++ ranks_that_occur-same cards others same 1 i
+    λ i. ranks_that_occur-same cards others same 4 i ++ ranks_that_occur-same cards others same 3 i ++
+    ranks_that_occur-same cards others same 2 i ++ ranks_that_occur-same cards others same 1 i
 
 -- the value of five cards is that of how often ranks occur and whether there is one suit
-pub five_card_value-same : (cards others : List Card) → ((r : ℕ) → count_of_rank cards r ≡ count_of_rank others r) → are_of_one_suit cards ≡ are_of_one_suit others → five_card_value cards ≡ five_card_value others
+pub five_card_value-same : (cards others : List Card) → ((r : ℕ) → count_of_rank cards r ≡ count_of_rank others r)
+    → are_of_one_suit cards ≡ are_of_one_suit others → five_card_value cards ≡ five_card_value others
 unfolding five_card_value
 five_card_value-same cards others same suits =
     let ranks = distinct_ranks-same cards others same in
@@ -73,7 +77,9 @@ list_all-exchange test (x ∷ front) a b back = ap (λ y. test x && y) (list_all
 
 one_suit-exchange : AllowsExchange are_of_one_suit
 one_suit-exchange [] a b back =
-    elim (eqb b.suit a.suit) as (λ t. eqb b.suit a.suit ≡ t → (t && list_all (λ (other : Card). eqb other.suit a.suit) back) ≡ (eqb a.suit b.suit && list_all (λ (other : Card). eqb other.suit b.suit) back)) [
+    elim (eqb b.suit a.suit) as (λ t. eqb b.suit a.suit ≡ t
+    → (t && list_all (λ (other : Card). eqb other.suit a.suit) back)
+    ≡ (eqb a.suit b.suit && list_all (λ (other : Card). eqb other.suit b.suit) back)) [
       | true ↦ λ same.
           let is : b.suit ≡ a.suit = eqb-true b.suit a.suit same in
           let back_is : eqb a.suit b.suit ≡ true = eq-eqb a.suit b.suit (sym is) in
@@ -82,13 +88,16 @@ one_suit-exchange [] a b back =
           let back_is : eqb a.suit b.suit ≡ false = grind (arith, nat_tests) in
           rw back_is refl
     ] refl
-one_suit-exchange (card ∷ front) a b back = list_all-exchange (λ (other : Card). eqb other.suit card.suit) front a b back
+one_suit-exchange (card ∷ front) a b back =
+    list_all-exchange (λ (other : Card). eqb other.suit card.suit) front a b back
 
 pub five_card_value-exchange : AllowsExchange five_card_value
 five_card_value-exchange front a b back =
-    five_card_value-same (front ++ a ∷ b ∷ back) (front ++ b ∷ a ∷ back) (λ r. count-exchange r front a b back) (one_suit-exchange front a b back)
+    five_card_value-same (front ++ a ∷ b ∷ back) (front ++ b ∷ a ∷ back) (λ r. count-exchange r front a b back)
+    (one_suit-exchange front a b back)
 
-count-renamed : (suit : ℕ → ℕ) (cards others : List Card) → AreRenamed suit cards others → (r : ℕ) → count_of_rank cards r ≡ count_of_rank others r
+count-renamed : (suit : ℕ → ℕ) (cards others : List Card) → AreRenamed suit cards others → (r : ℕ)
+    → count_of_rank cards r ≡ count_of_rank others r
 count-renamed suit [] [] renamed r = refl
 count-renamed suit [] (other ∷ others) renamed r = absurd renamed
 count-renamed suit (card ∷ cards) [] renamed r = absurd renamed
@@ -107,23 +116,29 @@ eqb-renamed suit one a b =
       ] refl
     ] refl
 
-have_suit-renamed : (suit : ℕ → ℕ) → IsOneToOne suit → (first second : ℕ) → second ≡ suit first → (cards others : List Card) → AreRenamed suit cards others
+have_suit-renamed : (suit : ℕ → ℕ) → IsOneToOne suit → (first second : ℕ) → second ≡ suit first
+    → (cards others : List Card) → AreRenamed suit cards others
     → list_all (λ (card : Card). eqb card.suit first) cards ≡ list_all (λ (card : Card). eqb card.suit second) others
 have_suit-renamed suit one first second is [] [] renamed = refl
 have_suit-renamed suit one first second is [] (other ∷ others) renamed = absurd renamed
 have_suit-renamed suit one first second is (card ∷ cards) [] renamed = absurd renamed
 have_suit-renamed suit one first second is (card ∷ cards) (other ∷ others) renamed =
-    ap₂ (λ x y. x && y) (eqb-renamed suit one card.suit first ∙ ap₂ eqb (sym renamed.1) (sym is)) (have_suit-renamed suit one first second is cards others renamed.2)
+    ap₂ (λ x y. x && y) (eqb-renamed suit one card.suit first ∙ ap₂ eqb (sym renamed.1) (sym is))
+    (have_suit-renamed suit one first second is cards others renamed.2)
 
-one_suit-renamed : (suit : ℕ → ℕ) → IsOneToOne suit → (cards others : List Card) → AreRenamed suit cards others → are_of_one_suit cards ≡ are_of_one_suit others
+one_suit-renamed : (suit : ℕ → ℕ) → IsOneToOne suit → (cards others : List Card) → AreRenamed suit cards others
+    → are_of_one_suit cards ≡ are_of_one_suit others
 one_suit-renamed suit one [] [] renamed = refl
 one_suit-renamed suit one [] (other ∷ others) renamed = absurd renamed
 one_suit-renamed suit one (card ∷ cards) [] renamed = absurd renamed
-one_suit-renamed suit one (card ∷ cards) (other ∷ others) renamed = have_suit-renamed suit one card.suit other.suit renamed.1 cards others renamed.2
+one_suit-renamed suit one (card ∷ cards) (other ∷ others) renamed =
+    have_suit-renamed suit one card.suit other.suit renamed.1 cards others renamed.2
 
-pub five_card_value-renamed : (suit : ℕ → ℕ) → IsOneToOne suit → (cards others : List Card) → AreRenamed suit cards others → five_card_value cards ≡ five_card_value others
+pub five_card_value-renamed : (suit : ℕ → ℕ) → IsOneToOne suit → (cards others : List Card)
+    → AreRenamed suit cards others → five_card_value cards ≡ five_card_value others
 five_card_value-renamed suit one cards others renamed =
-    five_card_value-same cards others (count-renamed suit cards others renamed) (one_suit-renamed suit one cards others renamed)
+    five_card_value-same cards others (count-renamed suit cards others renamed)
+    (one_suit-renamed suit one cards others renamed)
 
 -- the best hand of hold'em
 
@@ -132,7 +147,8 @@ holdem-exchange_hole board front a b back =
     best_high-combined (holdem_choices (front ++ a ∷ b ∷ back) board)
     ∙ ap (λ cards. combined greater [] five_card_value (choices 5 cards)) (append_assoc front (a ∷ b ∷ back) board)
     ∙ choices-exchange greater [] greater-combining five_card_value five_card_value-exchange 5 front a b (back ++ board)
-    ∙ ap (λ cards. combined greater [] five_card_value (choices 5 cards)) (sym (append_assoc front (b ∷ a ∷ back) board))
+    ∙ ap (λ cards. combined greater [] five_card_value (choices 5 cards))
+    (sym (append_assoc front (b ∷ a ∷ back) board))
     ∙ sym (best_high-combined (holdem_choices (front ++ b ∷ a ∷ back) board))
 
 pub holdem-exchange_board : (hole : List Card) → AllowsExchange (λ board. best_high (holdem_choices hole board))
@@ -143,11 +159,14 @@ holdem-exchange_board hole front a b back =
     ∙ ap (λ cards. combined greater [] five_card_value (choices 5 cards)) (append_assoc hole front (b ∷ a ∷ back))
     ∙ sym (best_high-combined (holdem_choices hole (front ++ b ∷ a ∷ back)))
 
-pub holdem-renamed : (suit : ℕ → ℕ) → IsOneToOne suit → (hole others board boards : List Card) → AreRenamed suit hole others → AreRenamed suit board boards
+pub holdem-renamed : (suit : ℕ → ℕ) → IsOneToOne suit → (hole others board boards : List Card)
+    → AreRenamed suit hole others → AreRenamed suit board boards
     → best_high (holdem_choices hole board) ≡ best_high (holdem_choices others boards)
 holdem-renamed suit one hole others board boards of_hole of_board =
     best_high-combined (holdem_choices hole board)
-    ∙ choices-renamed greater [] greater-combining suit five_card_value five_card_value (five_card_value-renamed suit one) 5 (hole ++ board) (others ++ boards) (renamed-append suit hole others board boards of_hole of_board)
+    ∙ choices-renamed greater [] greater-combining suit five_card_value five_card_value
+    (five_card_value-renamed suit one) 5 (hole ++ board) (others ++ boards)
+    (renamed-append suit hole others board boards of_hole of_board)
     ∙ sym (best_high-combined (holdem_choices others boards))
 
 -- the best hand of Omaha
@@ -164,9 +183,11 @@ omaha-exchange_of_board hole front a b back =
     ∙ omaha-exchange_board greater [] greater-combining five_card_value five_card_value-exchange hole front a b back
     ∙ sym (best_high-combined (omaha_choices hole (front ++ b ∷ a ∷ back)))
 
-pub omaha-renamed_high : (suit : ℕ → ℕ) → IsOneToOne suit → (hole others board boards : List Card) → AreRenamed suit hole others → AreRenamed suit board boards
+pub omaha-renamed_high : (suit : ℕ → ℕ) → IsOneToOne suit → (hole others board boards : List Card)
+    → AreRenamed suit hole others → AreRenamed suit board boards
     → best_high (omaha_choices hole board) ≡ best_high (omaha_choices others boards)
 omaha-renamed_high suit one hole others board boards of_hole of_board =
     best_high-combined (omaha_choices hole board)
-    ∙ omaha-renamed greater [] greater-combining suit five_card_value (five_card_value-renamed suit one) hole others board boards of_hole of_board
+    ∙ omaha-renamed greater [] greater-combining suit five_card_value
+    (five_card_value-renamed suit one) hole others board boards of_hole of_board
     ∙ sym (best_high-combined (omaha_choices others boards))

@@ -22,7 +22,8 @@ pub skip : {A : Type 0} (c : List A) (x : A) (xs : List A) → IsChoice c xs →
 skip [] x xs is = tt
 skip (c ∷ cs) x xs is = inr is
 
-pub count_by-cons : {A : Type 0} (p : A → Bool) (x : A) (xs : List A) → count_by p (x ∷ xs) ≡ cond (p x) 1 0 + count_by p xs
+pub count_by-cons : {A : Type 0} (p : A → Bool) (x : A) (xs : List A)
+    → count_by p (x ∷ xs) ≡ cond (p x) 1 0 + count_by p xs
 count_by-cons p x xs = sum_by-cons (λ y. cond (p y) 1 0) x xs
 
 -- a choice has no more things that pass a test
@@ -39,21 +40,26 @@ count-choice p (c ∷ cs) (x ∷ xs) (inr after) =
     rw (count_by-cons p x xs) (le_trans fewer (le-add_left (count_by p xs) (cond (p x) 1 0)))
 
 -- what bounds the value of each choice bounds the greatest
-pub chosen-within : {A : Type 0} (value : List A → List ℕ) (n : ℕ) (xs : List A) (b : List ℕ) → ((c : List A) → IsChoice c xs → length c ≡ n → Upto (value c) b) → Upto (combined greater [] value (choices n xs)) b
+pub chosen-within : {A : Type 0} (value : List A → List ℕ) (n : ℕ) (xs : List A) (b : List ℕ)
+    → ((c : List A) → IsChoice c xs → length c ≡ n → Upto (value c) b)
+    → Upto (combined greater [] value (choices n xs)) b
 chosen-within value zero xs b h = max-within (value []) [] b (h [] tt refl) tt
 chosen-within value (suc n) [] b h = tt
 chosen-within value (suc n) (x ∷ xs) b h =
     subst (λ v. Upto v b) (sym (choices-cons greater [] greater-combining value n x xs))
-    (max-within (combined greater [] (λ c. value (x ∷ c)) (choices n xs)) (combined greater [] value (choices (suc n) xs)) b
+    (max-within (combined greater [] (λ c. value (x ∷ c)) (choices n xs))
+    (combined greater [] value (choices (suc n) xs)) b
     (chosen-within (λ c. value (x ∷ c)) n xs b (λ c is len. h (x ∷ c) (inl (refl, is)) (ap suc len)))
     (chosen-within value (suc n) xs b (λ c is len. h c (skip c x xs is) len)))
 
 -- the greatest value comes no earlier than that of any choice
-pub chosen-above : {A : Type 0} (value : List A → List ℕ) (c xs : List A) → IsChoice c xs → Upto (value c) (combined greater [] value (choices (length c) xs))
+pub chosen-above : {A : Type 0} (value : List A → List ℕ) (c xs : List A) → IsChoice c xs
+    → Upto (value c) (combined greater [] value (choices (length c) xs))
 chosen-above value [] xs is = max-above_left (value []) []
 chosen-above value (c ∷ cs) [] is = absurd is
 chosen-above value (c ∷ cs) (x ∷ xs) (inl at) =
-    let here : Upto (value (x ∷ cs)) (combined greater [] (λ d. value (x ∷ d)) (choices (length cs) xs)) = chosen-above (λ d. value (x ∷ d)) cs xs at.1 in
+    let here : Upto (value (x ∷ cs)) (combined greater [] (λ d. value (x ∷ d)) (choices (length cs) xs)) =
+    chosen-above (λ d. value (x ∷ d)) cs xs at.1 in
     let left = combined greater [] (λ d. value (x ∷ d)) (choices (length cs) xs) in
     let right = combined greater [] value (choices (suc (length cs)) xs) in
     subst (λ v. Upto (value (c ∷ cs)) v) (sym (choices-cons greater [] greater-combining value (length cs) x xs))
@@ -71,11 +77,20 @@ abbrev pub occurs : List ℕ → ℕ → ℕ
 occurs needs r = count_by (λ s. eqb s r) needs
 
 -- a number is not in a list, or it is, beside some others
-taken_out : (r : ℕ) (needs : List ℕ) → (occurs needs r ≡ 0) ⊎ ((others : List ℕ) × (length needs ≡ suc (length others)) × ((s : ℕ) → occurs needs s ≡ cond (eqb r s) 1 0 + occurs others s))
+taken_out : (r : ℕ) (needs : List ℕ)
+    → (occurs needs r ≡ 0) ⊎ ((others : List ℕ) × (length needs ≡ suc (length others)) × ((s : ℕ)
+    → occurs needs s ≡ cond (eqb r s) 1 0 + occurs others s))
 taken_out r [] = inl refl
 taken_out r (need ∷ needs) =
-    elim (eqb need r) as (λ b. eqb need r ≡ b → (occurs (need ∷ needs) r ≡ 0) ⊎ ((others : List ℕ) × (suc (length needs) ≡ suc (length others)) × ((s : ℕ) → occurs (need ∷ needs) s ≡ cond (eqb r s) 1 0 + occurs others s))) [
-      | true ↦ λ same. inr (needs, refl, λ s. let is : need ≡ r = eqb-true need r same in count_by-cons (λ t. eqb t s) need needs ∙ ap (λ t. cond (eqb t s) 1 0 + occurs needs s) is)
+    elim (eqb need r) as (λ b. eqb need r ≡ b
+    → (occurs (need ∷ needs) r ≡ 0) ⊎ ((others : List ℕ) × (suc (length needs) ≡ suc (length others)) × ((s : ℕ)
+    → occurs (need ∷ needs) s ≡ cond (eqb r s) 1 0 + occurs others s))) [
+      | true ↦ λ same. inr (
+        needs,
+        refl,
+        λ s. let is : need ≡ r = eqb-true need r same in
+            count_by-cons (λ t. eqb t s) need needs ∙ ap (λ t. cond (eqb t s) 1 0 + occurs needs s) is,
+      )
       | false ↦ λ other. elim (taken_out r needs) [
         | inl none ↦ inl (rw (count_by-cons (λ t. eqb t r) need needs, other) (omega arith))
         | inr some ↦ inr (
@@ -94,15 +109,19 @@ whole [] = tt
 whole (x ∷ xs) = inl (refl, whole xs)
 
 -- the needed ranks are no more than n, and the things have them: so some n of the things have them
-pub choice-with : {A : Type 0} (rank : A → ℕ) (needs : List ℕ) (n : ℕ) (xs : List A) → length needs ≤ n → n ≤ length xs → ((r : ℕ) → occurs needs r ≤ count_by (λ x. eqb (rank x) r) xs) → (c : List A) × IsChoice c xs × (length c ≡ n) × ((r : ℕ) → occurs needs r ≤ count_by (λ x. eqb (rank x) r) c)
+pub choice-with : {A : Type 0} (rank : A → ℕ) (needs : List ℕ) (n : ℕ) (xs : List A) → length needs ≤ n → n ≤ length xs
+    → ((r : ℕ) → occurs needs r ≤ count_by (λ x. eqb (rank x) r) xs)
+    → (c : List A) × IsChoice c xs × (length c ≡ n) × ((r : ℕ) → occurs needs r ≤ count_by (λ x. eqb (rank x) r) c)
 choice-with rank needs n [] few within has = ([], tt, omega arith, has)
 choice-with rank [] zero (x ∷ xs) few within has = ([], tt, refl, λ r. zero-le)
 choice-with rank (need ∷ needs) zero (x ∷ xs) few within has = absurd (omega arith)
 choice-with {A} rank needs (suc n) (x ∷ xs) few within has =
-    let have : (r : ℕ) → occurs needs r ≤ cond (eqb (rank x) r) 1 0 + count_by (λ y. eqb (rank y) r) xs = λ r. subst (λ m. occurs needs r ≤ m) (count_by-cons (λ y. eqb (rank y) r) x xs) (has r) in
+    let have : (r : ℕ) → occurs needs r ≤ cond (eqb (rank x) r) 1 0 + count_by (λ y. eqb (rank y) r) xs =
+    λ r. subst (λ m. occurs needs r ≤ m) (count_by-cons (λ y. eqb (rank y) r) x xs) (has r) in
     elim (taken_out (rank x) needs) [
       | inr some ↦
-          let later = choice-with rank some.0 n xs (omega arith) (omega arith) (λ r. let at = some.2 r in let all = have r in omega arith) in (
+          let later = choice-with rank some.0 n xs (omega arith) (omega arith) (λ r. let at = some.2 r in let all =
+          have r in omega arith) in (
             x ∷ later.0,
             inl (refl, later.1),
             ap suc later.2,
@@ -111,23 +130,33 @@ choice-with {A} rank needs (suc n) (x ∷ xs) few within has =
                 let rest = later.3 r in
                 rw (count_by-cons (λ y. eqb (rank y) r) x later.0) (omega arith),
           )
-      | inl none ↦ elim (leb (suc n) (length xs)) as (λ b. leb (suc n) (length xs) ≡ b → (c : List A) × IsChoice c (x ∷ xs) × (length c ≡ suc n) × ((r : ℕ) → occurs needs r ≤ count_by (λ y. eqb (rank y) r) c)) [
-        | true ↦ λ room.
-            let later = choice-with rank needs (suc n) xs few (grind (arith, nat_tests)) (λ r. elim (eqb (rank x) r) as (λ b. eqb (rank x) r ≡ b → occurs needs r ≤ count_by (λ y. eqb (rank y) r) xs) [
-              | true ↦ λ same. let is : rank x ≡ r = eqb-true (rank x) r same in let zero_here : occurs needs r ≡ 0 = subst (λ t. occurs needs t ≡ 0) is none in omega arith
-              | false ↦ λ other. let here : occurs needs r ≤ cond false 1 0 + count_by (λ y. eqb (rank y) r) xs = subst (λ b. occurs needs r ≤ cond b 1 0 + count_by (λ y. eqb (rank y) r) xs) other (have r) in omega arith
-            ] refl) in
-            (later.0, skip later.0 x xs later.1, later.2, later.3)
-        | false ↦ λ full. (x ∷ xs, whole (x ∷ xs), ap suc (grind (arith, nat_tests)), has)
-      ] refl
+      | inl none ↦ elim (leb (suc n) (length xs)) as (λ b. leb (suc n) (length xs) ≡ b
+          → (c : List A) × IsChoice c (x ∷ xs) × (length c ≡ suc n) × ((r : ℕ)
+          → occurs needs r ≤ count_by (λ y. eqb (rank y) r) c)) [
+            | true ↦ λ room.
+                let later = choice-with rank needs (suc n) xs few (grind (arith, nat_tests))
+                (λ r. elim (eqb (rank x) r) as (λ b. eqb (rank x) r ≡ b
+                → occurs needs r ≤ count_by (λ y. eqb (rank y) r) xs) [
+                  | true ↦ λ same. let is : rank x ≡ r = eqb-true (rank x) r same in let zero_here : occurs needs r
+                      ≡ 0 =
+                      subst (λ t. occurs needs t ≡ 0) is none in omega arith
+                  | false ↦ λ other. let here : occurs needs r ≤ cond false 1 0 + count_by (λ y. eqb (rank y) r) xs =
+                      subst (λ b. occurs needs r ≤ cond b 1 0 + count_by (λ y. eqb (rank y) r) xs) other (have r) in
+                      omega arith
+                ] refl) in
+                (later.0, skip later.0 x xs later.1, later.2, later.3)
+            | false ↦ λ full. (x ∷ xs, whole (x ∷ xs), ap suc (grind (arith, nat_tests)), has)
+          ] refl
     ]
 
 -- a choice of the things that pass is one of all, and each of it passes
-pub choice-filter : {A : Type 0} (p : A → Bool) (c xs : List A) → IsChoice c (filter p xs) → IsChoice c xs × (list_all p c ≡ true)
+pub choice-filter : {A : Type 0} (p : A → Bool) (c xs : List A) → IsChoice c (filter p xs)
+    → IsChoice c xs × (list_all p c ≡ true)
 choice-filter p [] xs is = (tt, refl)
 choice-filter p (c ∷ cs) [] is = absurd is
 choice-filter p (c ∷ cs) (x ∷ xs) is =
-    (elim (p x) as (λ b. p x ≡ b → IsChoice (c ∷ cs) (cond b (x ∷ filter p xs) (filter p xs)) → IsChoice (c ∷ cs) (x ∷ xs) × (list_all p (c ∷ cs) ≡ true)) [
+    (elim (p x) as (λ b. p x ≡ b → IsChoice (c ∷ cs) (cond b (x ∷ filter p xs) (filter p xs))
+    → IsChoice (c ∷ cs) (x ∷ xs) × (list_all p (c ∷ cs) ≡ true)) [
       | true ↦ λ passes here. elim here [
         | inl at ↦
             let later = choice-filter p cs xs at.1 in

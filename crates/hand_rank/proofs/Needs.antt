@@ -38,7 +38,8 @@ length-needs (often ∷ more) [] = zero-le
 length-needs (often ∷ more) (rank ∷ ranks) =
     let later = length-needs more ranks in let here = length-times often rank (needs_of more ranks) in omega arith
 
-needs-within : (often ranks : List ℕ) (count : ℕ → ℕ) → Has often ranks count → (s : ℕ) → occurs (needs_of often ranks) s ≤ count s
+needs-within : (often ranks : List ℕ) (count : ℕ → ℕ) → Has often ranks count → (s : ℕ)
+    → occurs (needs_of often ranks) s ≤ count s
 unfolding needs_of
 needs-within [] ranks count has s = zero-le
 needs-within (often ∷ more) [] count has s = zero-le
@@ -51,13 +52,15 @@ needs-within (often ∷ more) (rank ∷ ranks) count has s =
       | true ↦ λ same.
           let is = eqb-true rank s same in
           let itself : eqb s rank ≡ true = eq-eqb s rank (sym is) in
-          let none : occurs (needs_of more ranks) s ≤ 0 = subst (λ b. occurs (needs_of more ranks) s ≤ cond b 0 (count s)) itself later in
+          let none : occurs (needs_of more ranks) s ≤ 0 =
+          subst (λ b. occurs (needs_of more ranks) s ≤ cond b 0 (count s)) itself later in
           let much : often ≤ count s = subst (λ r. often ≤ count r) is enough in
           omega arith
       | false ↦ λ other. let less = without-less rank s count in omega arith
     ] refl)
 
-needs-has : (often ranks : List ℕ) (count : ℕ → ℕ) → Has often ranks count → Has often ranks (occurs (needs_of often ranks))
+needs-has : (often ranks : List ℕ) (count : ℕ → ℕ) → Has often ranks count
+    → Has often ranks (occurs (needs_of often ranks))
 unfolding needs_of
 needs-has [] [] count has = tt
 needs-has [] (rank ∷ ranks) count has = absurd has
@@ -66,7 +69,8 @@ needs-has (often ∷ more) (rank ∷ ranks) count has =
     let rest = needs_of more ranks in
     let later = needs-has more ranks (without rank count) has.2 in
     let itself : eqb rank rank ≡ true = eq-eqb rank rank refl in
-    let here : occurs (times often rank rest) rank ≡ cond (eqb rank rank) often 0 + occurs rest rank = occurs-times often rank rest rank in
+    let here : occurs (times often rank rest) rank ≡ cond (eqb rank rank) often 0 + occurs rest rank =
+    occurs-times often rank rest rank in
     let enough : often ≤ occurs (times often rank rest) rank = rw (here, itself) (omega arith) in (
       has.0,
       enough,
@@ -80,11 +84,19 @@ needs-has (often ∷ more) (rank ∷ ranks) count has =
     )
 
 -- some five of the cards have ranks that occur so often
-pub five-with : (often ranks : List ℕ) (cards : List Card) → added often ≡ 5 → 5 ≤ length cards → Has often ranks (count_of_rank cards) → (five : List Card) × IsChoice five cards × (length five ≡ 5) × Has often ranks (count_of_rank five)
+pub five-with : (often ranks : List ℕ) (cards : List Card) → added often ≡ 5 → 5 ≤ length cards
+    → Has often ranks (count_of_rank cards)
+    → (five : List Card) × IsChoice five cards × (length five ≡ 5) × Has often ranks (count_of_rank five)
 five-with often ranks cards sum enough has =
     let few = length-needs often ranks in
-    let at = choice-with (λ (card : Card). card.rank) (needs_of often ranks) 5 cards (omega arith) enough (needs-within often ranks (count_of_rank cards) has) in
-    (at.0, at.1, at.2, has-more often ranks (occurs (needs_of often ranks)) (count_of_rank at.0) at.3 (needs-has often ranks (count_of_rank cards) has))
+    let at = choice-with (λ (card : Card). card.rank) (needs_of often ranks) 5 cards (omega arith) enough
+    (needs-within often ranks (count_of_rank cards) has) in (
+      at.0,
+      at.1,
+      at.2,
+      has-more often ranks (occurs (needs_of often ranks)) (count_of_rank at.0) at.3
+          (needs-has often ranks (count_of_rank cards) has),
+    )
 
 total-least : (count : ℕ → ℕ) (n r : ℕ) → r < n → count r ≤ total count n
 total-least count n r within = let all = total-without r count n within in omega arith
@@ -105,7 +117,8 @@ Among r [] = ⊥
 Among r (x ∷ xs) = (r ≡ x) ⊎ Among r xs
 
 -- where no more cards are there, only those ranks occur
-pub has-only : (often ranks : List ℕ) (count : ℕ → ℕ) (r : ℕ) → Has often ranks count → total count 15 ≡ added often → r < 15 → 1 ≤ count r → Among r ranks
+pub has-only : (often ranks : List ℕ) (count : ℕ → ℕ) (r : ℕ) → Has often ranks count → total count 15 ≡ added often
+    → r < 15 → 1 ≤ count r → Among r ranks
 has-only [] ranks count r has sum within some = let least = total-least count 15 r within in absurd (omega arith)
 has-only (often ∷ more) [] count r has sum within some = absurd has
 has-only (often ∷ more) (rank ∷ ranks) count r has sum within some =
@@ -120,7 +133,8 @@ has-only (often ∷ more) (rank ∷ ranks) count r has sum within some =
     ] refl
 
 -- and each of them once, if once is enough
-pub has-once : (often ranks : List ℕ) (count : ℕ → ℕ) (r : ℕ) → Falls 1 often → Has often ranks count → total count 15 ≡ added often → r < 15 → count r ≤ 1
+pub has-once : (often ranks : List ℕ) (count : ℕ → ℕ) (r : ℕ) → Falls 1 often → Has often ranks count
+    → total count 15 ≡ added often → r < 15 → count r ≤ 1
 has-once [] ranks count r falls has sum within = let least = total-least count 15 r within in omega arith
 has-once (often ∷ more) [] count r falls has sum within = absurd has
 has-once (often ∷ more) (rank ∷ ranks) count r falls has sum within =
@@ -134,6 +148,7 @@ has-once (often ∷ more) (rank ∷ ranks) count r falls has sum within =
       | true ↦ λ same. let is = eqb-true r rank same in subst (λ s. count s ≤ 1) (sym is) (omega arith)
       | false ↦ λ other.
           let kept = without-other rank r count (grind (arith, nat_tests)) in
-          let later = has-once more ranks (without rank count) r (subst (λ m. Falls m more) one falls.2) has.2 (omega arith) within in
+          let later = has-once more ranks (without rank count) r (subst (λ m. Falls m more) one falls.2) has.2
+          (omega arith) within in
           omega arith
     ] refl

@@ -19,39 +19,52 @@ use Rattle.hand_rank.specs.Values.{category_number, category_of, count_of_rank, 
 use Rattle.hand_rank.proofs.BestLaws.{best_high-none, best_high-more}
 
 -- how often ranks occur in some cards and in others
-pub tally-joined : (a1 a2 a3 a4 b1 b2 b3 b4 c1 c2 c3 c4 : ℕ) (one other both : ℕ → ℕ) → IsTallyOf a1 a2 a3 a4 one → IsTallyOf b1 b2 b3 b4 other → ((r : ℕ) → both r ≡ one r + other r)
+pub tally-joined : (a1 a2 a3 a4 b1 b2 b3 b4 c1 c2 c3 c4 : ℕ) (one other both : ℕ → ℕ) → IsTallyOf a1 a2 a3 a4 one
+    → IsTallyOf b1 b2 b3 b4 other → ((r : ℕ) → both r ≡ one r + other r)
     → ((r : ℕ) → has_rank c1 r ≡ (has_rank a1 r || has_rank b1 r))
     → ((r : ℕ) → has_rank c2 r ≡ ((has_rank a2 r || has_rank b2 r) || (has_rank a1 r && has_rank b1 r)))
-    → ((r : ℕ) → has_rank c3 r ≡ ((has_rank a3 r || has_rank b3 r) || ((has_rank a2 r && has_rank b1 r) || (has_rank a1 r && has_rank b2 r))))
-    → ((r : ℕ) → has_rank c4 r ≡ ((has_rank a4 r || has_rank b4 r) || ((has_rank a3 r && has_rank b1 r) || ((has_rank a2 r && has_rank b2 r) || (has_rank a1 r && has_rank b3 r)))))
+    → ((r : ℕ) → has_rank c3 r
+    ≡ ((has_rank a3 r || has_rank b3 r) || ((has_rank a2 r && has_rank b1 r) || (has_rank a1 r && has_rank b2 r))))
+    → ((r : ℕ) → has_rank c4 r
+    ≡ ((has_rank a4 r || has_rank b4 r) ||
+    ((has_rank a3 r && has_rank b1 r) || ((has_rank a2 r && has_rank b2 r) || (has_rank a1 r && has_rank b3 r)))))
     → IsTallyOf c1 c2 c3 c4 both
 tally-joined a1 a2 a3 a4 b1 b2 b3 b4 c1 c2 c3 c4 one other both is also sum of1 of2 of3 of4 =
-    let only : (r : ℕ) → (15 ≤ r) ⊎ (r < 2) → both r ≡ 0 = λ r out. let x = is.of_once.only r out in let y = also.of_once.only r out in let z = sum r in omega arith in
+    let only : (r : ℕ) → (15 ≤ r) ⊎ (r < 2) → both r ≡ 0 = λ r out. let x = is.of_once.only r out in let y =
+    also.of_once.only r out in let z = sum r in omega arith in
     record {
       of_once = record {
         some = lit≤ tt;
         only = only;
         at = λ r within.
-            of1 r ∙ (λ i. is.of_once.at r within i || also.of_once.at r within i) ∙ once (one r) (other r) ∙ ap (leb 1) (sym (sum r));
+            of1 r ∙ (λ i. is.of_once.at r within i || also.of_once.at r within i) ∙ once (one r) (other r)
+            ∙ ap (leb 1) (sym (sum r));
       };
       of_twice = record {
         some = lit≤ tt;
         only = only;
         at = λ r within.
-            of2 r ∙ (λ i. (is.of_twice.at r within i || also.of_twice.at r within i) || (is.of_once.at r within i && also.of_once.at r within i)) ∙ twice (one r) (other r) ∙ ap (leb 2) (sym (sum r));
+            of2 r ∙ (λ i. (is.of_twice.at r within i || also.of_twice.at r within i) ||
+            (is.of_once.at r within i && also.of_once.at r within i)) ∙ twice (one r) (other r)
+            ∙ ap (leb 2) (sym (sum r));
       };
       of_thrice = record {
         some = lit≤ tt;
         only = only;
         at = λ r within.
-            of3 r ∙ (λ i. (is.of_thrice.at r within i || also.of_thrice.at r within i) || ((is.of_twice.at r within i && also.of_once.at r within i) || (is.of_once.at r within i && also.of_twice.at r within i)))
+            of3 r ∙ (λ i. (is.of_thrice.at r within i || also.of_thrice.at r within i) ||
+            ((is.of_twice.at r within i && also.of_once.at r within i) ||
+            (is.of_once.at r within i && also.of_twice.at r within i)))
             ∙ thrice (one r) (other r) ∙ ap (leb 3) (sym (sum r));
       };
       of_four = record {
         some = lit≤ tt;
         only = only;
         at = λ r within.
-            of4 r ∙ (λ i. (is.of_four.at r within i || also.of_four.at r within i) || ((is.of_thrice.at r within i && also.of_once.at r within i) || ((is.of_twice.at r within i && also.of_twice.at r within i) || (is.of_once.at r within i && also.of_thrice.at r within i))))
+            of4 r ∙ (λ i. (is.of_four.at r within i || also.of_four.at r within i) ||
+            ((is.of_thrice.at r within i && also.of_once.at r within i) ||
+            ((is.of_twice.at r within i && also.of_twice.at r within i) ||
+            (is.of_once.at r within i && also.of_thrice.at r within i))))
             ∙ four (one r) (other r) ∙ ap (leb 4) (sym (sum r));
       };
     }
@@ -65,22 +78,27 @@ tally-joined a1 a2 a3 a4 b1 b2 b3 b4 c1 c2 c3 c4 one other both is also sum of1 
     thrice : (m n : ℕ) → ((leb 3 m || leb 3 n) || ((leb 2 m && leb 1 n) || (leb 1 m && leb 2 n))) ≡ leb 3 (m + n)
     thrice m n = grind (arith, nat_tests)
 
-    four : (m n : ℕ) → ((leb 4 m || leb 4 n) || ((leb 3 m && leb 1 n) || ((leb 2 m && leb 2 n) || (leb 1 m && leb 3 n)))) ≡ leb 4 (m + n)
+    four : (m n : ℕ) → ((leb 4 m || leb 4 n) ||
+        ((leb 3 m && leb 1 n) || ((leb 2 m && leb 2 n) || (leb 1 m && leb 3 n)))) ≡ leb 4 (m + n)
     four m n = grind (arith, nat_tests)
 
-pub count-joined : (cards more : List Card) (r : ℕ) → count_of_rank (cards ++ more) r ≡ count_of_rank cards r + count_of_rank more r
+pub count-joined : (cards more : List Card) (r : ℕ)
+    → count_of_rank (cards ++ more) r ≡ count_of_rank cards r + count_of_rank more r
 count-joined cards more r = sum_by-append (λ (c : Card). cond (eqb c.rank r) 1 0) cards more
 
 -- the suit of some cards and of others
-pub suit-joined : (one other : Card) (cards more : List Card) → common (suit_of (one ∷ cards)) (suit_of (other ∷ more)) ≡ suit_of ((one ∷ cards) ++ other ∷ more)
+pub suit-joined : (one other : Card) (cards more : List Card)
+    → common (suit_of (one ∷ cards)) (suit_of (other ∷ more)) ≡ suit_of ((one ∷ cards) ++ other ∷ more)
 suit-joined one other cards more =
     let as_one = λ (c : Card). eqb c.suit one.suit in
     let as_other = λ (c : Card). eqb c.suit other.suit in
     let all = list_all-append as_one cards (other ∷ more) in
-    by_case (list_all as_one cards) (list_all as_other more) (list_all as_one more) one.suit other.suit (λ same. ap (λ s. list_all (λ (c : Card). eqb c.suit s) more) same)
+    by_case (list_all as_one cards) (list_all as_other more) (list_all as_one more) one.suit other.suit
+    (λ same. ap (λ s. list_all (λ (c : Card). eqb c.suit s) more) same)
     ∙ ap (λ b. cond b (Some one.suit) None) (sym all)
   where
-    by_case : (a b c : Bool) (x y : ℕ) → (x ≡ y → c ≡ b) → common (cond a (Some x) None) (cond b (Some y) None) ≡ cond (a && (eqb y x && c)) (Some x) None
+    by_case : (a b c : Bool) (x y : ℕ) → (x ≡ y → c ≡ b)
+        → common (cond a (Some x) None) (cond b (Some y) None) ≡ cond (a && (eqb y x && c)) (Some x) None
     by_case false b c x y same = refl
     by_case true false c x y same =
         elim (eqb y x) as (λ t. eqb y x ≡ t → None ≡ cond (t && c) (Some x) None) [
@@ -89,12 +107,14 @@ suit-joined one other cards more =
         ] refl
     by_case true true c x y same =
         elim (eqb y x) as (λ t. eqb y x ≡ t → cond (eqb x y) (Some x) None ≡ cond (t && c) (Some x) None) [
-          | true ↦ λ is. let all = same (sym (eqb-true y x is)) in let turned : eqb x y ≡ true = eq-eqb x y (sym (eqb-true y x is)) in rw (all, turned) refl
+          | true ↦ λ is. let all = same (sym (eqb-true y x is)) in let turned : eqb x y ≡ true =
+              eq-eqb x y (sym (eqb-true y x is)) in rw (all, turned) refl
           | false ↦ λ apart. let turned : eqb x y ≡ false = grind (arith, nat_tests) in rw turned refl
         ] refl
 
 -- some cards have one suit where there is one
-pub suit-some : (suit : Option ℕ) (cards : List Card) → suit ≡ suit_of cards → length cards ≡ 5 → is_some suit ≡ are_of_one_suit cards
+pub suit-some : (suit : Option ℕ) (cards : List Card) → suit ≡ suit_of cards → length cards ≡ 5
+    → is_some suit ≡ are_of_one_suit cards
 suit-some suit [] is five = absurd (omega arith)
 suit-some suit (card ∷ cards) is five =
     ap is_some is ∙ either (are_of_one_suit (card ∷ cards)) card.suit
@@ -104,14 +124,18 @@ suit-some suit (card ∷ cards) is five =
     either false s = refl
 
 -- some cards and others
-pub part-joined : (result one other : Part) → ((first second : Card) (cards more : List Card) → IsPartOf one (first ∷ cards) → IsPartOf other (second ∷ more) → IsPartOf result ((first ∷ cards) ++ second ∷ more))
-    → (cards more : List Card) → 1 ≤ length cards → 1 ≤ length more → IsPartOf one cards → IsPartOf other more → IsPartOf result (cards ++ more)
+pub part-joined : (result one other : Part)
+    → ((first second : Card) (cards more : List Card) → IsPartOf one (first ∷ cards) → IsPartOf other (second ∷ more)
+    → IsPartOf result ((first ∷ cards) ++ second ∷ more))
+    → (cards more : List Card) → 1 ≤ length cards → 1 ≤ length more → IsPartOf one cards → IsPartOf other more
+    → IsPartOf result (cards ++ more)
 part-joined result one other both [] more some others is also = absurd (omega arith)
 part-joined result one other both (card ∷ cards) [] some others is also = absurd (omega arith)
 part-joined result one other both (card ∷ cards) (next ∷ more) some others is also = both card next cards more is also
 
 -- a part among others
-pub part-at : (parts : List Part) (hands : List (List Card)) (i : ℕ) (default : Part) → AreParts parts hands → i < length hands → (cards : List Card) × (cards ≡ get_or hands i cards) × IsPartOf (get_or parts i default) cards
+pub part-at : (parts : List Part) (hands : List (List Card)) (i : ℕ) (default : Part) → AreParts parts hands
+    → i < length hands → (cards : List Card) × (cards ≡ get_or hands i cards) × IsPartOf (get_or parts i default) cards
 part-at [] [] i default are within = absurd (omega arith)
 part-at [] (cards ∷ hands) i default are within = absurd are
 part-at (part ∷ parts) [] i default are within = absurd are
@@ -125,7 +149,8 @@ parts-length (part ∷ parts) [] are = absurd are
 parts-length (part ∷ parts) (cards ∷ hands) are = ap suc (parts-length parts hands are.1)
 
 -- the cards of lists of five, of four and of two
-pub five-are : (cards : List Card) (a b c d e : Card) → length cards ≡ 5 → get_or cards 0 a ∷ get_or cards 1 b ∷ get_or cards 2 c ∷ get_or cards 3 d ∷ get_or cards 4 e ∷ [] ≡ cards
+pub five-are : (cards : List Card) (a b c d e : Card) → length cards ≡ 5
+    → get_or cards 0 a ∷ get_or cards 1 b ∷ get_or cards 2 c ∷ get_or cards 3 d ∷ get_or cards 4 e ∷ [] ≡ cards
 five-are [] a b c d e five = absurd (omega arith)
 five-are (v ∷ []) a b c d e five = absurd (omega arith)
 five-are (v ∷ w ∷ []) a b c d e five = absurd (omega arith)
@@ -165,7 +190,8 @@ value-above cards =
     let ranks = distinct_ranks cards in
     by (category_of (map (count_of_rank cards) ranks)) (run_top ranks) (are_of_one_suit cards) ranks
   where
-    by : (category : Option Category) (top : Option ℕ) (one : Bool) (ranks : List ℕ) → Upto (0 ∷ []) (value_by category top one ranks)
+    by : (category : Option Category) (top : Option ℕ) (one : Bool) (ranks : List ℕ)
+        → Upto (0 ∷ []) (value_by category top one ranks)
     by (Some category) top one ranks = number-above (category_number category) ranks
     by None (Some top) true ranks = number-above 8 (top ∷ [])
     by None (Some top) false ranks = number-above 4 (top ∷ [])
@@ -175,25 +201,39 @@ value-above cards =
 greatest-above : (hands : List (List Card)) → 1 ≤ length hands → Upto (0 ∷ []) (best_high hands)
 unfolding best_high
 greatest-above [] some = absurd (omega arith)
-greatest-above (hand ∷ hands) some = upto_through (0 ∷ []) (five_card_value hand) (best_high (hand ∷ hands)) (value-above hand) (max-above_left (five_card_value hand) (best_high hands))
+greatest-above (hand ∷ hands) some = upto_through (0 ∷ []) (five_card_value hand) (best_high (hand ∷ hands))
+    (value-above hand) (max-above_left (five_card_value hand) (best_high hands))
 
-pub best-above : (hole board : List Card) → length hole ≡ 4 → length board ≡ 5 → greater (0 ∷ []) (best_high (omaha_choices hole board)) ≡ best_high (omaha_choices hole board)
-best-above hole board four five = max_upper (0 ∷ []) (best_high (omaha_choices hole board)) (greatest-above (omaha_choices hole board) (some-choice hole board four five))
+pub best-above : (hole board : List Card) → length hole ≡ 4 → length board ≡ 5
+    → greater (0 ∷ []) (best_high (omaha_choices hole board)) ≡ best_high (omaha_choices hole board)
+best-above hole board four five =
+    max_upper (0 ∷ []) (best_high (omaha_choices hole board))
+    (greatest-above (omaha_choices hole board) (some-choice hole board four five))
 
 -- nothing is better than no choice
 pub better-none : (best : Shown) → IsSized best → IsBetter best [] best
-better-none best sized = record { value = sym (ap (greater (shown_value best)) best_high-none ∙ max_lower (shown_value best) [] tt); sized = sized }
+better-none best sized =
+    record {
+      value = sym (ap (greater (shown_value best)) best_high-none ∙ max_lower (shown_value best) [] tt);
+      sized =
+          sized;
+    }
 
 -- one more choice
-pub better-more : (best so_far next better : Shown) (hand : List Card → List Card) (hands : List (List Card)) (i : ℕ) (cards : List Card) → i < length hands → cards ≡ get_or hands i cards
-    → IsBetter best (map hand (take i hands)) so_far → IsShownBy next (hand cards) → shown_value better ≡ greater (shown_value so_far) (shown_value next) → IsSized better → IsBetter best (map hand (take (i + 1) hands)) better
+pub better-more : (best so_far next better : Shown) (hand : List Card → List Card) (hands : List (List Card)) (i : ℕ)
+    (cards : List Card) → i < length hands → cards ≡ get_or hands i cards
+    → IsBetter best (map hand (take i hands)) so_far → IsShownBy next (hand cards)
+    → shown_value better ≡ greater (shown_value so_far) (shown_value next) → IsSized better
+    → IsBetter best (map hand (take (i + 1) hands)) better
 better-more best so_far next better hand hands i cards within at before shown is sized = record {
   value = is ∙ ap₂ greater before.value shown.value
       ∙ max_assoc (shown_value best) (best_high (map hand (take i hands))) (five_card_value (hand cards))
-      ∙ ap (greater (shown_value best)) (best_high-more hand hands i cards (best_high (map hand (take i hands))) within at refl);
+      ∙ ap (greater (shown_value best))
+      (best_high-more hand hands i cards (best_high (map hand (take i hands))) within at refl);
   sized = sized;
 }
 
 -- when all choices have been looked at
-pub better-all : (best better : Shown) (hand : List Card → List Card) (hands : List (List Card)) (i : ℕ) → length hands ≤ i → IsBetter best (map hand (take i hands)) better → IsBetter best (map hand hands) better
+pub better-all : (best better : Shown) (hand : List Card → List Card) (hands : List (List Card)) (i : ℕ)
+    → length hands ≤ i → IsBetter best (map hand (take i hands)) better → IsBetter best (map hand hands) better
 better-all best better hand hands i end is = subst (λ hs. IsBetter best (map hand hs) better) (take_all i hands end) is

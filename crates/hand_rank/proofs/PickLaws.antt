@@ -15,10 +15,16 @@ pub highest-is : (test : ℕ → Bool) (n rank : ℕ) → highest_below test n �
 unfolding highest_below
 highest-is test zero rank is = absurd cc
 highest-is test (suc n) rank is =
-    (elim (test n) as (λ b. test n ≡ b → cond b (Some n) (highest_below test n) ≡ Some rank → IsHighest test (suc n) rank) [
+    (elim (test n) as (λ b. test n ≡ b → cond b (Some n) (highest_below test n) ≡ Some rank
+    → IsHighest test (suc n) rank) [
       | true ↦ λ passes found.
           let same : n ≡ rank = cc in
-          record { passes = subst (λ r. test r ≡ true) same passes; below = omega arith; above = λ r within there. omega arith }
+          record {
+            passes = subst (λ r. test r ≡ true) same passes;
+            below = omega arith;
+            above =
+                λ r within there. omega arith;
+          }
       | false ↦ λ fails found.
           let later = highest-is test n rank found in
           record {
@@ -26,7 +32,8 @@ highest-is test (suc n) rank is =
             below = let less = later.below in omega arith;
             above = λ r within there.
                 elim (eqb r n) as (λ b. eqb r n ≡ b → r ≤ rank) [
-                  | true ↦ λ same. let is_n = eqb-true r n same in let bad : test n ≡ true = subst (λ m. test m ≡ true) is_n there in absurd cc
+                  | true ↦ λ same. let is_n = eqb-true r n same in let bad : test n ≡ true =
+                      subst (λ m. test m ≡ true) is_n there in absurd cc
                   | false ↦ λ other. later.above r (grind (arith, nat_tests)) there
                 ] refl;
           }
@@ -71,16 +78,19 @@ Falls most [] = Unit {0}
 Falls most (often ∷ more) = (1 ≤ often) × (often ≤ most) × Falls often more
 
 pub without-le : (rank : ℕ) (a b : ℕ → ℕ) → ((r : ℕ) → a r ≤ b r) → (r : ℕ) → without rank a r ≤ without rank b r
-without-le rank a b less r = elim (eqb r rank) as (λ t. cond t 0 (a r) ≤ cond t 0 (b r)) [ true ↦ zero-le | false ↦ less r ]
+without-le rank a b less r =
+    elim (eqb r rank) as (λ t. cond t 0 (a r) ≤ cond t 0 (b r)) [ true ↦ zero-le | false ↦ less r ]
 
 pub without-other : (rank r : ℕ) (count : ℕ → ℕ) → (r ≡ rank → ⊥) → without rank count r ≡ count r
 without-other rank r count other = let is : eqb r rank ≡ false = grind (arith, nat_tests) in rw is refl
 
 pub without-less : (rank r : ℕ) (count : ℕ → ℕ) → without rank count r ≤ count r
-without-less rank r count = elim (eqb r rank) as (λ t. cond t 0 (count r) ≤ count r) [ true ↦ zero-le | false ↦ le_refl (count r) ]
+without-less rank r count =
+    elim (eqb r rank) as (λ t. cond t 0 (count r) ≤ count r) [ true ↦ zero-le | false ↦ le_refl (count r) ]
 
 pub without-some : (rank r : ℕ) (count : ℕ → ℕ) → 1 ≤ without rank count r → r ≡ rank → ⊥
-without-some rank r count some same = let is : eqb r rank ≡ true = grind (arith, nat_tests) in let none : without rank count r ≡ 0 = rw is refl in omega arith
+without-some rank r count some same = let is : eqb r rank ≡ true = grind (arith, nat_tests) in
+    let none : without rank count r ≡ 0 = rw is refl in omega arith
 
 pub without-both : (a b : ℕ) (count : ℕ → ℕ) (r : ℕ) → without a (without b count) r ≤ without b (without a count) r
 without-both a b count r =
@@ -93,7 +103,12 @@ pub has-more : (times ranks : List ℕ) (a b : ℕ → ℕ) → ((r : ℕ) → a
 has-more [] [] a b less has = tt
 has-more [] (rank ∷ ranks) a b less has = absurd has
 has-more (often ∷ more) [] a b less has = absurd has
-has-more (often ∷ more) (rank ∷ ranks) a b less has = (has.0, le_trans has.1 (less rank), has-more more ranks (without rank a) (without rank b) (without-le rank a b less) has.2)
+has-more (often ∷ more) (rank ∷ ranks) a b less has = (
+  has.0,
+  le_trans has.1 (less rank),
+  has-more more ranks (without rank a) (without rank b)
+      (without-le rank a b less) has.2,
+)
 
 -- the first rank that is picked, and those that are picked behind it
 pub record Begins (often : ℕ) (more : List ℕ) (count : ℕ → ℕ) (picks : List ℕ) : Type 0 where
@@ -103,37 +118,55 @@ pub record Begins (often : ℕ) (more : List ℕ) (count : ℕ → ℕ) (picks :
   pub others : picked more (without rank count) ≡ Some ranks
   pub whole : picks ≡ rank ∷ ranks
 
-pub picked-begins : (often : ℕ) (more : List ℕ) (count : ℕ → ℕ) (picks : List ℕ) → picked (often ∷ more) count ≡ Some picks → Begins often more count picks
+pub picked-begins : (often : ℕ) (more : List ℕ) (count : ℕ → ℕ) (picks : List ℕ)
+    → picked (often ∷ more) count ≡ Some picks → Begins often more count picks
 unfolding picked
 picked-begins often more count picks is =
     let test : ℕ → Bool = λ r. leb often (count r) in
-    (elim (highest_below test 15) as (λ o. highest_below test 15 ≡ o → then o (λ rank. picked more (without rank count)) ≡ Some picks → Begins often more count picks) [
+    (elim (highest_below test 15) as (λ o. highest_below test 15 ≡ o
+    → then o (λ rank. picked more (without rank count)) ≡ Some picks → Begins often more count picks) [
       | None ↦ λ found all. absurd cc
       | Some rank ↦ λ found all.
-          (elim (picked more (without rank count)) as (λ o. picked more (without rank count) ≡ o → option_map (λ ranks. rank ∷ ranks) o ≡ Some picks → Begins often more count picks) [
+          (elim (picked more (without rank count)) as (λ o. picked more (without rank count) ≡ o
+          → option_map (λ ranks. rank ∷ ranks) o ≡ Some picks → Begins often more count picks) [
             | None ↦ λ behind both. absurd cc
-            | Some ranks ↦ λ behind both. record { rank = rank; ranks = ranks; first = highest-is test 15 rank found; others = behind; whole = cc }
+            | Some ranks ↦ λ behind both. record {
+              rank = rank;
+              ranks = ranks;
+              first =
+                  highest-is test 15 rank found;
+              others = behind;
+              whole = cc;
+            }
           ]) refl all
     ]) refl is
 
-pub picked-from : (often : ℕ) (more : List ℕ) (count : ℕ → ℕ) (rank : ℕ) (ranks : List ℕ) → IsHighest (λ r. leb often (count r)) 15 rank → picked more (without rank count) ≡ Some ranks → picked (often ∷ more) count ≡ Some (rank ∷ ranks)
+pub picked-from : (often : ℕ) (more : List ℕ) (count : ℕ → ℕ) (rank : ℕ) (ranks : List ℕ)
+    → IsHighest (λ r. leb often (count r)) 15 rank → picked more (without rank count) ≡ Some ranks
+    → picked (often ∷ more) count ≡ Some (rank ∷ ranks)
 unfolding picked
 picked-from often more count rank ranks first others =
     ap (λ o. then o (λ rank. picked more (without rank count))) (highest-from (λ r. leb often (count r)) 15 rank first)
     ∙ ap (option_map (λ ranks. rank ∷ ranks)) others
 
-pub picked-has : (times : List ℕ) (count : ℕ → ℕ) (picks : List ℕ) → picked times count ≡ Some picks → Has times picks count
+pub picked-has : (times : List ℕ) (count : ℕ → ℕ) (picks : List ℕ) → picked times count ≡ Some picks
+    → Has times picks count
 unfolding picked
 picked-has [] count [] is = tt
 picked-has [] count (rank ∷ ranks) is = absurd cc
 picked-has (often ∷ more) count picks is =
     let at = picked-begins often more count picks is in
     let first = at.first in
-    subst (λ all. Has (often ∷ more) all count) (sym at.whole)
-    (first.below, leb-true often (count at.rank) first.passes, picked-has more (without at.rank count) at.ranks at.others)
+    subst (λ all. Has (often ∷ more) all count) (sym at.whole) (
+      first.below,
+      leb-true often (count at.rank) first.passes,
+      picked-has more
+          (without at.rank count) at.ranks at.others,
+    )
 
 -- no ranks that occur so often come later
-pub picked-greatest : (times ranks : List ℕ) (count : ℕ → ℕ) (picks : List ℕ) → Has times ranks count → picked times count ≡ Some picks → Upto ranks picks
+pub picked-greatest : (times ranks : List ℕ) (count : ℕ → ℕ) (picks : List ℕ) → Has times ranks count
+    → picked times count ≡ Some picks → Upto ranks picks
 picked-greatest [] [] count picks has is = tt
 picked-greatest [] (rank ∷ ranks) count picks has is = absurd has
 picked-greatest (often ∷ more) [] count picks has is = absurd has
@@ -144,12 +177,18 @@ picked-greatest (often ∷ more) (rank ∷ ranks) count picks has is =
     (elim (eqb rank at.rank) as (λ b. eqb rank at.rank ≡ b → Upto (rank ∷ ranks) (at.rank ∷ at.ranks)) [
       | true ↦ λ same.
           let is_first = eqb-true rank at.rank same in
-          inr (is_first, picked-greatest more ranks (without at.rank count) at.ranks (subst (λ r. Has more ranks (without r count)) is_first has.2) at.others)
+          inr (
+            is_first,
+            picked-greatest more ranks (without at.rank count) at.ranks
+                (subst (λ r. Has more ranks (without r count)) is_first has.2) at.others,
+          )
       | false ↦ λ other. inl (grind (arith, nat_tests))
     ] refl)
 
 -- a rank that occurs often enough takes the place of another
-pub exchanged : (times ranks : List ℕ) (count : ℕ → ℕ) (most one other : ℕ) → Falls most times → most ≤ count one → one < 15 → (one ≡ other → ⊥) → Has times ranks (without one count) → (more : List ℕ) × Has times more (without other count)
+pub exchanged : (times ranks : List ℕ) (count : ℕ → ℕ) (most one other : ℕ) → Falls most times → most ≤ count one
+    → one < 15 → (one ≡ other → ⊥) → Has times ranks (without one count)
+    → (more : List ℕ) × Has times more (without other count)
 exchanged [] [] count most one other falls often within apart has = ([], tt)
 exchanged [] (rank ∷ ranks) count most one other falls often within apart has = absurd has
 exchanged (times ∷ more) [] count most one other falls often within apart has = absurd has
@@ -162,20 +201,37 @@ exchanged (times ∷ more) (rank ∷ ranks) count most one other falls often wit
           let is = eqb-true rank other same in
           let kept = without-other other one count apart in
           let fits : times ≤ most = falls.1 in
-          let rest = subst (λ r. Has more ranks (without r (without one count))) is has.2 in
-          (one ∷ ranks, (within, omega arith, has-more more ranks (without other (without one count)) (without one (without other count)) (without-both other one count) rest))
+          let rest = subst (λ r. Has more ranks (without r (without one count))) is has.2 in (
+            one ∷ ranks,
+            (
+              within,
+              omega arith,
+              has-more more ranks (without other (without one count))
+                  (without one (without other count)) (without-both other one count) rest,
+            ),
+          )
       | false ↦ λ not_same.
           let kept = without-other other rank count (grind (arith, nat_tests)) in
           let less = without-less one rank count in
-          let rest = has-more more ranks (without rank (without one count)) (without one (without rank count)) (without-both rank one count) has.2 in
+          let rest = has-more more ranks (without rank (without one count)) (without one (without rank count))
+          (without-both rank one count) has.2 in
           let stays = without-other rank one count (λ e. differ (sym e)) in
           let fits : times ≤ most = falls.1 in
-          let later = exchanged more ranks (without rank count) times one other falls.2 (omega arith) within apart rest in
-          (rank ∷ later.0, (has.0, omega arith, has-more more later.0 (without other (without rank count)) (without rank (without other count)) (without-both other rank count) later.1))
+          let later = exchanged more ranks (without rank count) times one other falls.2
+          (omega arith) within apart rest in (
+            rank ∷ later.0,
+            (
+              has.0,
+              omega arith,
+              has-more more later.0 (without other (without rank count))
+                  (without rank (without other count)) (without-both other rank count) later.1,
+            ),
+          )
     ] refl
 
 -- other ranks occur so often behind the highest one
-pub behind-highest : (often : ℕ) (more : List ℕ) (rank : ℕ) (ranks : List ℕ) (count : ℕ → ℕ) (high : ℕ) → Falls often more → Has (often ∷ more) (rank ∷ ranks) count → (all : List ℕ) × Has more all (without high count)
+pub behind-highest : (often : ℕ) (more : List ℕ) (rank : ℕ) (ranks : List ℕ) (count : ℕ → ℕ) (high : ℕ)
+    → Falls often more → Has (often ∷ more) (rank ∷ ranks) count → (all : List ℕ) × Has more all (without high count)
 behind-highest often more rank ranks count high falls has =
     elim (eqb rank high) as (λ b. eqb rank high ≡ b → (all : List ℕ) × Has more all (without high count)) [
       | true ↦ λ same. (ranks, subst (λ r. Has more ranks (without r count)) (eqb-true rank high same) has.2)
@@ -183,14 +239,17 @@ behind-highest often more rank ranks count high falls has =
     ] refl
 
 -- where some ranks occur so often, there are some to be picked
-pub picked-some : (times ranks : List ℕ) (count : ℕ → ℕ) (most : ℕ) → Falls most times → Has times ranks count → (picks : List ℕ) × (picked times count ≡ Some picks)
+pub picked-some : (times ranks : List ℕ) (count : ℕ → ℕ) (most : ℕ) → Falls most times → Has times ranks count
+    → (picks : List ℕ) × (picked times count ≡ Some picks)
 unfolding picked
 picked-some [] ranks count most falls has = ([], refl)
 picked-some (often ∷ more) [] count most falls has = absurd has
 picked-some (often ∷ more) (rank ∷ ranks) count most falls has =
     let test : ℕ → Bool = λ r. leb often (count r) in
-    elim (highest_below test 15) as (λ o. highest_below test 15 ≡ o → (picks : List ℕ) × (then o (λ rank. picked more (without rank count)) ≡ Some picks)) [
-      | None ↦ λ none. let fails = highest-none test 15 rank none has.0 in let passes = le-leb often (count rank) has.1 in absurd cc
+    elim (highest_below test 15) as (λ o. highest_below test 15 ≡ o
+    → (picks : List ℕ) × (then o (λ rank. picked more (without rank count)) ≡ Some picks)) [
+      | None ↦ λ none. let fails = highest-none test 15 rank none has.0 in let passes =
+          le-leb often (count rank) has.1 in absurd cc
       | Some high ↦ λ found.
           let all = behind-highest often more rank ranks count high falls.2 has in
           let later = picked-some more all.0 (without high count) often falls.2 all.1 in

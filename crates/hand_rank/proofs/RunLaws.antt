@@ -41,15 +41,19 @@ holds_place-more p q more place h =
           or_right (q place) (eqb place 1 && q 14) (and_both (eqb place 1) (q 14) parts.0 (more 14 parts.1))
     ]
 
-run_parts : (p : ℕ → Bool) (t : ℕ) → is_run p t ≡ true → (holds_place p t ≡ true) × (holds_place p (t - 1) ≡ true) × (holds_place p (t - 2) ≡ true) × (holds_place p (t - 3) ≡ true) × (holds_place p (t - 4) ≡ true)
+run_parts : (p : ℕ → Bool) (t : ℕ) → is_run p t ≡ true
+    → (holds_place p t ≡ true) × (holds_place p (t - 1) ≡ true) × (holds_place p (t - 2) ≡ true)
+    × (holds_place p (t - 3) ≡ true) × (holds_place p (t - 4) ≡ true)
 run_parts p t h =
-    let a = and_parts (holds_place p t && holds_place p (t - 1) && holds_place p (t - 2) && holds_place p (t - 3)) (holds_place p (t - 4)) h in
+    let a = and_parts (holds_place p t && holds_place p (t - 1) && holds_place p (t - 2) && holds_place p (t - 3))
+    (holds_place p (t - 4)) h in
     let b = and_parts (holds_place p t && holds_place p (t - 1) && holds_place p (t - 2)) (holds_place p (t - 3)) a.0 in
     let c = and_parts (holds_place p t && holds_place p (t - 1)) (holds_place p (t - 2)) b.0 in
     let d = and_parts (holds_place p t) (holds_place p (t - 1)) c.0 in
     (d.0, d.1, c.1, b.1, a.1)
 
-run_from : (p : ℕ → Bool) (t : ℕ) → holds_place p t ≡ true → holds_place p (t - 1) ≡ true → holds_place p (t - 2) ≡ true → holds_place p (t - 3) ≡ true → holds_place p (t - 4) ≡ true → is_run p t ≡ true
+run_from : (p : ℕ → Bool) (t : ℕ) → holds_place p t ≡ true → holds_place p (t - 1) ≡ true → holds_place p (t - 2) ≡ true
+    → holds_place p (t - 3) ≡ true → holds_place p (t - 4) ≡ true → is_run p t ≡ true
 run_from p t a b c d e =
     and_both _ _ (and_both _ _ (and_both _ _ (and_both _ _ a b) c) d) e
 
@@ -57,10 +61,12 @@ pub is_run-more : (p q : ℕ → Bool) (t : ℕ) → Implies p q → is_run p t 
 is_run-more p q t more is =
     let parts = run_parts p t is in
     let held = holds_place-more p q more in
-    run_from q t (held t parts.0) (held (t - 1) parts.1) (held (t - 2) parts.2) (held (t - 3) parts.3) (held (t - 4) parts.4)
+    run_from q t (held t parts.0) (held (t - 1) parts.1) (held (t - 2) parts.2) (held (t - 3) parts.3)
+    (held (t - 4) parts.4)
 
 -- there is a highest run, no lower than one that there is
-pub run-found : (p : ℕ → Bool) (t : ℕ) → 5 ≤ t → t < 15 → is_run p t ≡ true → (top : ℕ) × (highest_run p ≡ Some top) × (t ≤ top)
+pub run-found : (p : ℕ → Bool) (t : ℕ) → 5 ≤ t → t < 15 → is_run p t ≡ true
+    → (top : ℕ) × (highest_run p ≡ Some top) × (t ≤ top)
 unfolding highest_run
 run-found p t low high is =
     let test : ℕ → Bool = λ top. leb 5 top && is_run p top in
@@ -97,20 +103,25 @@ place-held : (count : ℕ → ℕ) (place : ℕ) → 2 ≤ place → holds_place
 place-held count place high h =
     elim (or_cases (occurring count place) (eqb place 1 && occurring count 14) h) [
       | inl here ↦ leb-true 1 (count place) here
-      | inr ace ↦ let one = eqb-true place 1 (and_parts (eqb place 1) (occurring count 14) ace).0 in absurd (omega arith)
+      | inr ace ↦ let one = eqb-true place 1 (and_parts (eqb place 1) (occurring count 14) ace).0 in
+          absurd (omega arith)
     ]
 
-lowest-held : (count : ℕ → ℕ) (place : ℕ) → holds_place (occurring count) place ≡ true → (1 ≤ count place) ⊎ ((place ≡ 1) × (1 ≤ count 14))
+lowest-held : (count : ℕ → ℕ) (place : ℕ) → holds_place (occurring count) place ≡ true
+    → (1 ≤ count place) ⊎ ((place ≡ 1) × (1 ≤ count 14))
 lowest-held count place h =
     elim (or_cases (occurring count place) (eqb place 1 && occurring count 14) h) [
       | inl here ↦ inl (leb-true 1 (count place) here)
-      | inr ace ↦ let parts = and_parts (eqb place 1) (occurring count 14) ace in inr (eqb-true place 1 parts.0, leb-true 1 (count 14) parts.1)
+      | inr ace ↦ let parts = and_parts (eqb place 1) (occurring count 14) ace in
+          inr (eqb-true place 1 parts.0, leb-true 1 (count 14) parts.1)
     ]
 
 -- five different ranks that occur
 five-have : (count : ℕ → ℕ) (a b c d e : ℕ) → a < 15 → b < 15 → c < 15 → d < 15 → e < 15
-    → (b ≡ a → ⊥) → (c ≡ a → ⊥) → (c ≡ b → ⊥) → (d ≡ a → ⊥) → (d ≡ b → ⊥) → (d ≡ c → ⊥) → (e ≡ a → ⊥) → (e ≡ b → ⊥) → (e ≡ c → ⊥) → (e ≡ d → ⊥)
-    → 1 ≤ count a → 1 ≤ count b → 1 ≤ count c → 1 ≤ count d → 1 ≤ count e → Has (1 ∷ 1 ∷ 1 ∷ 1 ∷ 1 ∷ []) (a ∷ b ∷ c ∷ d ∷ e ∷ []) count
+    → (b ≡ a → ⊥) → (c ≡ a → ⊥) → (c ≡ b → ⊥) → (d ≡ a → ⊥) → (d ≡ b → ⊥) → (d ≡ c → ⊥) → (e ≡ a → ⊥) → (e ≡ b → ⊥)
+    → (e ≡ c → ⊥) → (e ≡ d → ⊥)
+    → 1 ≤ count a → 1 ≤ count b → 1 ≤ count c → 1 ≤ count d → 1 ≤ count e
+    → Has (1 ∷ 1 ∷ 1 ∷ 1 ∷ 1 ∷ []) (a ∷ b ∷ c ∷ d ∷ e ∷ []) count
 five-have count a b c d e wa wb wc wd we ba ca cb da db dc ea eb ec ed oa ob oc od oe =
     let b1 = without-other a b count ba in
     let c1 = without-other a c count ca in
@@ -144,16 +155,20 @@ run-ranks count top none is =
       | inl here ↦ record {
         last = t - 4;
         which = inl refl;
-        have = five-have count t (t - 1) (t - 2) (t - 3) (t - 4) (omega arith) (omega arith) (omega arith) (omega arith) (omega arith)
-            (omega arith) (omega arith) (omega arith) (omega arith) (omega arith) (omega arith) (omega arith) (omega arith) (omega arith) (omega arith) one two three four here;
+        have = five-have count t (t - 1) (t - 2) (t - 3) (t - 4) (omega arith) (omega arith) (omega arith) (omega arith)
+            (omega arith)
+            (omega arith) (omega arith) (omega arith) (omega arith) (omega arith) (omega arith) (omega arith)
+            (omega arith) (omega arith) (omega arith) one two three four here;
       }
       | inr ace ↦
           let place = ace.0 in
           record {
             last = 14;
             which = inr (omega arith, refl);
-            have = five-have count t (t - 1) (t - 2) (t - 3) 14 (omega arith) (omega arith) (omega arith) (omega arith) (omega arith)
-                (omega arith) (omega arith) (omega arith) (omega arith) (omega arith) (omega arith) (omega arith) (omega arith) (omega arith) (omega arith) one two three four ace.1;
+            have = five-have count t (t - 1) (t - 2) (t - 3) 14 (omega arith) (omega arith) (omega arith) (omega arith)
+                (omega arith)
+                (omega arith) (omega arith) (omega arith) (omega arith) (omega arith) (omega arith) (omega arith)
+                (omega arith) (omega arith) (omega arith) one two three four ace.1;
           }
     ]
 
@@ -177,14 +192,16 @@ pub record AreFive (count : ℕ → ℕ) (ranks : List ℕ) : Type 0 where
   pub has_e : 1 ≤ count e
 
 -- what is left without the highest rank is lower
-next-lower : (count : ℕ → ℕ) (rank r : ℕ) → IsHighest (λ s. leb 1 (count s)) 15 rank → r < 15 → 1 ≤ without rank count r → (r < rank) × (1 ≤ count r)
+next-lower : (count : ℕ → ℕ) (rank r : ℕ) → IsHighest (λ s. leb 1 (count s)) 15 rank → r < 15 → 1 ≤ without rank count r
+    → (r < rank) × (1 ≤ count r)
 next-lower count rank r high within some =
     let apart = without-some rank r count some in
     let less = without-less rank r count in
     let up = high.above r within (le-leb 1 (count r) (omega arith)) in
     (omega arith, omega arith)
 
-pub picked-five : (count : ℕ → ℕ) (ranks : List ℕ) → picked (1 ∷ 1 ∷ 1 ∷ 1 ∷ 1 ∷ []) count ≡ Some ranks → AreFive count ranks
+pub picked-five : (count : ℕ → ℕ) (ranks : List ℕ) → picked (1 ∷ 1 ∷ 1 ∷ 1 ∷ 1 ∷ []) count ≡ Some ranks
+    → AreFive count ranks
 unfolding picked
 picked-five count ranks is =
     let one = picked-begins 1 (1 ∷ 1 ∷ 1 ∷ 1 ∷ []) count ranks is in
@@ -197,23 +214,30 @@ picked-five count ranks is =
     let count4 = without four.rank count3 in
     let five = picked-begins 1 [] count4 four.ranks four.others in
     let last : five.ranks ≡ [] = let none : Some [] ≡ Some five.ranks = five.others in cc in
-    let e4 = next-lower count3 four.rank five.rank four.first five.first.below (leb-true 1 (count4 five.rank) five.first.passes) in
+    let e4 = next-lower count3 four.rank five.rank four.first five.first.below
+    (leb-true 1 (count4 five.rank) five.first.passes) in
     let e3 = next-lower count2 three.rank five.rank three.first five.first.below e4.1 in
     let e2 = next-lower count1 two.rank five.rank two.first five.first.below e3.1 in
     let e1 = next-lower count one.rank five.rank one.first five.first.below e2.1 in
-    let d3 = next-lower count2 three.rank four.rank three.first four.first.below (leb-true 1 (count3 four.rank) four.first.passes) in
+    let d3 = next-lower count2 three.rank four.rank three.first four.first.below
+    (leb-true 1 (count3 four.rank) four.first.passes) in
     let d2 = next-lower count1 two.rank four.rank two.first four.first.below d3.1 in
     let d1 = next-lower count one.rank four.rank one.first four.first.below d2.1 in
-    let c2 = next-lower count1 two.rank three.rank two.first three.first.below (leb-true 1 (count2 three.rank) three.first.passes) in
+    let c2 = next-lower count1 two.rank three.rank two.first three.first.below
+    (leb-true 1 (count2 three.rank) three.first.passes) in
     let c1 = next-lower count one.rank three.rank one.first three.first.below c2.1 in
-    let b1 = next-lower count one.rank two.rank one.first two.first.below (leb-true 1 (count1 two.rank) two.first.passes) in
+    let b1 = next-lower count one.rank two.rank one.first two.first.below
+    (leb-true 1 (count1 two.rank) two.first.passes) in
     record {
       a = one.rank;
       b = two.rank;
       c = three.rank;
       d = four.rank;
       e = five.rank;
-      are = one.whole ∙ ap (λ rs. one.rank ∷ rs) (two.whole ∙ ap (λ rs. two.rank ∷ rs) (three.whole ∙ ap (λ rs. three.rank ∷ rs) (four.whole ∙ ap (λ rs. four.rank ∷ rs) (five.whole ∙ ap (λ rs. five.rank ∷ rs) last))));
+      are = one.whole ∙ ap (λ rs. one.rank ∷ rs) (two.whole
+          ∙ ap (λ rs. two.rank ∷ rs) (three.whole
+          ∙ ap (λ rs. three.rank ∷ rs) (four.whole
+          ∙ ap (λ rs. four.rank ∷ rs) (five.whole ∙ ap (λ rs. five.rank ∷ rs) last))));
       top = one.first.below;
       ab = b1.0;
       bc = c2.0;
@@ -232,7 +256,14 @@ is_wheel a b c d e = pointwise eqb (a ∷ b ∷ c ∷ d ∷ e ∷ []) (14 ∷ 5 
 
 wheel-is : (a b c d e : ℕ) → is_wheel a b c d e ≡ true → (a ≡ 14) × (b ≡ 5) × (c ≡ 4) × (d ≡ 3) × (e ≡ 2)
 unfolding is_wheel
-wheel-is a b c d e is = (grind (arith, nat_tests), grind (arith, nat_tests), grind (arith, nat_tests), grind (arith, nat_tests), grind (arith, nat_tests))
+wheel-is a b c d e is = (
+  grind (arith, nat_tests),
+  grind (arith, nat_tests),
+  grind (arith, nat_tests),
+  grind (arith, nat_tests),
+  grind
+      (arith, nat_tests),
+)
 
 wheel-of : (a b c d e : ℕ) → a ≡ 14 → b ≡ 5 → c ≡ 4 → d ≡ 3 → e ≡ 2 → is_wheel a b c d e ≡ true
 unfolding is_wheel
@@ -240,7 +271,8 @@ wheel-of a b c d e p q r s t = rw (p, q, r, s, t) refl
 
 held : (count : ℕ → ℕ) (r place : ℕ) → r ≡ place → 1 ≤ count r → holds_place (occurring count) place ≡ true
 held count r place is some =
-    or_left (occurring count place) (eqb place 1 && occurring count 14) (subst (λ p. leb 1 (count p) ≡ true) is (le-leb 1 (count r) some))
+    or_left (occurring count place) (eqb place 1 && occurring count 14)
+    (subst (λ p. leb 1 (count p) ≡ true) is (le-leb 1 (count r) some))
 
 -- the top of five ranks that run is that of a run
 pub five-run : (count : ℕ → ℕ) (a b c d e top : ℕ) → a < 15 → b < a → c < b → d < c → e < d → 2 ≤ e
@@ -248,28 +280,49 @@ pub five-run : (count : ℕ → ℕ) (a b c d e top : ℕ) → a < 15 → b < a 
     → run_top (a ∷ b ∷ c ∷ d ∷ e ∷ []) ≡ Some top → IsRunTo (occurring count) top
 unfolding is_wheel
 five-run count a b c d e top high ab bc cd de low oa ob oc od oe is =
-    (elim (is_wheel a b c d e) as (λ w. is_wheel a b c d e ≡ w → cond w (Some 5) (cond (eqb (a - e) 4) (Some a) None) ≡ Some top → IsRunTo (occurring count) top) [
+    (elim (is_wheel a b c d e) as (λ w. is_wheel a b c d e ≡ w
+    → cond w (Some 5) (cond (eqb (a - e) 4) (Some a) None) ≡ Some top → IsRunTo (occurring count) top) [
       | true ↦ λ wheel found.
           let five : 5 ≡ top = cc in
           let parts = wheel-is a b c d e wheel in
           let ace : holds_place (occurring count) 1 ≡ true =
-          or_right (occurring count 1) (eqb 1 1 && occurring count 14) (subst (λ r. leb 1 (count r) ≡ true) parts.0 (le-leb 1 (count a) oa)) in
+          or_right (occurring count 1) (eqb 1 1 && occurring count 14)
+          (subst (λ r. leb 1 (count r) ≡ true) parts.0 (le-leb 1 (count a) oa)) in
           subst (λ t. IsRunTo (occurring count) t) five
-          (record { low = omega arith; high = omega arith; runs = run_from (occurring count) 5 (held count b 5 parts.1 ob) (held count c 4 parts.2 oc) (held count d 3 parts.3 od) (held count e 2 parts.4 oe) ace })
+          (record {
+            low = omega arith;
+            high = omega arith;
+            runs =
+                run_from (occurring count) 5 (held count b 5 parts.1 ob) (held count c 4 parts.2 oc)
+                (held count d 3 parts.3 od) (held count e 2 parts.4 oe) ace;
+          })
       | false ↦ λ not_wheel found.
-          (elim (eqb (a - e) 4) as (λ w. eqb (a - e) 4 ≡ w → cond w (Some a) None ≡ Some top → IsRunTo (occurring count) top) [
+          (elim (eqb (a - e) 4) as (λ w. eqb (a - e) 4 ≡ w → cond w (Some a) None ≡ Some top
+          → IsRunTo (occurring count) top) [
             | true ↦ λ apart same.
                 let is_top : a ≡ top = cc in
                 let four = eqb-true (a - e) 4 apart in
                 subst (λ t. IsRunTo (occurring count) t) is_top
-                (record { low = omega arith; high = high; runs = run_from (occurring count) a (held count a a refl oa) (held count b (a - 1) (omega arith) ob) (held count c (a - 2) (omega arith) oc) (held count d (a - 3) (omega arith) od) (held count e (a - 4) (omega arith) oe) })
+                (record {
+                  low = omega arith;
+                  high = high;
+                  runs =
+                      run_from (occurring count) a (held count a a refl oa) (held count b (a - 1) (omega arith) ob)
+                      (held count c (a - 2) (omega arith) oc) (held count d (a - 3) (omega arith) od)
+                      (held count e (a - 4) (omega arith) oe);
+                })
             | false ↦ λ apart none. absurd cc
           ]) refl found
     ]) refl is
 
 -- five ranks among those of a run have no lower top
-pub run-five : (a b c d e top last : ℕ) → 5 ≤ top → b < a → c < b → d < c → e < d → 2 ≤ e → (last ≡ top - 4) ⊎ ((top ≡ 5) × (last ≡ 14))
-    → Among a (top ∷ (top - 1) ∷ (top - 2) ∷ (top - 3) ∷ last ∷ []) → Among b (top ∷ (top - 1) ∷ (top - 2) ∷ (top - 3) ∷ last ∷ []) → Among c (top ∷ (top - 1) ∷ (top - 2) ∷ (top - 3) ∷ last ∷ []) → Among d (top ∷ (top - 1) ∷ (top - 2) ∷ (top - 3) ∷ last ∷ []) → Among e (top ∷ (top - 1) ∷ (top - 2) ∷ (top - 3) ∷ last ∷ [])
+pub run-five : (a b c d e top last : ℕ) → 5 ≤ top → b < a → c < b → d < c → e < d → 2 ≤ e
+    → (last ≡ top - 4) ⊎ ((top ≡ 5) × (last ≡ 14))
+    → Among a (top ∷ (top - 1) ∷ (top - 2) ∷ (top - 3) ∷ last ∷ [])
+    → Among b (top ∷ (top - 1) ∷ (top - 2) ∷ (top - 3) ∷ last ∷ [])
+    → Among c (top ∷ (top - 1) ∷ (top - 2) ∷ (top - 3) ∷ last ∷ [])
+    → Among d (top ∷ (top - 1) ∷ (top - 2) ∷ (top - 3) ∷ last ∷ [])
+    → Among e (top ∷ (top - 1) ∷ (top - 2) ∷ (top - 3) ∷ last ∷ [])
     → run_top (a ∷ b ∷ c ∷ d ∷ e ∷ []) ≡ Some top
 unfolding is_wheel
 run-five a b c d e top last high ab bc cd de low (inl is) in_a in_b in_c in_d in_e =
@@ -277,7 +330,8 @@ run-five a b c d e top last high ab bc cd de low (inl is) in_a in_b in_c in_d in
     let lower = above e top last is in_e in
     let first : a ≡ top = omega arith in
     let far : eqb (a - e) 4 ≡ true = eq-eqb (a - e) 4 (omega arith) in
-    elim (is_wheel a b c d e) as (λ w. is_wheel a b c d e ≡ w → cond w (Some 5) (cond (eqb (a - e) 4) (Some a) None) ≡ Some top) [
+    elim (is_wheel a b c d e) as (λ w. is_wheel a b c d e ≡ w
+    → cond w (Some 5) (cond (eqb (a - e) 4) (Some a) None) ≡ Some top) [
       | true ↦ λ wheel. let parts = wheel-is a b c d e wheel in absurd (omega arith)
       | false ↦ λ not_wheel. ap (λ w. cond w (Some a) None) far ∙ ap (λ t. Some t) first
     ] refl
@@ -285,7 +339,8 @@ run-five a b c d e top last high ab bc cd de low (inl is) in_a in_b in_c in_d in
     within : (r top last : ℕ) → last ≡ top - 4 → Among r (top ∷ (top - 1) ∷ (top - 2) ∷ (top - 3) ∷ last ∷ []) → r ≤ top
     within r top last is among = grind arith
 
-    above : (r top last : ℕ) → last ≡ top - 4 → Among r (top ∷ (top - 1) ∷ (top - 2) ∷ (top - 3) ∷ last ∷ []) → top - 4 ≤ r
+    above : (r top last : ℕ) → last ≡ top - 4 → Among r (top ∷ (top - 1) ∷ (top - 2) ∷ (top - 3) ∷ last ∷ [])
+        → top - 4 ≤ r
     above r top last is among = grind arith
 run-five a b c d e top last high ab bc cd de low (inr is) in_a in_b in_c in_d in_e =
     let five = is.0 in
@@ -298,5 +353,6 @@ run-five a b c d e top last high ab bc cd de low (inr is) in_a in_b in_c in_d in
     let wheel = wheel-of a b c d e (grind arith) (grind arith) (grind arith) (grind arith) (grind arith) in
     ap (λ w. cond w (Some 5) (cond (eqb (a - e) 4) (Some a) None)) wheel ∙ ap (λ t. Some t) (sym five)
   where
-    either : (r top last : ℕ) → top ≡ 5 → last ≡ 14 → Among r (top ∷ (top - 1) ∷ (top - 2) ∷ (top - 3) ∷ last ∷ []) → (r ≤ 5) ⊎ (r ≡ 14)
+    either : (r top last : ℕ) → top ≡ 5 → last ≡ 14 → Among r (top ∷ (top - 1) ∷ (top - 2) ∷ (top - 3) ∷ last ∷ [])
+        → (r ≤ 5) ⊎ (r ≡ 14)
     either r top last five ace among = grind arith

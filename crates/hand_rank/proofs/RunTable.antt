@@ -51,7 +51,8 @@ runs_of m = bit_and (bit_and (bit_and (bit_and m (m / 2)) (m / 4)) (m / 8)) (m /
 -- the top of the highest run as it is computed
 unfoldable run_by_bits : ℕ → Option ℕ
 unfolding places_of runs_of
-run_by_bits bits = let runs = runs_of (places_of bits) in cond (eqb runs 0) None (Some (19 - count_leading_zeros 16 runs))
+run_by_bits bits = let runs = runs_of (places_of bits) in
+    cond (eqb runs 0) None (Some (19 - count_leading_zeros 16 runs))
 
 run_test : ℕ → Bool
 unfolding run_by_bits same_top
@@ -67,7 +68,8 @@ run_by_bits-is bits k same below =
     rw same (same_top-is _ _ (holds_below run_test 8192 k all_runs below))
 
 -- a set with no rank below 2 and none from 15 on
-bits_of_ranks : (bits : ℕ) → bits < 2 ^ 16 → has_rank bits 0 ≡ false → has_rank bits 1 ≡ false → has_rank bits 15 ≡ false → (k : ℕ) × (k < 8192) × (bits ≡ 4 * k)
+bits_of_ranks : (bits : ℕ) → bits < 2 ^ 16 → has_rank bits 0 ≡ false → has_rank bits 1 ≡ false
+    → has_rank bits 15 ≡ false → (k : ℕ) × (k < 8192) × (bits ≡ 4 * k)
 bits_of_ranks bits fits none one high =
     let a : bits / 2 ^ 0 % 2 ≡ 0 = odd_no (bits / 2 ^ 0) none in
     let b : bits / 2 ^ 1 % 2 ≡ 0 = odd_no (bits / 2 ^ 1) one in
@@ -80,7 +82,8 @@ bits_of_ranks bits fits none one high =
 rank-free : (bits r : ℕ) (count : ℕ → ℕ) → r < 16 → HasRanks bits 1 count → (15 ≤ r) ⊎ (r < 2) → has_rank bits r ≡ false
 rank-free bits r count within has out = has.at r within ∙ ap (leb 1) (has.only r out)
 
-held_ranks : (bits : ℕ) (count : ℕ → ℕ) → bits < 2 ^ 16 → HasRanks bits 1 count → (r : ℕ) → has_rank bits r ≡ leb 1 (count r)
+held_ranks : (bits : ℕ) (count : ℕ → ℕ) → bits < 2 ^ 16 → HasRanks bits 1 count → (r : ℕ)
+    → has_rank bits r ≡ leb 1 (count r)
 held_ranks bits count fits has r =
     elim (leb 16 r) as (λ b. leb 16 r ≡ b → has_rank bits r ≡ leb 1 (count r)) [
       | true ↦ λ high.
@@ -89,25 +92,32 @@ held_ranks bits count fits has r =
       | false ↦ λ low. has.at r (grind (arith, nat_tests))
     ] refl
 
-run-of_bits : (bits : ℕ) (count : ℕ → ℕ) → bits < 2 ^ 16 → HasRanks bits 1 count → run_by_bits bits ≡ highest_run (occurring count)
+run-of_bits : (bits : ℕ) (count : ℕ → ℕ) → bits < 2 ^ 16 → HasRanks bits 1 count
+    → run_by_bits bits ≡ highest_run (occurring count)
 run-of_bits bits count fits has =
-    let four = bits_of_ranks bits fits (rank-free bits 0 count (omega arith) has (inr (omega arith))) (rank-free bits 1 count (omega arith) has (inr (omega arith))) (rank-free bits 15 count (omega arith) has (inl (omega arith))) in
-    run_by_bits-is bits four.0 four.2 four.1 ∙ run-same (has_rank bits) (occurring count) (held_ranks bits count fits has)
+    let four = bits_of_ranks bits fits (rank-free bits 0 count (omega arith) has (inr (omega arith)))
+    (rank-free bits 1 count (omega arith) has (inr (omega arith)))
+    (rank-free bits 15 count (omega arith) has (inl (omega arith))) in
+    run_by_bits-is bits four.0 four.2 four.1
+    ∙ run-same (has_rank bits) (occurring count) (held_ranks bits count fits has)
 
 -- where no places run, there is no run
-pub run-none : (bits : ℕ) (count : ℕ → ℕ) → bits < 2 ^ 16 → HasRanks bits 1 count → runs_of (places_of bits) ≡ 0 → None ≡ highest_run (occurring count)
+pub run-none : (bits : ℕ) (count : ℕ → ℕ) → bits < 2 ^ 16 → HasRanks bits 1 count → runs_of (places_of bits) ≡ 0
+    → None ≡ highest_run (occurring count)
 unfolding run_by_bits
 run-none bits count fits has none = rw none at (run-of_bits bits count fits has)
 
 -- and else the highest place that does is its top
-pub run-some : (bits : ℕ) (count : ℕ → ℕ) → bits < 2 ^ 16 → HasRanks bits 1 count → (runs_of (places_of bits) ≡ 0 → ⊥) → Some (19 - count_leading_zeros 16 (runs_of (places_of bits))) ≡ highest_run (occurring count)
+pub run-some : (bits : ℕ) (count : ℕ → ℕ) → bits < 2 ^ 16 → HasRanks bits 1 count → (runs_of (places_of bits) ≡ 0 → ⊥)
+    → Some (19 - count_leading_zeros 16 (runs_of (places_of bits))) ≡ highest_run (occurring count)
 unfolding run_by_bits
 run-some bits count fits has some =
     let other : eqb (runs_of (places_of bits)) 0 ≡ false = grind (arith, nat_tests) in
     rw other at (run-of_bits bits count fits has)
 
 -- the top of a run is a rank
-pub run-within : (bits : ℕ) → bits < 2 ^ 16 → (runs_of (places_of bits) ≡ 0 → ⊥) → 19 - count_leading_zeros 16 (runs_of (places_of bits)) < 16
+pub run-within : (bits : ℕ) → bits < 2 ^ 16 → (runs_of (places_of bits) ≡ 0 → ⊥)
+    → 19 - count_leading_zeros 16 (runs_of (places_of bits)) < 16
 unfolding runs_of places_of
 run-within bits fits some =
     let places = places_of bits in

@@ -70,15 +70,28 @@ unfolding falling
 sets-before zero a b less = absurd (grind arith)
 sets-before (suc n) a b less =
     let low_b : b % 2 ^ n < 2 ^ n = mod-lt b (pow_pos n) in
-    elim (has_rank a n) as (λ x. has_rank a n ≡ x → Before (cond x (n ∷ falling (has_rank a) n) (falling (has_rank a) n)) (cond (has_rank b n) (n ∷ falling (has_rank b) n) (falling (has_rank b) n))) [
-      | true ↦ λ in_a. elim (has_rank b n) as (λ y. has_rank b n ≡ y → Before (n ∷ falling (has_rank a) n) (cond y (n ∷ falling (has_rank b) n) (falling (has_rank b) n))) [
-        | true ↦ λ in_b. inr (refl, sets-before n a b (rest_of 1 (2 ^ n) (a % 2 ^ n) (b % 2 ^ n) (a % 2 ^ suc n) (b % 2 ^ suc n) (with_bit n a in_a) (with_bit n b in_b) less))
-        | false ↦ λ in_b. absurd (none_of (2 ^ n) (a % 2 ^ n) (b % 2 ^ n) (a % 2 ^ suc n) (b % 2 ^ suc n) (with_bit n a in_a) (without_bit n b in_b) low_b less)
-      ] refl
-      | false ↦ λ in_a. elim (has_rank b n) as (λ y. has_rank b n ≡ y → Before (falling (has_rank a) n) (cond y (n ∷ falling (has_rank b) n) (falling (has_rank b) n))) [
-        | true ↦ λ in_b. falling-before (has_rank a) n n (falling (has_rank b) n) (omega arith)
-        | false ↦ λ in_b. sets-before n a b (rest_of 0 (2 ^ n) (a % 2 ^ n) (b % 2 ^ n) (a % 2 ^ suc n) (b % 2 ^ suc n) (without_bit n a in_a) (without_bit n b in_b) less)
-      ] refl
+    elim (has_rank a n) as (λ x. has_rank a n ≡ x
+    → Before (cond x (n ∷ falling (has_rank a) n) (falling (has_rank a) n))
+    (cond (has_rank b n) (n ∷ falling (has_rank b) n) (falling (has_rank b) n))) [
+      | true ↦ λ in_a. elim (has_rank b n) as (λ y. has_rank b n ≡ y
+          → Before (n ∷ falling (has_rank a) n) (cond y (n ∷ falling (has_rank b) n) (falling (has_rank b) n))) [
+            | true ↦ λ in_b. inr (
+              refl,
+              sets-before n a b
+                  (rest_of 1 (2 ^ n) (a % 2 ^ n) (b % 2 ^ n) (a % 2 ^ suc n) (b % 2 ^ suc n) (with_bit n a in_a)
+                  (with_bit n b in_b) less),
+            )
+            | false ↦ λ in_b. absurd
+                (none_of (2 ^ n) (a % 2 ^ n) (b % 2 ^ n) (a % 2 ^ suc n) (b % 2 ^ suc n) (with_bit n a in_a)
+                (without_bit n b in_b) low_b less)
+          ] refl
+      | false ↦ λ in_a. elim (has_rank b n) as (λ y. has_rank b n ≡ y
+          → Before (falling (has_rank a) n) (cond y (n ∷ falling (has_rank b) n) (falling (has_rank b) n))) [
+            | true ↦ λ in_b. falling-before (has_rank a) n n (falling (has_rank b) n) (omega arith)
+            | false ↦ λ in_b. sets-before n a b
+                (rest_of 0 (2 ^ n) (a % 2 ^ n) (b % 2 ^ n) (a % 2 ^ suc n) (b % 2 ^ suc n) (without_bit n a in_a)
+                (without_bit n b in_b) less)
+          ] refl
     ] refl
   where
     rest_of : (k p x y u v : ℕ) → u ≡ k * p + x → v ≡ k * p + y → u < v → x < y
@@ -92,7 +105,9 @@ numbers-before : (a b : ℕ) → a < 2 ^ 16 → b < 2 ^ 16 → a < b → Before 
 numbers-before a b fits_a fits_b less = sets-before 16 a b (omega arith)
 
 -- of categories alike, as many ranks occur most often
-sizes-alike : (one other : Shown) → IsSized one → IsSized other → category_number one.category ≡ category_number other.category → length (ranks_of one.most.bits) ≡ length (ranks_of other.most.bits)
+sizes-alike : (one other : Shown) → IsSized one → IsSized other
+    → category_number one.category ≡ category_number other.category
+    → length (ranks_of one.most.bits) ≡ length (ranks_of other.most.bits)
 sizes-alike one other is also same = is.most ∙ ap most_of same ∙ sym also.most
 
 -- the bits of what is shown
@@ -104,60 +119,84 @@ not_less-same : (x y : ℕ) → eqb x y ≡ false → ltb x y ≡ false → y < 
 not_less-same x y apart not_less = grind (arith, nat_tests)
 
 -- values compare as sets of ranks do
-pub less-upto : (one other : Shown) → Fits one → Fits other → IsSized one → IsSized other → is_less one other ≡ true → Upto (shown_value one) (shown_value other)
+pub less-upto : (one other : Shown) → Fits one → Fits other → IsSized one → IsSized other → is_less one other ≡ true
+    → Upto (shown_value one) (shown_value other)
 less-upto one other fits fits_other is also less =
     let m = category_number one.category in
     let n = category_number other.category in
-    (elim (eqb m n) as (λ b. eqb m n ≡ b → cond b (cond (eqb one.most.bits other.most.bits) (ltb one.others.bits other.others.bits) (ltb one.most.bits other.most.bits)) (ltb m n) ≡ true → Upto (shown_value one) (shown_value other)) [
+    (elim (eqb m n) as (λ b. eqb m n ≡ b
+    → cond b (cond (eqb one.most.bits other.most.bits) (ltb one.others.bits other.others.bits)
+    (ltb one.most.bits other.most.bits)) (ltb m n) ≡ true → Upto (shown_value one) (shown_value other)) [
       | false ↦ λ apart lower. inl (grind (arith, nat_tests))
       | true ↦ λ same lower.
           let alike : m ≡ n = grind (arith, nat_tests) in
           inr (
             alike,
-            (elim (eqb one.most.bits other.most.bits) as (λ b. eqb one.most.bits other.most.bits ≡ b → cond b (ltb one.others.bits other.others.bits) (ltb one.most.bits other.most.bits) ≡ true → Upto (ranks_of one.most.bits ++ ranks_of one.others.bits) (ranks_of other.most.bits ++ ranks_of other.others.bits)) [
-              | true ↦ λ same_most lower_others.
-                  let equal : one.most.bits ≡ other.most.bits = grind (arith, nat_tests) in
-                  subst (λ x. Upto (ranks_of one.most.bits ++ ranks_of one.others.bits) (ranks_of x ++ ranks_of other.others.bits)) equal
-                  (upto-behind (ranks_of one.most.bits) (ranks_of one.others.bits) (ranks_of other.others.bits)
-                  (before-upto (ranks_of one.others.bits) (ranks_of other.others.bits) (numbers-before one.others.bits other.others.bits fits.others fits_other.others (grind (arith, nat_tests)))))
-              | false ↦ λ apart_most lower_most.
-                  before-joined (ranks_of one.most.bits) (ranks_of other.most.bits) (ranks_of one.others.bits) (ranks_of other.others.bits) (sizes-alike one other is also alike)
-                  (numbers-before one.most.bits other.most.bits fits.most fits_other.most (grind (arith, nat_tests)))
-            ]) refl lower,
+            (elim (eqb one.most.bits other.most.bits) as (λ b. eqb one.most.bits other.most.bits ≡ b
+                → cond b (ltb one.others.bits other.others.bits) (ltb one.most.bits other.most.bits) ≡ true
+                → Upto (ranks_of one.most.bits ++ ranks_of one.others.bits)
+                (ranks_of other.most.bits ++ ranks_of other.others.bits)) [
+                  | true ↦ λ same_most lower_others.
+                      let equal : one.most.bits ≡ other.most.bits = grind (arith, nat_tests) in
+                      subst (λ x. Upto (ranks_of one.most.bits ++ ranks_of one.others.bits)
+                      (ranks_of x ++ ranks_of other.others.bits)) equal
+                      (upto-behind (ranks_of one.most.bits) (ranks_of one.others.bits) (ranks_of other.others.bits)
+                      (before-upto (ranks_of one.others.bits) (ranks_of other.others.bits)
+                      (numbers-before one.others.bits other.others.bits fits.others fits_other.others
+                      (grind (arith, nat_tests)))))
+                  | false ↦ λ apart_most lower_most.
+                      before-joined (ranks_of one.most.bits) (ranks_of other.most.bits) (ranks_of one.others.bits)
+                      (ranks_of other.others.bits) (sizes-alike one other is also alike)
+                      (numbers-before one.most.bits other.most.bits fits.most fits_other.most
+                      (grind (arith, nat_tests)))
+                ]) refl lower,
           )
     ]) refl less
 
-pub not_less-back : (one other : Shown) → Fits one → Fits other → IsSized one → IsSized other → is_less one other ≡ false → Upto (shown_value other) (shown_value one)
+pub not_less-back : (one other : Shown) → Fits one → Fits other → IsSized one → IsSized other
+    → is_less one other ≡ false → Upto (shown_value other) (shown_value one)
 not_less-back one other fits fits_other is also fails =
     let m = category_number one.category in
     let n = category_number other.category in
-    (elim (eqb m n) as (λ b. eqb m n ≡ b → cond b (cond (eqb one.most.bits other.most.bits) (ltb one.others.bits other.others.bits) (ltb one.most.bits other.most.bits)) (ltb m n) ≡ false → Upto (shown_value other) (shown_value one)) [
+    (elim (eqb m n) as (λ b. eqb m n ≡ b
+    → cond b (cond (eqb one.most.bits other.most.bits) (ltb one.others.bits other.others.bits)
+    (ltb one.most.bits other.most.bits)) (ltb m n) ≡ false → Upto (shown_value other) (shown_value one)) [
       | false ↦ λ apart lower. inl (not_less-same m n apart lower)
       | true ↦ λ same lower.
           let alike : n ≡ m = grind (arith, nat_tests) in
           inr (
             alike,
-            (elim (eqb one.most.bits other.most.bits) as (λ b. eqb one.most.bits other.most.bits ≡ b → cond b (ltb one.others.bits other.others.bits) (ltb one.most.bits other.most.bits) ≡ false → Upto (ranks_of other.most.bits ++ ranks_of other.others.bits) (ranks_of one.most.bits ++ ranks_of one.others.bits)) [
-              | true ↦ λ same_most lower_others.
-                  let equal : other.most.bits ≡ one.most.bits = grind (arith, nat_tests) in
-                  subst (λ x. Upto (ranks_of other.most.bits ++ ranks_of other.others.bits) (ranks_of x ++ ranks_of one.others.bits)) equal
-                  (upto-behind (ranks_of other.most.bits) (ranks_of other.others.bits) (ranks_of one.others.bits) (no-later other.others.bits one.others.bits fits_other.others fits.others lower_others))
-              | false ↦ λ apart_most lower_most.
-                  before-joined (ranks_of other.most.bits) (ranks_of one.most.bits) (ranks_of other.others.bits) (ranks_of one.others.bits) (sizes-alike other one also is alike)
-                  (numbers-before other.most.bits one.most.bits fits_other.most fits.most (not_less-same one.most.bits other.most.bits apart_most lower_most))
-            ]) refl lower,
+            (elim (eqb one.most.bits other.most.bits) as (λ b. eqb one.most.bits other.most.bits ≡ b
+                → cond b (ltb one.others.bits other.others.bits) (ltb one.most.bits other.most.bits) ≡ false
+                → Upto (ranks_of other.most.bits ++ ranks_of other.others.bits)
+                (ranks_of one.most.bits ++ ranks_of one.others.bits)) [
+                  | true ↦ λ same_most lower_others.
+                      let equal : other.most.bits ≡ one.most.bits = grind (arith, nat_tests) in
+                      subst (λ x. Upto (ranks_of other.most.bits ++ ranks_of other.others.bits)
+                      (ranks_of x ++ ranks_of one.others.bits)) equal
+                      (upto-behind (ranks_of other.most.bits) (ranks_of other.others.bits) (ranks_of one.others.bits)
+                      (no-later other.others.bits one.others.bits fits_other.others fits.others lower_others))
+                  | false ↦ λ apart_most lower_most.
+                      before-joined (ranks_of other.most.bits) (ranks_of one.most.bits) (ranks_of other.others.bits)
+                      (ranks_of one.others.bits) (sizes-alike other one also is alike)
+                      (numbers-before other.most.bits one.most.bits fits_other.most fits.most
+                      (not_less-same one.most.bits other.most.bits apart_most lower_most))
+                ]) refl lower,
           )
     ]) refl fails
   where
     no-later : (a b : ℕ) → a < 2 ^ 16 → b < 2 ^ 16 → ltb b a ≡ false → Upto (ranks_of a) (ranks_of b)
     no-later a b fits_a fits_b not_less =
         elim (eqb a b) as (λ t. eqb a b ≡ t → Upto (ranks_of a) (ranks_of b)) [
-          | true ↦ λ same. let equal : a ≡ b = grind (arith, nat_tests) in subst (λ x. Upto (ranks_of a) (ranks_of x)) equal (upto_itself (ranks_of a))
-          | false ↦ λ apart. before-upto (ranks_of a) (ranks_of b) (numbers-before a b fits_a fits_b (grind (arith, nat_tests)))
+          | true ↦ λ same. let equal : a ≡ b = grind (arith, nat_tests) in
+              subst (λ x. Upto (ranks_of a) (ranks_of x)) equal (upto_itself (ranks_of a))
+          | false ↦ λ apart. before-upto (ranks_of a) (ranks_of b)
+              (numbers-before a b fits_a fits_b (grind (arith, nat_tests)))
         ] refl
 
 -- the ranks of a set that another has not
-pub has_rank_minus : (a b r : ℕ) → b < 2 ^ 16 → r < 16 → has_rank (bit_and a (bit_not w16 b)) r ≡ (has_rank a r && not (has_rank b r))
+pub has_rank_minus : (a b r : ℕ) → b < 2 ^ 16 → r < 16
+    → has_rank (bit_and a (bit_not w16 b)) r ≡ (has_rank a r && not (has_rank b r))
 has_rank_minus a b r fits within =
     let at = bit_at_and a (bit_not w16 b) r in
     let no_more = bit_at_not w16 b r fits within in
@@ -174,7 +213,8 @@ pub ranks-some : (bits : ℕ) → (bits ≡ 0 → ⊥) → bits < 2 ^ 16 → 1 �
 ranks-some bits some fits =
     let top = highest_top bits some fits in
     (elim (ranks_of bits) as (λ ranks. ranks_of bits ≡ ranks → 1 ≤ length ranks) [
-      | [] ↦ λ none. let bad : true ≡ false = sym top.0 ∙ falling-none (has_rank bits) 16 (15 - count_leading_zeros 16 bits) none (omega arith) in absurd cc
+      | [] ↦ λ none. let bad : true ≡ false = sym top.0
+          ∙ falling-none (has_rank bits) 16 (15 - count_leading_zeros 16 bits) none (omega arith) in absurd cc
       | rank ∷ ranks ↦ λ are. omega arith
     ]) refl
 
@@ -204,7 +244,8 @@ passed : (test : ℕ → Bool) (n : ℕ) → test n ≡ false → falling test (
 unfolding falling
 passed test n is = rw is refl
 
-pub rank-written : (test : ℕ → Bool) (numbers all : List ℕ) (i : ℕ) → i < 16 → test (15 - i) ≡ true → numbers ++ falling test (16 - i) ≡ all → (numbers ++ (15 - i) ∷ []) ++ falling test (16 - (i + 1)) ≡ all
+pub rank-written : (test : ℕ → Bool) (numbers all : List ℕ) (i : ℕ) → i < 16 → test (15 - i) ≡ true
+    → numbers ++ falling test (16 - i) ≡ all → (numbers ++ (15 - i) ∷ []) ++ falling test (16 - (i + 1)) ≡ all
 rank-written test numbers all i within is so_far =
     let step = next_rank i within in
     ap (λ n. (numbers ++ (15 - i) ∷ []) ++ falling test n) step.1
@@ -212,21 +253,24 @@ rank-written test numbers all i within is so_far =
     ∙ ap (λ rs. numbers ++ rs) (sym (taken test (15 - i) is) ∙ ap (falling test) (sym step.0))
     ∙ so_far
 
-pub rank-passed : (test : ℕ → Bool) (numbers all : List ℕ) (i : ℕ) → i < 16 → test (15 - i) ≡ false → numbers ++ falling test (16 - i) ≡ all → numbers ++ falling test (16 - (i + 1)) ≡ all
+pub rank-passed : (test : ℕ → Bool) (numbers all : List ℕ) (i : ℕ) → i < 16 → test (15 - i) ≡ false
+    → numbers ++ falling test (16 - i) ≡ all → numbers ++ falling test (16 - (i + 1)) ≡ all
 rank-passed test numbers all i within is so_far =
     let step = next_rank i within in
     ap (λ n. numbers ++ falling test n) step.1
     ∙ ap (λ rs. numbers ++ rs) (sym (passed test (15 - i) is) ∙ ap (falling test) (sym step.0))
     ∙ so_far
 
-pub rank-room : (test : ℕ → Bool) (numbers all : List ℕ) (i : ℕ) → i < 16 → test (15 - i) ≡ true → numbers ++ falling test (16 - i) ≡ all → length numbers < length all
+pub rank-room : (test : ℕ → Bool) (numbers all : List ℕ) (i : ℕ) → i < 16 → test (15 - i) ≡ true
+    → numbers ++ falling test (16 - i) ≡ all → length numbers < length all
 rank-room test numbers all i within is so_far =
     let after = ap length (rank-written test numbers all i within is so_far) in
     let one = length-append (numbers ++ (15 - i) ∷ []) (falling test (16 - (i + 1))) in
     let two = length-append numbers ((15 - i) ∷ []) in
     omega arith
 
-pub ranks-written : (test : ℕ → Bool) (numbers all : List ℕ) (i : ℕ) → 16 ≤ i → numbers ++ falling test (16 - i) ≡ all → numbers ≡ all
+pub ranks-written : (test : ℕ → Bool) (numbers all : List ℕ) (i : ℕ) → 16 ≤ i → numbers ++ falling test (16 - i) ≡ all
+    → numbers ≡ all
 unfolding falling
 ranks-written test numbers all i end so_far =
     let none : 16 - i ≡ 0 = omega arith in

@@ -34,7 +34,8 @@ one-more-seating test first now new below read begun within inside same read_is 
     let tables = one-more test first.tables now.tables below read within inside
     (ap (λ (seating : Seating). seating.tables) same) read_is in
     new_is
-    ∙ (ap (λ (b : Bool). record now { tables = with_status now.tables (below + 1) (record read { begun = b }) }) begun_is
+    ∙ (ap (λ (b : Bool). record now { tables = with_status now.tables (below + 1) (record read { begun = b }) })
+    begun_is
     ∙ (ap (λ (tables : List TableStatus). record now { tables = tables }) tables
     ∙ ap (λ (seating : Seating). record seating {
       tables = map (begun_by test) (take (below + 1) first.tables)

@@ -29,7 +29,9 @@ module _ {A B : Type 0} (f : A → B) where
 
   pub any_of_map : (P : B → Type 0) (xs : List A) → AtLeastOne P (map f xs) → Any (λ x. P (f x)) xs
   any_of_map P [] p = absurd p
-  any_of_map P (x ∷ xs) p = ⊎_elim (λ h. (0, x, omega arith, refl, h)) (λ h. let t = any_of_map P xs h in (suc t.0, t.1, let lt = t.2 in omega arith, t.3, t.4)) p
+  any_of_map P (x ∷ xs) p =
+      ⊎_elim (λ h. (0, x, omega arith, refl, h)) (λ h. let t = any_of_map P xs h in
+      (suc t.0, t.1, let lt = t.2 in omega arith, t.3, t.4)) p
 
 empty_list : {A : Type 0} (l : List A) → length l ≤ 0 → l ≡ []
 empty_list [] le = refl
@@ -46,24 +48,34 @@ module _ {Val E : Type 0} (history : Val → List E) (caller_of : E → ℕ) (n 
     pub numbers : (k : ℕ) → k < n → AtLeastOne (λ (z : Share E). z.number ≡ k) v.shares
     pub others : Each (λ e. (caller_of e < n) ⊎ (caller_of e ≡ OPENER)) (history x)
 
-  pub closes : (id : ℕ) (v : View E) (words : List ℕ) (slots : List (Option Val)) → v.served ≡ false → n ≤ length v.shares
-      → Final (Seen (IsKept history caller_of n) id v) words slots → (x : Val) × (get_elem? slots 0 ≡ some (Some x)) × IsLast v x
+  pub closes : (id : ℕ) (v : View E) (words : List ℕ) (slots : List (Option Val)) → v.served ≡ false
+      → n ≤ length v.shares
+      → Final (Seen (IsKept history caller_of n) id v) words slots
+      → (x : Val) × (get_elem? slots 0 ≡ some (Some x)) × IsLast v x
   closes id v words slots out whole f =
       let s : St = f.0 in let r = f.1.0 in let at = f.1.1 in
       let none_left : (j : ℕ) (a : View E) → j ≢ id → HasView s.views j a → a.shares ≡ [] = λ j a ne h.
-      let two = two_le_sum_by shares_of s.views id j v a (λ e. ne (sym e)) at h in empty_list a.shares (omega (arith, r.numbers.once)) in
+      let two = two_le_sum_by shares_of s.views id j v a (λ e. ne (sym e)) at h in
+      empty_list a.shares (omega (arith, r.numbers.once)) in
       let quiet : (j : ℕ) (a : View E) → HasView s.views j a → a.served ≡ false = λ j a h. dite (ℕ_discrete j id)
       (λ e. ap (λ (z : View E). z.served) (same_view s.views id a v (subst (λ k. HasView s.views k a) e h) at) ∙ out)
-      (λ ne. false_unless a.served (λ is. let t = r.served.ticket j a h is in let i = r.spent j a h (none_left j a ne h) in absurd (cc (t, i)))) in
+      (λ ne. false_unless a.served (λ is. let t = r.served.ticket j a h is in let i =
+      r.spent j a h (none_left j a ne h) in absurd (cc (t, i)))) in
       let home = r.slot.home quiet in
-      let Own : Share E → Type 0 = λ z. (z.number < n) × (r.keeper z.number ≡ id) × (z.own ≡ entries_by caller_of z.number r.now) in (
+      let Own : Share E → Type 0 = λ z. (z.number < n) × (r.keeper z.number ≡ id)
+      × (z.own ≡ entries_by caller_of z.number r.now) in (
         home.0,
         f.4 0 (Some home.0) (ap (λ hs. get_elem? hs 0) home.1),
         record {
-          begins = each_map (λ (z : Share E). IsPrefix z.seen r.now) (λ (z : Share E). IsPrefix z.seen (history home.0)) v.shares (λ z p. subst (IsPrefix z.seen) (sym home.2) p) (r.longest.begin_it id v at);
-          own = each_map Own (λ (z : Share E). entries_by caller_of z.number (history home.0) ≡ z.own) v.shares (λ z p. ap (entries_by caller_of z.number) home.2 ∙ sym p.2) (r.numbers.own id v at);
-          numbers = λ k l. let t = r.numbers.kept k l in let Is : Share E → Type 0 = λ z. z.number ≡ k in dite (ℕ_discrete (r.keeper k) id)
-              (λ e. subst (λ (z : View E). AtLeastOne Is z.shares) (same_view s.views id t.0 v (subst (λ i. HasView s.views i t.0) e t.1) at) t.2)
+          begins = each_map (λ (z : Share E). IsPrefix z.seen r.now)
+              (λ (z : Share E). IsPrefix z.seen (history home.0)) v.shares
+              (λ z p. subst (IsPrefix z.seen) (sym home.2) p) (r.longest.begin_it id v at);
+          own = each_map Own (λ (z : Share E). entries_by caller_of z.number (history home.0) ≡ z.own) v.shares
+              (λ z p. ap (entries_by caller_of z.number) home.2 ∙ sym p.2) (r.numbers.own id v at);
+          numbers = λ k l. let t = r.numbers.kept k l in let Is : Share E
+              → Type 0 = λ z. z.number ≡ k in dite (ℕ_discrete (r.keeper k) id)
+              (λ e. subst (λ (z : View E). AtLeastOne Is z.shares)
+              (same_view s.views id t.0 v (subst (λ i. HasView s.views i t.0) e t.1) at) t.2)
               (λ ne. absurd (subst (AtLeastOne Is) (none_left (r.keeper k) t.0 ne t.1) t.2));
           others = subst (Each (λ e. (caller_of e < n) ⊎ (caller_of e ≡ OPENER))) (sym home.2) r.numbers.others;
         },
@@ -77,21 +89,29 @@ module _ {Val E : Type 0} {g : Ghosts Val E} (history : Val → List E) (caller_
     pub numbers : (k : ℕ) → k < n → Any (λ p. pass_number p ≡ k) passes
     pub others : All (λ e. (caller_of e < n) ⊎ (caller_of e ≡ OPENER)) (history value)
 
-  fits_all : (passes : List (Pass Val E g)) (v : View E) (x : Val) → v.shares ≡ map share_of passes → IsLast history caller_of n v x → FitsAll passes x
+  fits_all : (passes : List (Pass Val E g)) (v : View E) (x : Val) → v.shares ≡ map share_of passes
+      → IsLast history caller_of n v x → FitsAll passes x
   fits_all passes v x are last = record {
-    begins = all_of_map share_of (λ (z : Share E). IsPrefix z.seen (history x)) passes (subst (Each (λ (z : Share E). IsPrefix z.seen (history x))) are last.begins);
-    own_is = all_of_map share_of (λ (z : Share E). entries_by caller_of z.number (history x) ≡ z.own) passes (subst (Each (λ (z : Share E). entries_by caller_of z.number (history x) ≡ z.own)) are last.own);
-    numbers = λ k l. any_of_map share_of (λ (z : Share E). z.number ≡ k) passes (subst (AtLeastOne (λ (z : Share E). z.number ≡ k)) are (last.numbers k l));
+    begins = all_of_map share_of (λ (z : Share E). IsPrefix z.seen (history x)) passes
+        (subst (Each (λ (z : Share E). IsPrefix z.seen (history x))) are last.begins);
+    own_is = all_of_map share_of (λ (z : Share E). entries_by caller_of z.number (history x) ≡ z.own) passes
+        (subst (Each (λ (z : Share E). entries_by caller_of z.number (history x) ≡ z.own)) are last.own);
+    numbers = λ k l. any_of_map share_of (λ (z : Share E). z.number ≡ k) passes
+        (subst (AtLeastOne (λ (z : Share E). z.number ≡ k)) are (last.numbers k l));
     others = all_of_each (λ e. (caller_of e < n) ⊎ (caller_of e ≡ OPENER)) (history x) last.others;
   }
 
   -- the value that comes out of the slot
-  pub comes_out : (passes : List (Pass Val E g)) (id : ℕ) (v : View E) (words : List ℕ) (slots : List (Option Val)) (got : Option Val) → v.shares ≡ map share_of passes → v.served ≡ false → n ≤ length passes
-      → Final (Seen (IsKept history caller_of n) id v) words slots → get_elem? slots 0 ≡ some got → (x : Val) × (got ≡ Some x) × FitsAll passes x
+  pub comes_out : (passes : List (Pass Val E g)) (id : ℕ) (v : View E) (words : List ℕ) (slots : List (Option Val))
+      (got : Option Val) → v.shares ≡ map share_of passes → v.served ≡ false → n ≤ length passes
+      → Final (Seen (IsKept history caller_of n) id v) words slots → get_elem? slots 0 ≡ some got
+      → (x : Val) × (got ≡ Some x) × FitsAll passes x
   comes_out passes id v words slots got are out whole final found =
-      let enough : n ≤ length v.shares = omega (arith, ap length are, length-map passes (share_of {Val = Val} {E = E} {g = g})) in
+      let enough : n ≤ length v.shares =
+      omega (arith, ap length are, length-map passes (share_of {Val = Val} {E = E} {g = g})) in
       let t = closes history caller_of n id v words slots out enough final in
       (t.0, some-injective got (Some t.0) (sym found ∙ t.1), fits_all passes v t.0 are t.2)
 
-  pub fits_value : (passes : List (Pass Val E g)) (x value : Val) → Some x ≡ Some value → FitsAll passes x → FitsAll passes value
+  pub fits_value : (passes : List (Pass Val E g)) (x value : Val) → Some x ≡ Some value → FitsAll passes x
+      → FitsAll passes value
   fits_value passes x value e f = let same : x ≡ value = cc in subst (FitsAll passes) same f

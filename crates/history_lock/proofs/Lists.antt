@@ -34,44 +34,76 @@ module _ {A : Type 0} where
   within (x ∷ xs) (suc i) a e = let h = within xs i a e in omega arith
 
   -- what holds of the new element, and held of all others, holds of each after one is replaced
-  pub each_set : (K : ℕ → A → Type 0) (l : List A) (id : ℕ) (w : A) → K id w → ((j : ℕ) (a : A) → j ≢ id → get_elem? l j ≡ some a → K j a)
+  pub each_set : (K : ℕ → A → Type 0) (l : List A) (id : ℕ) (w : A) → K id w
+      → ((j : ℕ) (a : A) → j ≢ id → get_elem? l j ≡ some a → K j a)
       → (j : ℕ) (a : A) → get_elem? (set l id w) j ≡ some a → K j a
-  each_set K l id w mine others j a e = ⊎_elim (λ (t : (j ≡ id) × (w ≡ a)). subst (λ (x : ℕ × A). K x.0 x.1) (λ i. (sym t.0 i, t.1 i)) mine)
+  each_set K l id w mine others j a e =
+      ⊎_elim (λ (t : (j ≡ id) × (w ≡ a)). subst (λ (x : ℕ × A). K x.0 x.1) (λ i. (sym t.0 i, t.1 i)) mine)
       (λ (t : (j ≢ id) × (get_elem? l j ≡ some a)). others j a t.0 t.1) (at_set l id j w a e)
 
   -- an element behind the others is at the old length
-  pub at_push : (l : List A) (w a : A) (j : ℕ) → get_elem? (l ++ w ∷ []) j ≡ some a → (get_elem? l j ≡ some a) ⊎ ((j ≡ length l) × (w ≡ a))
+  pub at_push : (l : List A) (w a : A) (j : ℕ) → get_elem? (l ++ w ∷ []) j ≡ some a
+      → (get_elem? l j ≡ some a) ⊎ ((j ≡ length l) × (w ≡ a))
   at_push [] w a zero e = inr (refl, some-injective w a e)
   at_push [] w a (suc j) e = absurd (some-ne-none a (sym e))
   at_push (x ∷ xs) w a zero e = inl e
-  at_push (x ∷ xs) w a (suc j) e = ⊎_elim (λ h. inl h) (λ (t : (j ≡ length xs) × (w ≡ a)). inr (ap suc t.0, t.1)) (at_push xs w a j e)
+  at_push (x ∷ xs) w a (suc j) e = ⊎_elim (λ h. inl h) (λ (t : (j ≡ length xs) × (w ≡ a)). inr (ap suc t.0, t.1))
+      (at_push xs w a j e)
 
-  pub sum_by-set : (f : A → ℕ) (l : List A) (i : ℕ) (a b : A) → get_elem? l i ≡ some a → sum_by f (set l i b) + f a ≡ sum_by f l + f b
+  pub sum_by-set : (f : A → ℕ) (l : List A) (i : ℕ) (a b : A) → get_elem? l i ≡ some a
+      → sum_by f (set l i b) + f a ≡ sum_by f l + f b
   sum_by-set f [] i a b e = absurd (some-ne-none a (sym e))
-  sum_by-set f (x ∷ xs) zero a b e = let s : x ≡ a = some-injective x a e in omega (arith, sum_by-cons f x xs, sum_by-cons f b xs, ap f s)
-  sum_by-set f (x ∷ xs) (suc i) a b e = omega (arith, sum_by-cons f x xs, sum_by-cons f x (set xs i b), sum_by-set f xs i a b e)
+  sum_by-set f (x ∷ xs) zero a b e = let s : x ≡ a = some-injective x a e in
+      omega (arith, sum_by-cons f x xs, sum_by-cons f b xs, ap f s)
+  sum_by-set f (x ∷ xs) (suc i) a b e =
+      omega (arith, sum_by-cons f x xs, sum_by-cons f x (set xs i b), sum_by-set f xs i a b e)
 
   pub one_le_sum_by : (f : A → ℕ) (l : List A) (i : ℕ) (a : A) → get_elem? l i ≡ some a → f a ≤ sum_by f l
   one_le_sum_by f [] i a e = absurd (some-ne-none a (sym e))
   one_le_sum_by f (x ∷ xs) zero a e = omega (arith, sum_by-cons f x xs, ap f (some-injective x a e))
   one_le_sum_by f (x ∷ xs) (suc i) a e = omega (arith, sum_by-cons f x xs, one_le_sum_by f xs i a e)
 
-  pub two_le_sum_by : (f : A → ℕ) (l : List A) (i j : ℕ) (a b : A) → i ≢ j → get_elem? l i ≡ some a → get_elem? l j ≡ some b → f a + f b ≤ sum_by f l
+  pub two_le_sum_by : (f : A → ℕ) (l : List A) (i j : ℕ) (a b : A) → i ≢ j → get_elem? l i ≡ some a
+      → get_elem? l j ≡ some b → f a + f b ≤ sum_by f l
   two_le_sum_by f [] i j a b ne e d = absurd (some-ne-none a (sym e))
   two_le_sum_by f (x ∷ xs) zero zero a b ne e d = absurd (ne refl)
-  two_le_sum_by f (x ∷ xs) zero (suc j) a b ne e d = omega (arith, sum_by-cons f x xs, ap f (some-injective x a e), one_le_sum_by f xs j b d)
-  two_le_sum_by f (x ∷ xs) (suc i) zero a b ne e d = omega (arith, sum_by-cons f x xs, ap f (some-injective x b d), one_le_sum_by f xs i a e)
-  two_le_sum_by f (x ∷ xs) (suc i) (suc j) a b ne e d = omega (arith, sum_by-cons f x xs, two_le_sum_by f xs i j a b (λ h. ne (ap suc h)) e d)
+  two_le_sum_by f (x ∷ xs) zero (suc j) a b ne e d =
+      omega (arith, sum_by-cons f x xs, ap f (some-injective x a e), one_le_sum_by f xs j b d)
+  two_le_sum_by f (x ∷ xs) (suc i) zero a b ne e d =
+      omega (arith, sum_by-cons f x xs, ap f (some-injective x b d), one_le_sum_by f xs i a e)
+  two_le_sum_by f (x ∷ xs) (suc i) (suc j) a b ne e d =
+      omega (arith, sum_by-cons f x xs, two_le_sum_by f xs i j a b (λ h. ne (ap suc h)) e d)
 
-  pub sum_by_le : (f h : A → ℕ) (l : List A) → ((j : ℕ) (a : A) → get_elem? l j ≡ some a → f a ≤ h a) → sum_by f l ≤ sum_by h l
+  pub sum_by_le : (f h : A → ℕ) (l : List A) → ((j : ℕ) (a : A) → get_elem? l j ≡ some a → f a ≤ h a)
+      → sum_by f l ≤ sum_by h l
   sum_by_le f h [] le = omega arith
-  sum_by_le f h (x ∷ xs) le = omega (arith, sum_by-cons f x xs, sum_by-cons h x xs, le 0 x refl, sum_by_le f h xs (λ j a e. le (suc j) a e))
+  sum_by_le f h (x ∷ xs) le =
+      omega (arith, sum_by-cons f x xs, sum_by-cons h x xs, le 0 x refl, sum_by_le f h xs (λ j a e. le (suc j) a e))
 
   -- one sum is less than the other where one part is
-  pub sum_by_lt : (f h : A → ℕ) (l : List A) (i : ℕ) (b : A) → ((j : ℕ) (a : A) → get_elem? l j ≡ some a → f a ≤ h a) → get_elem? l i ≡ some b → f b < h b → sum_by f l < sum_by h l
+  pub sum_by_lt : (f h : A → ℕ) (l : List A) (i : ℕ) (b : A) → ((j : ℕ) (a : A) → get_elem? l j ≡ some a → f a ≤ h a)
+      → get_elem? l i ≡ some b → f b < h b → sum_by f l < sum_by h l
   sum_by_lt f h [] i b le e lt = absurd (some-ne-none b (sym e))
-  sum_by_lt f h (x ∷ xs) zero b le e lt = let s : x ≡ b = some-injective x b e in omega (arith, sum_by-cons f x xs, sum_by-cons h x xs, ap f s, ap h s, lt, sum_by_le f h xs (λ j a d. le (suc j) a d))
-  sum_by_lt f h (x ∷ xs) (suc i) b le e lt = omega (arith, sum_by-cons f x xs, sum_by-cons h x xs, le 0 x refl, sum_by_lt f h xs i b (λ j a d. le (suc j) a d) e lt)
+  sum_by_lt f h (x ∷ xs) zero b le e lt = let s : x ≡ b = some-injective x b e in
+      omega (
+        arith,
+        sum_by-cons f x xs,
+        sum_by-cons h x xs,
+        ap f s,
+        ap h s,
+        lt,
+        sum_by_le f h xs
+            (λ j a d. le (suc j) a d),
+      )
+  sum_by_lt f h (x ∷ xs) (suc i) b le e lt =
+      omega (
+        arith,
+        sum_by-cons f x xs,
+        sum_by-cons h x xs,
+        le 0 x refl,
+        sum_by_lt f h xs i b
+            (λ j a d. le (suc j) a d) e lt,
+      )
 
   pub each_append : (P : A → Type 0) (xs ys : List A) → Each P xs → Each P ys → Each P (xs ++ ys)
   each_append P [] ys p q = q

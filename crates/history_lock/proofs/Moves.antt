@@ -35,16 +35,20 @@ module _ {Val E : Type 0} (history : Val → List E) (caller_of : E → ℕ) (n 
   abbrev Owned : List E → (ℕ → ℕ) → ℕ → Share E → Type 0
   Owned now keeper j z = (z.number < n) × (keeper z.number ≡ j) × (z.own ≡ entries_by caller_of z.number now)
 
-  owned : (s : St) (r : Rule s) (id : ℕ) (v : View E) (x : Share E) → HasView s.views id v → v.shares ≡ x ∷ [] → Owned r.now r.keeper id x
+  owned : (s : St) (r : Rule s) (id : ℕ) (v : View E) (x : Share E) → HasView s.views id v → v.shares ≡ x ∷ []
+      → Owned r.now r.keeper id x
   owned s r id v x at has = (subst (Each (Owned r.now r.keeper id)) has (r.numbers.own id v at)).0
 
-  begins : (s : St) (r : Rule s) (id : ℕ) (v : View E) (x : Share E) → HasView s.views id v → v.shares ≡ x ∷ [] → IsPrefix x.seen r.now
+  begins : (s : St) (r : Rule s) (id : ℕ) (v : View E) (x : Share E) → HasView s.views id v → v.shares ≡ x ∷ []
+      → IsPrefix x.seen r.now
   begins s r id v x at has = (subst (Each (λ (z : Share E). IsPrefix z.seen r.now)) has (r.longest.begin_it id v at)).0
 
-  word : (s : St) (r : Rule s) (i : ℕ) → get_or s.words i 0 ≡ get_or (r.ticket ∷ r.serving ∷ length r.now ∷ r.calls ∷ []) i 0
+  word : (s : St) (r : Rule s) (i : ℕ)
+      → get_or s.words i 0 ≡ get_or (r.ticket ∷ r.serving ∷ length r.now ∷ r.calls ∷ []) i 0
   word s r i = ap (λ ws. get_or ws i 0) r.words
 
-  pub draws : (slots id : ℕ) (v : View E) (c : List (ℕ × Option Val)) (x : Share E) → v.shares ≡ x ∷ [] → v.ticket ≡ None → v.served ≡ false
+  pub draws : (slots id : ℕ) (v : View E) (c : List (ℕ × Option Val)) (x : Share E) → v.shares ≡ x ∷ []
+      → v.ticket ≡ None → v.served ≡ false
       → Allows Rule slots id (v, c) 0 (λ k. (k + 1) % 2 ^ 64) (drew (step slots 0 1 0 none) (v, c))
   draws slots id v c x has idle out s r _ at fits =
       let found : ℕ = get_or s.words 0 0 in
@@ -62,13 +66,19 @@ module _ {Val E : Type 0} (history : Val → List E) (caller_of : E → ℕ) (n 
           keeper = r.keeper;
           limit = r.limit;
           words = ap (λ ws. set ws 0 ((found + 1) % 2 ^ 64)) r.words;
-          tickets = tickets_drawn n r.ticket r.serving found s.views id v w at idle refl is r.limit (waiting_lt n s.views id v x at has idle r.spent r.numbers.once) r.tickets;
-          longest = seen_grows r.now r.now s.views id v w x x at has has (prefix_self r.now) r.longest.fits (begins s r id v x at has) (r.longest.known id v at) (inr (refl, refl)) r.longest;
-          numbers = numbers_stay caller_of n r.now r.now r.keeper s.views id v w x x at has has refl mine.2 (λ k ne. refl) r.numbers.others r.numbers;
+          tickets = tickets_drawn n r.ticket r.serving found s.views id v w at idle refl is r.limit
+              (waiting_lt n s.views id v x at has idle r.spent r.numbers.once) r.tickets;
+          longest = seen_grows r.now r.now s.views id v w x x at has has (prefix_self r.now) r.longest.fits
+              (begins s r id v x at has) (r.longest.known id v at) (inr (refl, refl)) r.longest;
+          numbers = numbers_stay caller_of n r.now r.now r.keeper s.views id v w x x at has has refl mine.2
+              (λ k ne. refl) r.numbers.others r.numbers;
           served = record {
-            ticket = each_set (λ (j : ℕ) (a : View E). a.served ≡ true → a.ticket ≡ Some r.serving) s.views id w (λ is'. absurd (cc (is', out))) (λ j a ne h. r.served.ticket j a h);
+            ticket = each_set (λ (j : ℕ) (a : View E). a.served ≡ true → a.ticket ≡ Some r.serving) s.views id w
+                (λ is'. absurd (cc (is', out))) (λ j a ne h. r.served.ticket j a h);
             one = λ i j a b h k is' also.
-                let old : (j : ℕ) (a : View E) → HasView (set s.views id w) j a → a.served ≡ true → HasView s.views j a = each_set (λ (j : ℕ) (a : View E). a.served ≡ true → HasView s.views j a) s.views id w
+                let old : (j : ℕ) (a : View E) → HasView (set s.views id w) j a → a.served ≡ true
+                → HasView s.views j a = each_set (λ (j : ℕ) (a : View E). a.served ≡ true
+                → HasView s.views j a) s.views id w
                 (λ is'. absurd (cc (is', out))) (λ j a ne h is'. h) in
                 r.served.one i j a b (old i a h is') (old j b k also) is' also;
           };
@@ -79,11 +89,15 @@ module _ {Val E : Type 0} (history : Val → List E) (caller_of : E → ℕ) (n 
       )
 
   -- the state with the word i as it was found, and the view as it was
-  unmoved : (s : St) (i id : ℕ) (v : View E) → HasView s.views id v → Rule s → Rule record { words = set s.words i (get_or s.words i 0); homes = s.homes; views = set s.views id v }
-  unmoved s i id v at r = subst (λ (t : List ℕ × List (View E)). Rule record { words = t.0; homes = s.homes; views = t.1 }) (λ k. (sym (set-get_or s.words i 0) k, sym (set_again s.views id v at) k)) r
+  unmoved : (s : St) (i id : ℕ) (v : View E) → HasView s.views id v → Rule s
+      → Rule record { words = set s.words i (get_or s.words i 0); homes = s.homes; views = set s.views id v }
+  unmoved s i id v at r =
+      subst (λ (t : List ℕ × List (View E)). Rule record { words = t.0; homes = s.homes; views = t.1 })
+      (λ k. (sym (set-get_or s.words i 0) k, sym (set_again s.views id v at) k)) r
 
   -- where a view has the ticket that is served and is not served yet, no view is served
-  none_served : (s : St) (r : Rule s) (id : ℕ) (v : View E) → HasView s.views id v → v.ticket ≡ Some r.serving → v.served ≡ false → (j : ℕ) (a : View E) → HasView s.views j a → a.served ≡ false
+  none_served : (s : St) (r : Rule s) (id : ℕ) (v : View E) → HasView s.views id v → v.ticket ≡ Some r.serving
+      → v.served ≡ false → (j : ℕ) (a : View E) → HasView s.views j a → a.served ≡ false
   none_served s r id v at has out j a h = false_unless a.served (λ is.
       let here : j ≡ id = r.tickets.differ j id a v r.serving h at (r.served.ticket j a h is) has in
       let same : a ≡ v = same_view s.views id a v (subst (λ k. HasView s.views k a) here h) at in
@@ -91,9 +105,12 @@ module _ {Val E : Type 0} (history : Val → List E) (caller_of : E → ℕ) (n 
 
   -- what a look tells, by whether the ticket was served
   abbrev LookTells : Bool → M → M → Share E → Type 0
-  LookTells b before after share = MatchBool b ((x : Val) × (after ≡ (served_view before.0 share (history x), (0, Some x) ∷ before.1)) × IsFound history caller_of share before.0.known x) (after ≡ before)
+  LookTells b before after share =
+      MatchBool b ((x : Val) × (after ≡ (served_view before.0 share (history x), (0, Some x) ∷ before.1))
+      × IsFound history caller_of share before.0.known x) (after ≡ before)
 
-  pub looks : (slots id : ℕ) (v : View E) (x : Share E) (ticket : ℕ) → v.shares ≡ x ∷ [] → v.ticket ≡ Some ticket → v.served ≡ false
+  pub looks : (slots id : ℕ) (v : View E) (x : Share E) (ticket : ℕ) → v.shares ≡ x ∷ [] → v.ticket ≡ Some ticket
+      → v.served ≡ false
       → Allows Rule slots id (v, []) 1 (λ k. k) (looked history caller_of (step slots 1 0 0 none) (v, []))
   looks slots id v x ticket has drew out s r _ at fits =
       let found : ℕ = get_or s.words 1 0 in
@@ -123,18 +140,24 @@ module _ {Val E : Type 0} (history : Val → List E) (caller_of : E → ℕ) (n 
           limit = r.limit;
           words = set-get_or s.words 1 0 ∙ r.words;
           tickets = tickets_stay n r.ticket r.serving s.views id v w at refl r.tickets;
-          longest = seen_grows r.now r.now s.views id v w x y at has refl (prefix_self r.now) r.longest.fits (subst (λ l. IsPrefix l r.now) (sym home.2) (prefix_self r.now)) (r.longest.known id v at) (inl home.2) r.longest;
-          numbers = numbers_stay caller_of n r.now r.now r.keeper s.views id v w x y at has refl refl mine.2 (λ k ne. refl) r.numbers.others r.numbers;
+          longest = seen_grows r.now r.now s.views id v w x y at has refl (prefix_self r.now) r.longest.fits
+              (subst (λ l. IsPrefix l r.now) (sym home.2) (prefix_self r.now)) (r.longest.known id v at)
+              (inl home.2) r.longest;
+          numbers = numbers_stay caller_of n r.now r.now r.keeper s.views id v w x y at has refl refl mine.2
+              (λ k ne. refl) r.numbers.others r.numbers;
           served = record {
-            ticket = each_set (λ (j : ℕ) (a : View E). a.served ≡ true → a.ticket ≡ Some r.serving) s.views id w (λ _. here) (λ j a ne h. r.served.ticket j a h);
+            ticket = each_set (λ (j : ℕ) (a : View E). a.served ≡ true → a.ticket ≡ Some r.serving) s.views id w
+                (λ _. here) (λ j a ne h. r.served.ticket j a h);
             one = λ i j a b h k is' also.
-                let only : (j : ℕ) (a : View E) → HasView (set s.views id w) j a → a.served ≡ true → j ≡ id = each_set (λ (j : ℕ) (a : View E). a.served ≡ true → j ≡ id) s.views id w
+                let only : (j : ℕ) (a : View E) → HasView (set s.views id w) j a → a.served ≡ true
+                → j ≡ id = each_set (λ (j : ℕ) (a : View E). a.served ≡ true → j ≡ id) s.views id w
                 (λ _. refl) (λ j a ne h is'. absurd (cc (is', quiet j a h))) in
                 only i a h is' ∙ sym (only j b k also);
           };
           slot = record {
             home = λ nobody. absurd (cc (nobody id w (set_here s.views id w (within s.views id v at))));
-            out = each_set (λ (j : ℕ) (a : View E). a.served ≡ true → (set s.homes 0 none ≡ none ∷ []) × Each (λ (z : Share E). z.seen ≡ r.now) a.shares) s.views id w
+            out = each_set (λ (j : ℕ) (a : View E). a.served ≡ true
+                → (set s.homes 0 none ≡ none ∷ []) × Each (λ (z : Share E). z.seen ≡ r.now) a.shares) s.views id w
                 (λ _. (ap (λ hs. set hs 0 none) home.1, (home.2, tt))) (λ j a ne h is'. absurd (cc (is', quiet j a h)));
           };
           spent = spent_stays s.views id w y refl r.spent;
@@ -143,7 +166,12 @@ module _ {Val E : Type 0} (history : Val → List E) (caller_of : E → ℕ) (n 
             let same_ticket : ticket ≡ t = cc (drew, has_ticket) in
             let same_share : x ≡ share = ap first_share (sym has ∙ has_share) in
             let test : (found == t) ≡ true = let e : found ≡ t = hit ∙ same_ticket in grind (arith, nat_tests) in
-            subst (λ b. LookTells b (v, []) (w, (0, Some val) ∷ []) share) (sym test) (val, ap (λ (z : Share E). let m : M = (served_view v z (history val), (0, Some val) ∷ []) in m) same_share, subst (λ (z : Share E). IsFound history caller_of z v.known val) same_share found')),
+            subst (λ b. LookTells b (v, []) (w, (0, Some val) ∷ []) share) (sym test) (
+              val,
+              ap (λ (z : Share E). let m : M = (served_view v z (history val), (0, Some val) ∷ []) in
+                  m) same_share,
+              subst (λ (z : Share E). IsFound history caller_of z v.known val) same_share found',
+            )),
       ))
       (λ miss. (
         v,
@@ -152,13 +180,16 @@ module _ {Val E : Type 0} (history : Val → List E) (caller_of : E → ℕ) (n 
         unmoved s 1 id v at r,
         (λ t share has_ticket has_share.
             let same_ticket : ticket ≡ t = cc (drew, has_ticket) in
-            let test : (found == t) ≡ false = let e : found ≢ t = λ h. miss (h ∙ sym same_ticket) in grind (arith, nat_tests) in
+            let test : (found == t) ≡ false = let e : found ≢ t = λ h. miss (h ∙ sym same_ticket) in
+            grind (arith, nat_tests) in
             subst (λ b. LookTells b (v, []) (v, []) share) (sym test) refl),
       ))
 
-  pub publishes : (slots id : ℕ) (v : View E) (x : Share E) (left added : List E) (count : ℕ) → v.shares ≡ x ∷ [] → v.served ≡ true → left ≡ x.seen ++ added → Each (λ e. caller_of e ≡ x.number) added
+  pub publishes : (slots id : ℕ) (v : View E) (x : Share E) (left added : List E) (count : ℕ) → v.shares ≡ x ∷ []
+      → v.served ≡ true → left ≡ x.seen ++ added → Each (λ e. caller_of e ≡ x.number) added
       → count ≡ length left → count < 2 ^ 64
-      → Allows Rule slots id (v, (0, None) ∷ []) 2 (λ _. count) (λ _. published left (step slots 2 count 0 none) (v, (0, None) ∷ []) count)
+      → Allows Rule slots id (v, (0, None) ∷ []) 2 (λ _. count)
+      (λ _. published left (step slots 2 count 0 none) (v, (0, None) ∷ []) count)
   publishes slots id v x left added count has inside grown theirs is fits s r _ at _ =
       let out = r.slot.out id v at inside in
       let seen : x.seen ≡ r.now = (subst (Each (λ (z : Share E). z.seen ≡ r.now)) has out.1).0 in
@@ -169,7 +200,10 @@ module _ {Val E : Type 0} (history : Val → List E) (caller_of : E → ℕ) (n 
       let more : drop (length x.seen) left ≡ added = ap (drop (length x.seen)) grown ∙ drop_append x.seen added in
       let longer : IsPrefix r.now left = (added, sym whole) in
       let own : y.own ≡ entries_by caller_of x.number left =
-      ap (λ l. x.own ++ l) more ∙ (ap (λ l. l ++ added) mine.2 ∙ (sym (entries_by_grown caller_of x.number r.now added theirs) ∙ ap (entries_by caller_of x.number) (sym whole))) in
+      ap (λ l. x.own ++ l) more
+      ∙ (ap (λ l. l ++ added) mine.2
+      ∙ (sym (entries_by_grown caller_of x.number r.now added theirs)
+      ∙ ap (entries_by caller_of x.number) (sym whole))) in
       let known : v.known ≤ length left = omega (arith, r.longest.known id v at, prefix_length r.now left longer) in
       let Fits : E → Type 0 = λ e. (caller_of e < n) ⊎ (caller_of e ≡ OPENER) in
       let all : Each Fits left = subst (Each Fits) (sym whole) (each_append Fits r.now added r.numbers.others
@@ -186,13 +220,16 @@ module _ {Val E : Type 0} (history : Val → List E) (caller_of : E → ℕ) (n 
           limit = r.limit;
           words = ap (λ ws. set ws 2 count) r.words ∙ ap (λ k. r.ticket ∷ r.serving ∷ k ∷ r.calls ∷ []) is;
           tickets = tickets_stay n r.ticket r.serving s.views id v w at refl r.tickets;
-          longest = seen_grows r.now left s.views id v w x y at has refl longer (omega arith) (prefix_self left) known (inl refl) r.longest;
+          longest = seen_grows r.now left s.views id v w x y at has refl longer (omega arith) (prefix_self left) known
+              (inl refl) r.longest;
           numbers = numbers_stay caller_of n r.now left r.keeper s.views id v w x y at has refl refl own
-              (λ k ne. ap (entries_by caller_of k) whole ∙ entries_by_kept caller_of x.number k r.now added ne theirs) all r.numbers;
+              (λ k ne. ap (entries_by caller_of k) whole ∙ entries_by_kept caller_of x.number k r.now added ne theirs)
+              all r.numbers;
           served = served_stays r.serving s.views id v w at refl refl r.served;
           slot = record {
             home = λ nobody. absurd (cc (nobody id w (set_here s.views id w (within s.views id v at)), inside));
-            out = each_set (λ (j : ℕ) (a : View E). a.served ≡ true → (s.homes ≡ none ∷ []) × Each (λ (z : Share E). z.seen ≡ left) a.shares) s.views id w
+            out = each_set (λ (j : ℕ) (a : View E). a.served ≡ true
+                → (s.homes ≡ none ∷ []) × Each (λ (z : Share E). z.seen ≡ left) a.shares) s.views id w
                 (λ _. (out.0, (refl, tt))) (λ j a ne h is'. absurd (ne (r.served.one j id a v h at is' inside)));
           };
           spent = spent_stays s.views id w y refl r.spent;
@@ -200,12 +237,15 @@ module _ {Val E : Type 0} (history : Val → List E) (caller_of : E → ℕ) (n 
         (
           refl,
           λ share has_share. let same : x ≡ share = ap first_share (sym has ∙ has_share) in
-              ap (λ (z : Share E). let m : M = (record v { shares = share_left z left ∷ [] }, (0, None) ∷ []) in m) same,
+              ap (λ (z : Share E). let m : M = (record v { shares = share_left z left ∷ [] }, (0, None) ∷ []) in
+              m) same,
         ),
       )
 
-  pub passes_on : (slots id : ℕ) (v : View E) (x : Share E) (val : Val) → v.shares ≡ x ∷ [] → v.served ≡ true → history val ≡ x.seen
-      → Allows Rule slots id (v, (0, Some val) ∷ []) 1 (λ k. (k + 1) % 2 ^ 64) (passed_on (step slots 1 1 0 none) (v, (0, Some val) ∷ []))
+  pub passes_on : (slots id : ℕ) (v : View E) (x : Share E) (val : Val) → v.shares ≡ x ∷ [] → v.served ≡ true
+      → history val ≡ x.seen
+      → Allows Rule slots id (v, (0, Some val) ∷ []) 1 (λ k. (k + 1) % 2 ^ 64)
+      (passed_on (step slots 1 1 0 none) (v, (0, Some val) ∷ []))
   passes_on slots id v x val has inside back s r _ at fits =
       let found : ℕ = get_or s.words 1 0 in
       let is : found ≡ r.serving = word s r 1 in
@@ -213,7 +253,8 @@ module _ {Val E : Type 0} (history : Val → List E) (caller_of : E → ℕ) (n 
       let seen : x.seen ≡ r.now = (subst (Each (λ (z : Share E). z.seen ≡ r.now)) has out.1).0 in
       let w : View E = record v { ticket = None; served = false } in
       let mine = owned s r id v x at has in
-      let quiet : (j : ℕ) (a : View E) → HasView (set s.views id w) j a → a.served ≡ false = each_set (λ (j : ℕ) (a : View E). a.served ≡ false) s.views id w refl
+      let quiet : (j : ℕ) (a : View E) → HasView (set s.views id w) j a
+      → a.served ≡ false = each_set (λ (j : ℕ) (a : View E). a.served ≡ false) s.views id w refl
       (λ j a ne h. false_unless a.served (λ is'. ne (r.served.one j id a v h at is' inside))) in (
         w,
         gives,
@@ -226,10 +267,14 @@ module _ {Val E : Type 0} (history : Val → List E) (caller_of : E → ℕ) (n 
           keeper = r.keeper;
           limit = r.limit;
           words = ap (λ ws. set ws 1 ((found + 1) % 2 ^ 64)) r.words;
-          tickets = let t = tickets_spent n r.ticket r.serving s.views id v w at (r.served.ticket id v at inside) refl (omega arith) r.tickets in
-              subst (λ k. Rattle.history_lock.specs.Rule.TicketsAreInRange n r.ticket ((k + 1) % 2 ^ 64) (set s.views id w)) (sym is) t;
-          longest = seen_grows r.now r.now s.views id v w x x at has has (prefix_self r.now) r.longest.fits (begins s r id v x at has) (r.longest.known id v at) (inr (refl, refl)) r.longest;
-          numbers = numbers_stay caller_of n r.now r.now r.keeper s.views id v w x x at has has refl mine.2 (λ k ne. refl) r.numbers.others r.numbers;
+          tickets = let t = tickets_spent n r.ticket r.serving s.views id v w at (r.served.ticket id v at inside) refl
+              (omega arith) r.tickets in
+              subst (λ k. Rattle.history_lock.specs.Rule.TicketsAreInRange n r.ticket ((k + 1) % 2 ^ 64)
+              (set s.views id w)) (sym is) t;
+          longest = seen_grows r.now r.now s.views id v w x x at has has (prefix_self r.now) r.longest.fits
+              (begins s r id v x at has) (r.longest.known id v at) (inr (refl, refl)) r.longest;
+          numbers = numbers_stay caller_of n r.now r.now r.keeper s.views id v w x x at has has refl mine.2
+              (λ k ne. refl) r.numbers.others r.numbers;
           served = record {
             ticket = λ j a h is'. absurd (cc (is', quiet j a h));
             one = λ i j a b h k is' also. absurd (cc (is', quiet i a h));
@@ -243,7 +288,8 @@ module _ {Val E : Type 0} (history : Val → List E) (caller_of : E → ℕ) (n 
         refl,
       )
 
-  pub counts : (slots id : ℕ) (v : View E) (c : List (ℕ × Option Val)) (x : Share E) → v.shares ≡ x ∷ [] → v.served ≡ false
+  pub counts : (slots id : ℕ) (v : View E) (c : List (ℕ × Option Val)) (x : Share E) → v.shares ≡ x ∷ []
+      → v.served ≡ false
       → Allows Rule slots id (v, c) 2 (λ k. k) (counted (step slots 2 0 0 none) (v, c))
   counts slots id v c x has out s r _ at _ =
       let found : ℕ = get_or s.words 2 0 in
@@ -265,8 +311,10 @@ module _ {Val E : Type 0} (history : Val → List E) (caller_of : E → ℕ) (n 
           limit = r.limit;
           words = set-get_or s.words 2 0 ∙ r.words;
           tickets = tickets_stay n r.ticket r.serving s.views id v w at refl r.tickets;
-          longest = seen_grows r.now r.now s.views id v w x x at has has (prefix_self r.now) r.longest.fits begin (omega arith) (inr (refl, refl)) r.longest;
-          numbers = numbers_stay caller_of n r.now r.now r.keeper s.views id v w x x at has has refl mine.2 (λ k ne. refl) r.numbers.others r.numbers;
+          longest = seen_grows r.now r.now s.views id v w x x at has has (prefix_self r.now) r.longest.fits begin
+              (omega arith) (inr (refl, refl)) r.longest;
+          numbers = numbers_stay caller_of n r.now r.now r.keeper s.views id v w x x at has has refl mine.2
+              (λ k ne. refl) r.numbers.others r.numbers;
           served = served_stays r.serving s.views id v w at refl refl r.served;
           slot = slot_stays history r.now s.homes s.views id v w at out out r.slot;
           spent = spent_stays s.views id w x has r.spent;

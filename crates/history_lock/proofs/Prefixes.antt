@@ -29,7 +29,8 @@ module _ {A : Type 0} where
 
 module _ {E : Type 0} (caller_of : E → ℕ) where
   -- of entries of one caller, all are that caller's
-  pub entries_by_own : (k : ℕ) (added : List E) → Each (λ e. caller_of e ≡ k) added → entries_by caller_of k added ≡ added
+  pub entries_by_own : (k : ℕ) (added : List E) → Each (λ e. caller_of e ≡ k) added
+      → entries_by caller_of k added ≡ added
   entries_by_own k [] own = refl
   entries_by_own k (e ∷ es) own =
       let here : (caller_of e == k) ≡ true = let h = own.0 in grind (arith, nat_tests) in
@@ -37,15 +38,21 @@ module _ {E : Type 0} (caller_of : E → ℕ) where
       rw here (ap (λ w. e ∷ w) rest)
 
   -- and none is another's
-  pub entries_by_other : (k i : ℕ) (added : List E) → k ≢ i → Each (λ e. caller_of e ≡ k) added → entries_by caller_of i added ≡ []
+  pub entries_by_other : (k i : ℕ) (added : List E) → k ≢ i → Each (λ e. caller_of e ≡ k) added
+      → entries_by caller_of i added ≡ []
   entries_by_other k i [] ne own = refl
   entries_by_other k i (e ∷ es) ne own =
       let here : (caller_of e == i) ≡ false = let h = own.0 in grind (arith, nat_tests) in
       rw here (entries_by_other k i es ne own.1)
 
-  pub entries_by_grown : (k : ℕ) (log added : List E) → Each (λ e. caller_of e ≡ k) added → entries_by caller_of k (log ++ added) ≡ entries_by caller_of k log ++ added
-  entries_by_grown k log added own = filter-append (λ e. caller_of e == k) log added ∙ ap (λ w. entries_by caller_of k log ++ w) (entries_by_own k added own)
+  pub entries_by_grown : (k : ℕ) (log added : List E) → Each (λ e. caller_of e ≡ k) added
+      → entries_by caller_of k (log ++ added) ≡ entries_by caller_of k log ++ added
+  entries_by_grown k log added own = filter-append (λ e. caller_of e == k) log added
+      ∙ ap (λ w. entries_by caller_of k log ++ w) (entries_by_own k added own)
 
-  pub entries_by_kept : (k i : ℕ) (log added : List E) → k ≢ i → Each (λ e. caller_of e ≡ k) added → entries_by caller_of i (log ++ added) ≡ entries_by caller_of i log
+  pub entries_by_kept : (k i : ℕ) (log added : List E) → k ≢ i → Each (λ e. caller_of e ≡ k) added
+      → entries_by caller_of i (log ++ added) ≡ entries_by caller_of i log
   entries_by_kept k i log added ne own =
-      filter-append (λ e. caller_of e == i) log added ∙ (ap (λ w. entries_by caller_of i log ++ w) (entries_by_other k i added ne own) ∙ append-nil (entries_by caller_of i log))
+      filter-append (λ e. caller_of e == i) log added
+      ∙ (ap (λ w. entries_by caller_of i log ++ w) (entries_by_other k i added ne own)
+      ∙ append-nil (entries_by caller_of i log))

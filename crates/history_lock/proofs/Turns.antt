@@ -15,8 +15,10 @@ module _ {Val : Type 0} where
 
 module _ {Val E : Type 0} where
   -- a seat that waits as it began
-  pub waits : (ticket : ℕ) (first me : Me (Option Val) (View E)) → first.0 ≡ ticketed_view ticket first.0 → first.1 ≡ [] → me ≡ first → me ≡ (ticketed_view ticket me.0, [])
-  waits ticket first me view slots same = subst (λ (m : Me (Option Val) (View E)). m ≡ (ticketed_view ticket m.0, [])) (sym same) (λ i. (view i, slots i))
+  pub waits : (ticket : ℕ) (first me : Me (Option Val) (View E)) → first.0 ≡ ticketed_view ticket first.0 → first.1 ≡ []
+      → me ≡ first → me ≡ (ticketed_view ticket me.0, [])
+  waits ticket first me view slots same = subst (λ (m : Me (Option Val) (View E)). m ≡ (ticketed_view ticket m.0, []))
+      (sym same) (λ i. (view i, slots i))
 
 module _ {Val E : Type 0} (history : Val → List E) (caller_of : E → ℕ) where
   abbrev M : Type 0
@@ -28,27 +30,42 @@ module _ {Val E : Type 0} (history : Val → List E) (caller_of : E → ℕ) whe
       × IsFound history caller_of (first_share before.0.shares) before.0.known x
 
   abbrev Tells : Bool → M → M → Share E → Type 0
-  Tells b before after share = MatchBool b ((x : Val) × (after ≡ (served_view before.0 share (history x), (0, Some x) ∷ before.1)) × IsFound history caller_of share before.0.known x) (after ≡ before)
+  Tells b before after share =
+      MatchBool b ((x : Val) × (after ≡ (served_view before.0 share (history x), (0, Some x) ∷ before.1))
+      × IsFound history caller_of share before.0.known x) (after ≡ before)
 
-  tells : (st : Step (Option Val)) (ticket found : ℕ) (before after : M) → before ≡ (ticketed_view ticket before.0, []) → looked history caller_of st before found after
+  tells : (st : Step (Option Val)) (ticket found : ℕ) (before after : M) → before ≡ (ticketed_view ticket before.0, [])
+      → looked history caller_of st before found after
       → Tells (found == ticket) before after (first_share before.0.shares)
-  tells st ticket found before after is told = told ticket (first_share before.0.shares) (ap (λ (m : M). m.0.ticket) is) (ap (λ (m : M). m.0.shares) is)
+  tells st ticket found before after is told = told ticket (first_share before.0.shares) (ap (λ (m : M). m.0.ticket) is)
+      (ap (λ (m : M). m.0.shares) is)
 
-  pub look_hit : (st : Step (Option Val)) (ticket found : ℕ) (before after : M) → before ≡ (ticketed_view ticket before.0, []) → looked history caller_of st before found after → found ≡ ticket
+  pub look_hit : (st : Step (Option Val)) (ticket found : ℕ) (before after : M)
+      → before ≡ (ticketed_view ticket before.0, []) → looked history caller_of st before found after → found ≡ ticket
       → (x : Val) × Holds before after x
   look_hit st ticket found before after is told hit =
       let test : (found == ticket) ≡ true = grind (arith, nat_tests) in
-      let t = subst (λ b. Tells b before after (first_share before.0.shares)) test (tells st ticket found before after is told) in
-      (t.0, (t.1 ∙ ap (λ (c : List (ℕ × Option Val)). let m : M = (served_view before.0 (first_share before.0.shares) (history t.0), (0, Some t.0) ∷ c) in m) (ap (λ (m : M). m.1) is), t.2))
+      let t = subst (λ b. Tells b before after (first_share before.0.shares)) test
+      (tells st ticket found before after is told) in (
+        t.0,
+        (
+          t.1 ∙ ap (λ (c : List (ℕ × Option Val)). let m : M =
+              (served_view before.0 (first_share before.0.shares) (history t.0), (0, Some t.0) ∷ c) in m)
+              (ap (λ (m : M). m.1) is),
+          t.2,
+        ),
+      )
 
-  pub look_miss : (st : Step (Option Val)) (ticket found : ℕ) (before after : M) → before ≡ (ticketed_view ticket before.0, []) → looked history caller_of st before found after → found ≢ ticket
+  pub look_miss : (st : Step (Option Val)) (ticket found : ℕ) (before after : M)
+      → before ≡ (ticketed_view ticket before.0, []) → looked history caller_of st before found after → found ≢ ticket
       → after ≡ before
   look_miss st ticket found before after is told miss =
       let test : (found == ticket) ≡ false = grind (arith, nat_tests) in
       subst (λ b. Tells b before after (first_share before.0.shares)) test (tells st ticket found before after is told)
 
   -- the value is taken out of the slot
-  pub taken_out : (before after last : M) (x : Val) (got : Option Val) → Holds before after x → after.1 ≡ (0, got) ∷ rest after.1 → last ≡ (after.0, (0, None) ∷ rest after.1)
+  pub taken_out : (before after last : M) (x : Val) (got : Option Val) → Holds before after x
+      → after.1 ≡ (0, got) ∷ rest after.1 → last ≡ (after.0, (0, None) ∷ rest after.1)
       → (got ≡ Some x) × (last ≡ (served_view before.0 (first_share before.0.shares) (history x), (0, None) ∷ []))
   taken_out before after last x got holds found out =
       let slots : after.1 ≡ (0, Some x) ∷ [] = ap (λ (m : M). m.1) holds.0 in
@@ -56,10 +73,20 @@ module _ {Val E : Type 0} (history : Val → List E) (caller_of : E → ℕ) whe
       (same, out ∙ ap (λ (m : M). let z : M = (m.0, (0, None) ∷ rest m.1) in z) holds.0)
 
   -- one whole turn: the ticket was found to be served, and the value was taken out
-  pub turn_taken : (st : Step (Option Val)) (ticket found : ℕ) (first before after last : M) (got : Option Val) → first.0 ≡ ticketed_view ticket first.0 → first.1 ≡ [] → before ≡ first
-      → looked history caller_of st before found after → found ≡ ticket → after.1 ≡ (0, got) ∷ rest after.1 → last ≡ (after.0, (0, None) ∷ rest after.1)
-      → (x : Val) × (got ≡ Some x) × (last ≡ (served_view first.0 (first_share first.0.shares) (history x), (0, None) ∷ [])) × IsFound history caller_of (first_share first.0.shares) first.0.known x
+  pub turn_taken : (st : Step (Option Val)) (ticket found : ℕ) (first before after last : M) (got : Option Val)
+      → first.0 ≡ ticketed_view ticket first.0 → first.1 ≡ [] → before ≡ first
+      → looked history caller_of st before found after → found ≡ ticket → after.1 ≡ (0, got) ∷ rest after.1
+      → last ≡ (after.0, (0, None) ∷ rest after.1)
+      → (x : Val) × (got ≡ Some x)
+      × (last ≡ (served_view first.0 (first_share first.0.shares) (history x), (0, None) ∷ []))
+      × IsFound history caller_of (first_share first.0.shares) first.0.known x
   turn_taken st ticket found first before after last got view slots same told hit held out =
       let h = look_hit st ticket found before after (waits ticket first before view slots same) told hit in
-      let t = taken_out before after last h.0 got h.1 held out in
-      (h.0, t.0, t.1 ∙ ap (λ (m : M). let z : M = (served_view m.0 (first_share m.0.shares) (history h.0), (0, None) ∷ []) in z) same, subst (λ (m : M). IsFound history caller_of (first_share m.0.shares) m.0.known h.0) same h.1.1)
+      let t = taken_out before after last h.0 got h.1 held out in (
+        h.0,
+        t.0,
+        t.1 ∙ ap (λ (m : M). let z : M =
+            (served_view m.0 (first_share m.0.shares) (history h.0), (0, None) ∷ []) in z) same,
+        subst
+            (λ (m : M). IsFound history caller_of (first_share m.0.shares) m.0.known h.0) same h.1.1,
+      )

@@ -51,7 +51,8 @@ list_any-exchange test [] a b back = or-turned (test a) (test b) (list_any test 
 list_any-exchange test (x ∷ front) a b back = ap (λ y. test x || y) (list_any-exchange test front a b back)
 
 -- two ranks differ from each other and from others, whichever is first
-differ-turned : (same first second rest : Bool) → (not (same || first) && (not second && rest)) ≡ (not (same || second) && (not first && rest))
+differ-turned : (same first second rest : Bool)
+    → (not (same || first) && (not second && rest)) ≡ (not (same || second) && (not first && rest))
 differ-turned true first second rest = refl
 differ-turned false true true rest = refl
 differ-turned false true false rest = refl
@@ -63,10 +64,13 @@ eqb-turned a b = grind (arith, nat_tests)
 
 are_different-exchange : AllowsExchange are_different
 are_different-exchange [] a b back =
-    ap (λ t. not (t || list_any (λ other. eqb other a) back) && (not (list_any (λ other. eqb other b) back) && are_different back)) (eqb-turned b a)
-    ∙ differ-turned (eqb a b) (list_any (λ other. eqb other a) back) (list_any (λ other. eqb other b) back) (are_different back)
+    ap (λ t. not (t || list_any (λ other. eqb other a) back) &&
+    (not (list_any (λ other. eqb other b) back) && are_different back)) (eqb-turned b a)
+    ∙ differ-turned (eqb a b) (list_any (λ other. eqb other a) back) (list_any (λ other. eqb other b) back)
+    (are_different back)
 are_different-exchange (x ∷ front) a b back =
-    ap₂ (λ found rest. not found && rest) (list_any-exchange (λ other. eqb other x) front a b back) (are_different-exchange front a b back)
+    ap₂ (λ found rest. not found && rest) (list_any-exchange (λ other. eqb other x) front a b back)
+    (are_different-exchange front a b back)
 
 in_falling_order-exchange : AllowsExchange in_falling_order
 unfolding in_falling_order
@@ -75,7 +79,8 @@ in_falling_order-exchange front a b back =
 
 -- the low value of ranks
 abbrev value_of : List ℕ → Option (List ℕ)
-value_of ranks = if are_different ranks && list_all (λ rank. leb rank 8) ranks then Some (in_falling_order ranks) else None
+value_of ranks = if are_different ranks && list_all (λ rank. leb rank 8) ranks then Some
+    (in_falling_order ranks) else None
 
 low_value-of : (cards : List Card) → low_value cards ≡ value_of (map low_rank cards)
 unfolding low_value
@@ -83,7 +88,8 @@ low_value-of cards = refl
 
 value_of-exchange : AllowsExchange value_of
 value_of-exchange front a b back =
-    λ i. if are_different-exchange front a b back i && list_all-exchange (λ rank. leb rank 8) front a b back i then Some (in_falling_order-exchange front a b back i) else None
+    λ i. if are_different-exchange front a b back i && list_all-exchange (λ rank. leb rank 8) front a b back i then Some
+    (in_falling_order-exchange front a b back i) else None
 
 low_value-exchange : AllowsExchange low_value
 low_value-exchange front a b back =
@@ -93,15 +99,19 @@ low_value-exchange front a b back =
     ∙ ap value_of (sym (map-append low_rank front (b ∷ a ∷ back)))
     ∙ sym (low_value-of (front ++ b ∷ a ∷ back))
 
-low_ranks-renamed : (suit : ℕ → ℕ) (cards others : List Card) → AreRenamed suit cards others → map low_rank cards ≡ map low_rank others
+low_ranks-renamed : (suit : ℕ → ℕ) (cards others : List Card) → AreRenamed suit cards others
+    → map low_rank cards ≡ map low_rank others
 low_ranks-renamed suit [] [] renamed = refl
 low_ranks-renamed suit [] (other ∷ others) renamed = absurd renamed
 low_ranks-renamed suit (card ∷ cards) [] renamed = absurd renamed
 low_ranks-renamed suit (card ∷ cards) (other ∷ others) renamed =
-    ap₂ (λ rank ranks. (if eqb rank 14 then 1 else rank) ∷ ranks) (sym renamed.0) (low_ranks-renamed suit cards others renamed.2)
+    ap₂ (λ rank ranks. (if eqb rank 14 then 1 else rank) ∷ ranks) (sym renamed.0)
+    (low_ranks-renamed suit cards others renamed.2)
 
-low_value-renamed : (suit : ℕ → ℕ) (cards others : List Card) → AreRenamed suit cards others → low_value cards ≡ low_value others
-low_value-renamed suit cards others renamed = low_value-of cards ∙ ap value_of (low_ranks-renamed suit cards others renamed) ∙ sym (low_value-of others)
+low_value-renamed : (suit : ℕ → ℕ) (cards others : List Card) → AreRenamed suit cards others
+    → low_value cards ≡ low_value others
+low_value-renamed suit cards others renamed = low_value-of cards
+    ∙ ap value_of (low_ranks-renamed suit cards others renamed) ∙ sym (low_value-of others)
 
 pub low-exchange_hole : (board : List Card) → AllowsExchange (λ hole. best_low_of (omaha_choices hole board))
 low-exchange_hole board front a b back =
@@ -115,9 +125,11 @@ low-exchange_board hole front a b back =
     ∙ omaha-exchange_board better_low None better-combining low_value low_value-exchange hole front a b back
     ∙ sym (best_low_of-combined (omaha_choices hole (front ++ b ∷ a ∷ back)))
 
-pub low-renamed : (suit : ℕ → ℕ) (hole others board boards : List Card) → AreRenamed suit hole others → AreRenamed suit board boards
+pub low-renamed : (suit : ℕ → ℕ) (hole others board boards : List Card) → AreRenamed suit hole others
+    → AreRenamed suit board boards
     → best_low_of (omaha_choices hole board) ≡ best_low_of (omaha_choices others boards)
 low-renamed suit hole others board boards of_hole of_board =
     best_low_of-combined (omaha_choices hole board)
-    ∙ omaha-renamed better_low None better-combining suit low_value (low_value-renamed suit) hole others board boards of_hole of_board
+    ∙ omaha-renamed better_low None better-combining suit low_value
+    (low_value-renamed suit) hole others board boards of_hole of_board
     ∙ sym (best_low_of-combined (omaha_choices others boards))

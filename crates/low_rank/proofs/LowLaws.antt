@@ -12,7 +12,8 @@ use Rattle.card_choices.proofs.ListOrder.{min_assoc}
 use Rattle.low_rank.specs.Lows.{low_rank, are_different, low_ranks_down, in_falling_order, better_low, best_low_of, low_value}
 
 -- which of three lows are compared first is the same
-pub better_assoc : (one two three : Option (List ℕ)) → better_low (better_low one two) three ≡ better_low one (better_low two three)
+pub better_assoc : (one two three : Option (List ℕ))
+    → better_low (better_low one two) three ≡ better_low one (better_low two three)
 better_assoc None two three = refl
 better_assoc (Some one) None three = refl
 better_assoc (Some one) (Some two) None = refl
@@ -23,11 +24,13 @@ better-none None = refl
 better-none (Some one) = refl
 
 -- the best low of some choices and of others is the better of the two
-pub best_low_of-append : (some others : List (List Card)) → best_low_of (some ++ others) ≡ better_low (best_low_of some) (best_low_of others)
+pub best_low_of-append : (some others : List (List Card))
+    → best_low_of (some ++ others) ≡ better_low (best_low_of some) (best_low_of others)
 unfolding best_low_of
 best_low_of-append [] others = refl
 best_low_of-append (cards ∷ some) others =
-    ap (better_low (low_value cards)) (best_low_of-append some others) ∙ sym (better_assoc (low_value cards) (best_low_of some) (best_low_of others))
+    ap (better_low (low_value cards)) (best_low_of-append some others)
+    ∙ sym (better_assoc (low_value cards) (best_low_of some) (best_low_of others))
 
 -- the best low of one choice is its own
 pub best_low_of-one : (cards : List Card) → best_low_of (cards ∷ []) ≡ low_value cards
@@ -44,8 +47,15 @@ count-one_more : (test : ℕ → Bool) (rank : ℕ) (ranks : List ℕ) → test 
 count-one_more test rank [] out = refl
 count-one_more test rank (r ∷ ranks) out =
     let later = count-one_more test rank ranks out in
-    rw (sum_by-cons (λ r. cond (eqb rank r || test r) 1 0) r ranks, sum_by-cons (λ r. cond (eqb rank r) 1 0) r ranks, sum_by-cons (λ r. cond (test r) 1 0) r ranks)
-    (elim (eqb rank r) as (λ b. eqb rank r ≡ b → cond (b || test r) 1 0 + count_by (λ s. eqb rank s || test s) ranks ≡ cond b 1 0 + count_by (λ s. eqb rank s) ranks + (cond (test r) 1 0 + count_by test ranks)) [
+    rw (
+      sum_by-cons (λ r. cond (eqb rank r || test r) 1 0) r ranks,
+      sum_by-cons
+          (λ r. cond (eqb rank r) 1 0) r ranks,
+      sum_by-cons (λ r. cond (test r) 1 0) r ranks,
+    )
+    (elim (eqb rank r) as (λ b. eqb rank r ≡ b
+    → cond (b || test r) 1 0 + count_by (λ s. eqb rank s || test s) ranks
+    ≡ cond b 1 0 + count_by (λ s. eqb rank s) ranks + (cond (test r) 1 0 + count_by test ranks)) [
       | true ↦ λ same.
           let there : test r ≡ false = subst (λ s. test s ≡ false) (eqb-true rank r same) out in
           rw there (omega arith)
@@ -65,7 +75,8 @@ negated true h = absurd cc
 negated false h = refl
 
 -- different low ranks are so many of the eight
-pub count-low : (ranks : List ℕ) → are_different ranks ≡ true → list_all (λ rank. leb 1 rank) ranks ≡ true → list_all (λ rank. leb rank 8) ranks ≡ true
+pub count-low : (ranks : List ℕ) → are_different ranks ≡ true → list_all (λ rank. leb 1 rank) ranks ≡ true
+    → list_all (λ rank. leb rank 8) ranks ≡ true
     → count_by (λ rank. list_any (λ other. eqb other rank) ranks) low_ranks_down ≡ length ranks
 count-low [] different from to = refl
 count-low (rank ∷ ranks) different from to =
@@ -77,7 +88,8 @@ count-low (rank ∷ ranks) different from to =
     let one = one_low rank froms.0 tos.0 in
     omega (arith, more, one, later)
 
-pub length-falling : (ranks : List ℕ) → are_different ranks ≡ true → list_all (λ rank. leb 1 rank) ranks ≡ true → list_all (λ rank. leb rank 8) ranks ≡ true → length (in_falling_order ranks) ≡ length ranks
+pub length-falling : (ranks : List ℕ) → are_different ranks ≡ true → list_all (λ rank. leb 1 rank) ranks ≡ true
+    → list_all (λ rank. leb rank 8) ranks ≡ true → length (in_falling_order ranks) ≡ length ranks
 unfolding in_falling_order
 length-falling ranks different from to =
     length-filter (λ rank. list_any (λ other. eqb other rank) ranks) low_ranks_down ∙ count-low ranks different from to
@@ -91,15 +103,20 @@ unfolding in_falling_order
 falling-left ranks = refl
 
 -- there is room for one more
-pub left-room : (test : ℕ → Bool) (items falling all : List ℕ) (count i : ℕ) → i < length items → test (get_or items i 0) ≡ true
-    → count ≤ length falling → length all ≡ length falling → take count falling ++ left_of test items i ≡ all → count < length falling
+pub left-room : (test : ℕ → Bool) (items falling all : List ℕ) (count i : ℕ) → i < length items
+    → test (get_or items i 0) ≡ true
+    → count ≤ length falling → length all ≡ length falling → take count falling ++ left_of test items i ≡ all
+    → count < length falling
 left-room test items falling all count i within there few as_long is =
-    let sum : length (take count falling) + length (left_of test items i) ≡ length falling = sym (length-append (take count falling) (left_of test items i)) ∙ ap length is ∙ as_long in
-    let some : length (left_of test items i) ≡ suc (length (left_of test items (i + 1))) = ap length (left_of-taken test items i within there) in
+    let sum : length (take count falling) + length (left_of test items i) ≡ length falling =
+    sym (length-append (take count falling) (left_of test items i)) ∙ ap length is ∙ as_long in
+    let some : length (left_of test items i) ≡ suc (length (left_of test items (i + 1))) =
+    ap length (left_of-taken test items i within there) in
     let taken : length (take count falling) ≡ count = length-take-le count falling few in
     omega (arith, sum, some, taken)
 
-pub left-taken : (test : ℕ → Bool) (items falling all : List ℕ) (count i : ℕ) → i < length items → test (get_or items i 0) ≡ true
+pub left-taken : (test : ℕ → Bool) (items falling all : List ℕ) (count i : ℕ) → i < length items
+    → test (get_or items i 0) ≡ true
     → count < length falling → take count falling ++ left_of test items i ≡ all
     → take (count + 1) (set falling count (get_or items i 0)) ++ left_of test items (i + 1) ≡ all
 left-taken test items falling all count i within there room is =
@@ -107,23 +124,27 @@ left-taken test items falling all count i within there room is =
     ∙ append_assoc (take count falling) (get_or items i 0 ∷ []) (left_of test items (i + 1))
     ∙ ap (λ xs. take count falling ++ xs) (sym (left_of-taken test items i within there)) ∙ is
 
-pub left-passed : (test : ℕ → Bool) (items falling all : List ℕ) (count i : ℕ) → i < length items → test (get_or items i 0) ≡ false
+pub left-passed : (test : ℕ → Bool) (items falling all : List ℕ) (count i : ℕ) → i < length items
+    → test (get_or items i 0) ≡ false
     → take count falling ++ left_of test items i ≡ all → take count falling ++ left_of test items (i + 1) ≡ all
 left-passed test items falling all count i within not_there is =
     ap (λ xs. take count falling ++ xs) (sym (left_of-passed test items i within not_there)) ∙ is
 
 -- at the end all is written
-pub left-none : (test : ℕ → Bool) (items falling all : List ℕ) (count i : ℕ) → length items ≤ i → count ≤ length falling → length all ≡ length falling
+pub left-none : (test : ℕ → Bool) (items falling all : List ℕ) (count i : ℕ) → length items ≤ i → count ≤ length falling
+    → length all ≡ length falling
     → take count falling ++ left_of test items i ≡ all → falling ≡ all
 left-none test items falling all count i end few as_long is =
     let none : drop i items ≡ [] = drop_all i items end in
-    let written : take count falling ≡ all = sym (append-nil (take count falling)) ∙ ap (λ xs. take count falling ++ filter test xs) (sym none) ∙ is in
+    let written : take count falling ≡ all = sym (append-nil (take count falling))
+    ∙ ap (λ xs. take count falling ++ filter test xs) (sym none) ∙ is in
     let taken : length (take count falling) ≡ count = length-take-le count falling few in
     let whole : count ≡ length falling = omega (arith, taken, ap length written, as_long) in
     sym (take_all count falling (omega arith)) ∙ written
 
 -- one more choice
-pub best_low_of-more : {A : Type 0} (hand : A → List Card) (xs : List A) (i : ℕ) (x : A) (best : Option (List ℕ)) → i < length xs → x ≡ get_or xs i x → best ≡ best_low_of (map hand (take i xs))
+pub best_low_of-more : {A : Type 0} (hand : A → List Card) (xs : List A) (i : ℕ) (x : A) (best : Option (List ℕ))
+    → i < length xs → x ≡ get_or xs i x → best ≡ best_low_of (map hand (take i xs))
     → better_low best (low_value (hand x)) ≡ best_low_of (map hand (take (i + 1) xs))
 best_low_of-more hand xs i x best within at is =
     ap₂ better_low is (sym (best_low_of-one (hand x)))
@@ -132,27 +153,36 @@ best_low_of-more hand xs i x best within at is =
     ∙ ap best_low_of (sym (map_more hand xs i x within))
 
 -- the choices with one more pair
-pub best_low_of-pair : {A : Type 0} (hands : A → List (List Card)) (xs : List A) (i : ℕ) (x : A) (best more : Option (List ℕ)) → i < length xs → x ≡ get_or xs i x → best ≡ best_low_of (flat_map hands (take i xs)) → more ≡ best_low_of (hands x)
+pub best_low_of-pair : {A : Type 0} (hands : A → List (List Card)) (xs : List A) (i : ℕ) (x : A)
+    (best more : Option (List ℕ)) → i < length xs → x ≡ get_or xs i x → best ≡ best_low_of (flat_map hands (take i xs))
+    → more ≡ best_low_of (hands x)
     → better_low best more ≡ best_low_of (flat_map hands (take (i + 1) xs))
 best_low_of-pair hands xs i x best more within at is last =
     ap₂ better_low is last
     ∙ sym (best_low_of-append (flat_map hands (take i xs)) (hands x))
     ∙ ap (λ hs. best_low_of (flat_map hands (take i xs) ++ hs)) (sym (append-nil (hands x)))
     ∙ ap (λ y. best_low_of (flat_map hands (take i xs) ++ flat_map hands (y ∷ []))) at
-    ∙ ap best_low_of (sym (flat_map-append hands (take i xs) (get_or xs i x ∷ [])) ∙ ap (flat_map hands) (sym (take_more xs i x within)))
+    ∙ ap best_low_of (sym (flat_map-append hands (take i xs) (get_or xs i x ∷ []))
+    ∙ ap (flat_map hands) (sym (take_more xs i x within)))
 
 -- five cards qualify, or not
-pub low_value_some : (cards : List Card) (ranks : List ℕ) → ranks ≡ map low_rank cards → are_different ranks ≡ true → list_all (λ rank. leb rank 8) ranks ≡ true → Some (in_falling_order ranks) ≡ low_value cards
+pub low_value_some : (cards : List Card) (ranks : List ℕ) → ranks ≡ map low_rank cards → are_different ranks ≡ true
+    → list_all (λ rank. leb rank 8) ranks ≡ true → Some (in_falling_order ranks) ≡ low_value cards
 unfolding low_value
 low_value_some cards ranks are different to =
-    sym (subst (λ rs. (if (are_different rs && list_all (λ rank. leb rank 8) rs) then Some (in_falling_order rs) else None) ≡ Some (in_falling_order ranks)) are (rw (different, to) refl))
+    sym (subst (λ rs. (if (are_different rs && list_all (λ rank. leb rank 8) rs) then Some
+    (in_falling_order rs) else None) ≡ Some (in_falling_order ranks)) are (rw (different, to) refl))
 
-pub low_value_none : (cards : List Card) (ranks : List ℕ) → ranks ≡ map low_rank cards → (are_different ranks && list_all (λ rank. leb rank 8) ranks) ≡ false → None ≡ low_value cards
+pub low_value_none : (cards : List Card) (ranks : List ℕ) → ranks ≡ map low_rank cards
+    → (are_different ranks && list_all (λ rank. leb rank 8) ranks) ≡ false → None ≡ low_value cards
 unfolding low_value
 low_value_none cards ranks are not_both =
-    sym (subst (λ rs. (if (are_different rs && list_all (λ rank. leb rank 8) rs) then Some (in_falling_order rs) else None) ≡ None) are (rw not_both refl))
+    sym (subst (λ rs. (if (are_different rs && list_all (λ rank. leb rank 8) rs) then Some
+    (in_falling_order rs) else None) ≡ None) are (rw not_both refl))
 
 -- the best low when all choices have been looked at
-pub best_low_of-all : {A : Type 0} (chosen : List A → List (List Card)) (xs ys : List A) (i : ℕ) (best : Option (List ℕ)) → length xs ≤ i → xs ≡ ys → best ≡ best_low_of (chosen (take i xs)) → best ≡ best_low_of (chosen ys)
+pub best_low_of-all : {A : Type 0} (chosen : List A → List (List Card)) (xs ys : List A) (i : ℕ)
+    (best : Option (List ℕ)) → length xs ≤ i → xs ≡ ys → best ≡ best_low_of (chosen (take i xs))
+    → best ≡ best_low_of (chosen ys)
 best_low_of-all chosen xs ys i best end same is =
     is ∙ ap (λ zs. best_low_of (chosen zs)) (take_all i xs end ∙ same)

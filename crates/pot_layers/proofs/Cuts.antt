@@ -23,7 +23,8 @@ pub record IsCut (standings : List Standing) (pots : List Pot) (below total : �
   pub so_far : pots ≡ reverse (pots_to (puts_of standings) below)
   pub paid : total ≡ total_to (puts_of standings) below
   pub top : (below ≡ 0) ⊎ IsTop (puts_of standings) below
-  pub units : (unit : ℕ) → are_whole_puts unit (puts_of standings) ≡ true → (are_whole_pots unit pots ≡ true) × (total % unit ≡ 0)
+  pub units : (unit : ℕ) → are_whole_puts unit (puts_of standings) ≡ true
+      → (are_whole_pots unit pots ≡ true) × (total % unit ≡ 0)
   pub room : length pots + count_by (is_above below) standings ≤ 10
 
 -- What is known once the nearest live player above is found.
@@ -31,7 +32,8 @@ pub record CutsNext (standings : List Standing) (pots : List Pot) (below paid : 
   pub higher : below < next.put.amount
   pub more : paid ≤ next.total
   pub fewer : count_by (is_above next.put.amount) standings < count_by (is_above below) standings
-  pub cut : IsCut standings (pots ++ pot_of (next.total - paid) (live_payers (puts_of standings) next.put.amount) ∷ []) next.put.amount next.total
+  pub cut : IsCut standings (pots ++ pot_of (next.total - paid) (live_payers (puts_of standings) next.put.amount) ∷ [])
+      next.put.amount next.total
 
 -- A player's total is what is put in up to his height.
 stands_right : List Put → Standing → Bool
@@ -39,12 +41,14 @@ stands_right puts standing = standing.total == total_to puts standing.put.amount
 
 all-stand_right : (puts all : List Put) → list_all (stands_right all) (map (standing_of all) puts) ≡ true
 unfolding stands_right
-all-stand_right puts all = list_all-map (stands_right all) (standing_of all) puts ∙ list_all-always (λ put. stands_right all (standing_of all put)) puts (λ put. same (total_to all put.amount))
+all-stand_right puts all = list_all-map (stands_right all) (standing_of all) puts
+    ∙ list_all-always (λ put. stands_right all (standing_of all put)) puts (λ put. same (total_to all put.amount))
   where
     same : (n : ℕ) → (n == n) ≡ true
     same n = grind (arith, nat_tests)
 
-right-total : (puts : List Put) (standing : Standing) → stands_right puts standing ≡ true → standing.total ≡ total_to puts standing.put.amount
+right-total : (puts : List Put) (standing : Standing) → stands_right puts standing ≡ true
+    → standing.total ≡ total_to puts standing.put.amount
 unfolding stands_right
 right-total puts standing is = equal standing.total (total_to puts standing.put.amount) is
   where
@@ -57,18 +61,24 @@ higher-amount false below amount is = absurd cc
 
 -- The nearest live player above cuts the next pot.
 pub cuts-next : (standings : List Standing) (pots : List Pot) (below paid : ℕ) (next : Standing)
-    → standings ≡ map (standing_of (puts_of standings)) (puts_of standings) → IsCut standings pots below paid → fold (nearer below) None standings ≡ Some next → CutsNext standings pots below paid next
+    → standings ≡ map (standing_of (puts_of standings)) (puts_of standings) → IsCut standings pots below paid
+    → fold (nearer below) None standings ≡ Some next → CutsNext standings pots below paid next
 cuts-next standings pots below paid next right cut found =
     let puts = puts_of standings in
-    let all_right : list_all (stands_right puts) standings ≡ true = subst (λ (s : List Standing). list_all (stands_right puts) s ≡ true) (sym right) (all-stand_right puts puts) in
-    let nearest = nearest-found (stands_right puts) below None standings next (λ before was. absurd cc) all_right found in
+    let all_right : list_all (stands_right puts) standings ≡ true =
+    subst (λ (s : List Standing). list_all (stands_right puts) s ≡ true) (sym right) (all-stand_right puts puts) in
+    let nearest = nearest-found (stands_right puts) below None standings next
+    (λ before was. absurd cc) all_right found in
     let higher = higher-amount next.put.live below next.put.amount nearest.above in
-    let there : list_any (stands_at next.put.amount) standings ≡ true = elim nearest.there [ inl none ↦ absurd cc | inr some ↦ some ] in
+    let there : list_any (stands_at next.put.amount) standings ≡ true =
+    elim nearest.there [ inl none ↦ absurd cc | inr some ↦ some ] in
     let total = right-total puts next nearest.passes in
     let fewer = above-falls standings below next.put.amount higher there in
     let stands : list_any (is_live_at next.put.amount) puts ≡ true = there-puts_of standings next.put.amount there in
-    let pot = next-cut puts below next.put.amount cut.top higher (outside-puts_of standings below next.put.amount nearest.least) stands in
-    let pot_is : pot_of (total_to puts next.put.amount - total_to puts below) (live_payers puts next.put.amount) ≡ pot_of (next.total - paid) (live_payers puts next.put.amount) = rw (total, cut.paid) in
+    let pot = next-cut puts below next.put.amount cut.top higher
+    (outside-puts_of standings below next.put.amount nearest.least) stands in
+    let pot_is : pot_of (total_to puts next.put.amount - total_to puts below) (live_payers puts next.put.amount)
+    ≡ pot_of (next.total - paid) (live_payers puts next.put.amount) = rw (total, cut.paid) in
     record {
       higher = higher;
       more = rw (total, cut.paid) (total_to-grows puts below next.put.amount (omega arith));
@@ -80,12 +90,28 @@ cuts-next standings pots below paid next right cut found =
             ∙ ap (λ top. reverse (top ∷ pots_to puts below)) (sym pot_is)
             ∙ ap reverse (sym pot);
         paid = total;
-        top = inr (record { amount = total_to puts next.put.amount - total_to puts below; rest = pots_to puts below; cut = pot; within = omega arith; there = stands });
+        top = inr (record {
+          amount = total_to puts next.put.amount - total_to puts below;
+          rest =
+              pots_to puts below;
+          cut = pot;
+          within = omega arith;
+          there = stands;
+        });
         units = λ unit whole.
             let before = cut.units unit whole in
-            let after : next.total % unit ≡ 0 = rw total (total_to-whole puts next.put.amount unit whole (there-whole puts next.put.amount unit whole stands)) in (
-              list_all-append (λ (p : Pot). p.amount % unit == 0) pots (pot_of (next.total - paid) (live_payers puts next.put.amount) ∷ [])
-                  ∙ rw (before.0, eqb_true (next.total - paid) unit (whole-minus next.total paid unit (rw (total, cut.paid) (total_to-grows puts below next.put.amount (omega arith))) after before.1)),
+            let after : next.total % unit ≡ 0 =
+            rw total (total_to-whole puts next.put.amount unit whole
+            (there-whole puts next.put.amount unit whole stands)) in (
+              list_all-append (λ (p : Pot). p.amount % unit == 0) pots
+                  (pot_of (next.total - paid) (live_payers puts next.put.amount) ∷ [])
+                  ∙ rw (
+                    before.0,
+                    eqb_true (next.total - paid) unit
+                        (whole-minus next.total paid unit
+                        (rw (total, cut.paid) (total_to-grows puts below next.put.amount (omega arith))) after
+                        before.1),
+                  ),
               after,
             );
         room = rw length-append (omega (arith, cut.room, fewer));
@@ -100,7 +126,8 @@ pub record IsWhole (standings : List Standing) (pots : List Pot) (total paid : �
   pub least : paid ≤ total
   pub within : last.amount ≤ paid
   pub all : below ++ record last { amount = last.amount + (total - paid) } ∷ [] ≡ layers (puts_of standings)
-  pub units : (unit : ℕ) → are_whole_puts unit (puts_of standings) ≡ true → are_whole_pots unit (layers (puts_of standings)) ≡ true
+  pub units : (unit : ℕ) → are_whole_puts unit (puts_of standings) ≡ true
+      → are_whole_pots unit (layers (puts_of standings)) ≡ true
 
 nobody-in : (live : Bool) (amount : ℕ) → (not live || nat_le amount 0) ≡ true → (live && nat_le 1 amount) ≡ false
 nobody-in true amount within = grind (arith, nat_tests)
@@ -109,27 +136,36 @@ nobody-in false amount within = refl
 true≢false : true ≡ false → ⊥
 true≢false same = cc
 
-at-most : (puts : List Put) (amount most : ℕ) → list_all (λ put. nat_le put.amount most) puts ≡ true → list_any (is_live_at amount) puts ≡ true → amount ≤ most
+at-most : (puts : List Put) (amount most : ℕ) → list_all (λ put. nat_le put.amount most) puts ≡ true
+    → list_any (is_live_at amount) puts ≡ true → amount ≤ most
 at-most [] amount most all there = absurd cc
 at-most (put ∷ more) amount most all there =
-    by_first (is_live_at amount put) refl (λ rest. at-most more amount most (and-right (nat_le put.amount most) (list_all (λ other. nat_le other.amount most) more) all) rest)
+    by_first (is_live_at amount put) refl
+    (λ rest. at-most more amount most
+    (and-right (nat_le put.amount most) (list_all (λ other. nat_le other.amount most) more) all) rest)
   where
     here : (live : Bool) (own : ℕ) → (live && (own == amount)) ≡ true → nat_le own most ≡ true → amount ≤ most
     here true own is under = grind (arith, nat_tests)
     here false own is under = absurd cc
 
-    by_first : (first : Bool) → is_live_at amount put ≡ first → (list_any (is_live_at amount) more ≡ true → amount ≤ most) → amount ≤ most
-    by_first true is others = here put.live put.amount is (and-left (nat_le put.amount most) (list_all (λ other. nat_le other.amount most) more) all)
+    by_first : (first : Bool) → is_live_at amount put ≡ first
+        → (list_any (is_live_at amount) more ≡ true → amount ≤ most) → amount ≤ most
+    by_first true is others =
+        here put.live put.amount is
+        (and-left (nat_le put.amount most) (list_all (λ other. nat_le other.amount most) more) all)
     by_first false is others = others (rw is at there)
 
 -- Where no live player is above, what is left goes into the top pot.
-pub is-whole : (standings : List Standing) (pots : List Pot) (below paid total : ℕ) → IsCut standings pots below paid → fold (nearer below) None standings ≡ None → is_contested (puts_of standings) ≡ true
+pub is-whole : (standings : List Standing) (pots : List Pot) (below paid total : ℕ) → IsCut standings pots below paid
+    → fold (nearer below) None standings ≡ None → is_contested (puts_of standings) ≡ true
     → total ≡ total_put (puts_of standings) → IsWhole standings pots total paid
 unfolding layers
 is-whole standings pots below paid total cut none contested whole = elim cut.top [
   | inl first ↦
       let within = within-puts_of standings below (none-above below None standings none).1 in
-      let nobody : is_contested (puts_of standings) ≡ false = list_any-none (is_within 0) (is_eligible 1) (puts_of standings) (λ put is. nobody-in put.live put.amount is) (rw first at within) in
+      let nobody : is_contested (puts_of standings) ≡ false =
+      list_any-none (is_within 0) (is_eligible 1) (puts_of standings) (λ put is. nobody-in put.live put.amount is)
+      (rw first at within) in
       absurd (true≢false (sym contested ∙ nobody))
   | inr top ↦
       let puts = puts_of standings in
@@ -138,9 +174,12 @@ is-whole standings pots below paid total cut none contested whole = elim cut.top
       let all = above-top puts below (greatest_put puts) top within least in
       let greatest = total_to-greatest puts in
       let grows = total_to-grows puts below (greatest_put puts) least in
-      let left : total - paid ≡ total_to puts (greatest_put puts) - total_to puts below = rw (cut.paid, whole, ← greatest) in
-      let ends : pots ≡ reverse top.rest ++ pot_of top.amount (live_payers puts below) ∷ [] = cut.so_far ∙ ap reverse top.cut ∙ reverse-cons (pot_of top.amount (live_payers puts below)) top.rest in
-      let all_is : reverse top.rest ++ pot_of (top.amount + (total - paid)) (live_payers puts below) ∷ [] ≡ layers puts =
+      let left : total - paid ≡ total_to puts (greatest_put puts) - total_to puts below =
+      rw (cut.paid, whole, ← greatest) in
+      let ends : pots ≡ reverse top.rest ++ pot_of top.amount (live_payers puts below) ∷ [] = cut.so_far
+      ∙ ap reverse top.cut ∙ reverse-cons (pot_of top.amount (live_payers puts below)) top.rest in
+      let all_is : reverse top.rest ++ pot_of (top.amount + (total - paid)) (live_payers puts below) ∷ []
+      ≡ layers puts =
       sym (reverse-cons (pot_of (top.amount + (total - paid)) (live_payers puts below)) top.rest)
       ∙ ap (λ left. reverse (pot_of (top.amount + left) (live_payers puts below) ∷ top.rest)) left
       ∙ ap reverse (sym all) in
@@ -155,7 +194,8 @@ is-whole standings pots below paid total cut none contested whole = elim cut.top
             let before = cut.units unit whole_puts in
             let total_is : total % unit ≡ 0 = rw whole (total_put-whole puts unit whole_puts) in
             subst (λ (p : List Pot). are_whole_pots unit p ≡ true) all_is
-            (last-whole unit (reverse top.rest) top.amount (total - paid) (live_payers puts below) (subst (λ (p : List Pot). are_whole_pots unit p ≡ true) ends before.0)
+            (last-whole unit (reverse top.rest) top.amount (total - paid) (live_payers puts below)
+            (subst (λ (p : List Pot). are_whole_pots unit p ≡ true) ends before.0)
             (whole-minus total paid unit (rw (cut.paid, whole, ← greatest) grows) total_is before.1));
       }
 ]

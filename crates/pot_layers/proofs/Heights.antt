@@ -15,7 +15,8 @@ min-suc : (amount height : ℕ) → min amount (suc height) ≡ min amount heigh
 min-suc amount height = grind (arith, nat_tests)
 
 -- What is put in up to the next height is more by that height's payments.
-pub total_to-suc : (puts : List Put) (height : ℕ) → total_to puts (suc height) ≡ total_to puts height + payments puts (suc height)
+pub total_to-suc : (puts : List Put) (height : ℕ)
+    → total_to puts (suc height) ≡ total_to puts height + payments puts (suc height)
 total_to-suc [] height = refl
 total_to-suc (put ∷ more) height =
     let before = sum_by-cons (λ (p : Put). min p.amount height) put more in
@@ -27,11 +28,13 @@ total_to-suc (put ∷ more) height =
 
 -- What is put in up to a height is no more than up to a greater one.
 pub total_to-grows : (puts : List Put) (low high : ℕ) → low ≤ high → total_to puts low ≤ total_to puts high
-total_to-grows puts low high under = sum_by-le-sum_by (λ (put : Put). min put.amount low) (λ put. min put.amount high) puts (λ put. omega arith)
+total_to-grows puts low high under =
+    sum_by-le-sum_by (λ (put : Put). min put.amount low) (λ put. min put.amount high) puts (λ put. omega arith)
 
 -- What is put in up to a height is no more than all.
 pub total_to-le : (puts : List Put) (height : ℕ) → total_to puts height ≤ total_put puts
-total_to-le puts height = sum_by-le-sum_by (λ (put : Put). min put.amount height) (λ put. put.amount) puts (λ put. omega arith)
+total_to-le puts height = sum_by-le-sum_by (λ (put : Put). min put.amount height) (λ put. put.amount) puts
+    (λ put. omega arith)
 
 -- Nothing is put in up to height 0.
 pub total_to-zero : (puts : List Put) → total_to puts 0 ≡ 0
@@ -41,15 +44,19 @@ total_to-zero (put ∷ more) =
     omega (arith, first, total_to-zero more)
 
 -- The greatest so far is not above the greatest of all.
-greatest-grows : (least : ℕ) (puts : List Put) → least ≤ fold (λ greatest (put : Put). max greatest put.amount) least puts
+greatest-grows : (least : ℕ) (puts : List Put)
+    → least ≤ fold (λ greatest (put : Put). max greatest put.amount) least puts
 greatest-grows least [] = omega arith
 greatest-grows least (put ∷ more) = omega (arith, greatest-grows (max least put.amount) more)
 
 -- Nobody has put in more than the greatest of all.
-greatest-most : (least : ℕ) (puts : List Put) → list_all (λ put. nat_le put.amount (fold (λ greatest (put : Put). max greatest put.amount) least puts)) puts ≡ true
+greatest-most : (least : ℕ) (puts : List Put)
+    → list_all (λ put. nat_le put.amount (fold (λ greatest (put : Put). max greatest put.amount) least puts)) puts
+    ≡ true
 greatest-most least [] = refl
 greatest-most least (put ∷ more) =
-    rw (le_true put.amount (fold (λ greatest (put : Put). max greatest put.amount) (max least put.amount) more) (omega (arith, greatest-grows (max least put.amount) more)))
+    rw (le_true put.amount (fold (λ greatest (put : Put). max greatest put.amount) (max least put.amount) more)
+    (omega (arith, greatest-grows (max least put.amount) more)))
     (greatest-most (max least put.amount) more)
   where
     le_true : (a b : ℕ) → a ≤ b → nat_le a b ≡ true
@@ -61,7 +68,8 @@ greatest_put-most puts = greatest-most 0 puts
 -- Up to the greatest amount put in, everything is put in.
 pub total_to-greatest : (puts : List Put) → total_to puts (greatest_put puts) ≡ total_put puts
 total_to-greatest puts =
-    sum_by-agree (λ (put : Put). min put.amount (greatest_put puts)) (λ put. put.amount) (λ put. nat_le put.amount (greatest_put puts)) puts
+    sum_by-agree (λ (put : Put). min put.amount (greatest_put puts)) (λ put. put.amount)
+    (λ put. nat_le put.amount (greatest_put puts)) puts
     (λ put under. within put.amount (greatest_put puts) under) (greatest_put-most puts)
   where
     within : (amount most : ℕ) → nat_le amount most ≡ true → min amount most ≡ amount
@@ -79,31 +87,39 @@ is_live_at height put = put.live && (put.amount == height)
 abbrev pub is_within : ℕ → Put → Bool
 is_within height put = not put.live || nat_le put.amount height
 
-eligible_outside : (live : Bool) (amount below between height : ℕ) → (not live || (nat_le amount below || nat_le height amount)) ≡ true → below < between → between ≤ height
+eligible_outside : (live : Bool) (amount below between height : ℕ)
+    → (not live || (nat_le amount below || nat_le height amount)) ≡ true → below < between → between ≤ height
     → (live && nat_le between amount) ≡ (live && nat_le height amount)
 eligible_outside true amount below between height out low high = grind (arith, nat_tests)
 eligible_outside false amount below between height out low high = refl
 
 -- Heights between which no live player's amount lies have the same live payers.
-pub live_payers-between : (puts : List Put) (below between height : ℕ) → list_all (is_outside below height) puts ≡ true → below < between → between ≤ height
+pub live_payers-between : (puts : List Put) (below between height : ℕ) → list_all (is_outside below height) puts ≡ true
+    → below < between → between ≤ height
     → live_payers puts between ≡ live_payers puts height
 live_payers-between puts below between height out low high =
-    map-agree (is_eligible between) (is_eligible height) (is_outside below height) puts (λ put is. eligible_outside put.live put.amount below between height is low high) out
+    map-agree (is_eligible between) (is_eligible height) (is_outside below height) puts
+    (λ put is. eligible_outside put.live put.amount below between height is low high) out
 
-not_eligible : (live : Bool) (amount below height : ℕ) → (not live || nat_le amount below) ≡ true → below < height → not (live && nat_le height amount) ≡ true
+not_eligible : (live : Bool) (amount below height : ℕ) → (not live || nat_le amount below) ≡ true → below < height
+    → not (live && nat_le height amount) ≡ true
 not_eligible true amount below height within above = grind (arith, nat_tests)
 not_eligible false amount below height within above = refl
 
 -- Above the greatest amount of a live player a height has no live payer.
-pub live_payers-above : (puts : List Put) (below height : ℕ) → list_all (is_within below) puts ≡ true → below < height → is_nobody (live_payers puts height) ≡ true
+pub live_payers-above : (puts : List Put) (below height : ℕ) → list_all (is_within below) puts ≡ true → below < height
+    → is_nobody (live_payers puts height) ≡ true
 live_payers-above puts below height within above =
     list_all-map (λ is_in. not is_in) (is_eligible height) puts
-    ∙ list_all-implied (is_within below) (λ put. not (is_eligible height put)) puts (λ put is. not_eligible put.live put.amount below height is above) within
+    ∙ list_all-implied (is_within below) (λ put. not (is_eligible height put)) puts
+    (λ put is. not_eligible put.live put.amount below height is above) within
 
 -- A height that a live player reaches has a live payer.
-pub live_payers-somebody : (puts : List Put) (reached height : ℕ) → list_any (is_live_at reached) puts ≡ true → height ≤ reached → is_nobody (live_payers puts height) ≡ false
+pub live_payers-somebody : (puts : List Put) (reached height : ℕ) → list_any (is_live_at reached) puts ≡ true
+    → height ≤ reached → is_nobody (live_payers puts height) ≡ false
 live_payers-somebody [] reached height there under = absurd cc
-live_payers-somebody (put ∷ more) reached height there under = by_first (put.live && (put.amount == reached)) refl (λ rest. live_payers-somebody more reached height rest under)
+live_payers-somebody (put ∷ more) reached height there under =
+    by_first (put.live && (put.amount == reached)) refl (λ rest. live_payers-somebody more reached height rest under)
   where
     eligible : (live : Bool) (amount : ℕ) → (live && (amount == reached)) ≡ true → (live && nat_le height amount) ≡ true
     eligible true amount is = grind (arith, nat_tests)
@@ -113,9 +129,12 @@ live_payers-somebody (put ∷ more) reached height there under = by_first (put.l
     later true rest is = is
     later false rest is = refl
 
-    by_first : (first : Bool) → (put.live && (put.amount == reached)) ≡ first → (list_any (is_live_at reached) more ≡ true → is_nobody (live_payers more height) ≡ false) → is_nobody (live_payers (put ∷ more) height) ≡ false
+    by_first : (first : Bool) → (put.live && (put.amount == reached)) ≡ first
+        → (list_any (is_live_at reached) more ≡ true → is_nobody (live_payers more height) ≡ false)
+        → is_nobody (live_payers (put ∷ more) height) ≡ false
     by_first true is others = rw (eligible put.live put.amount is)
-    by_first false is others = later (not (is_eligible height put)) (is_nobody (live_payers more height)) (others (rw is at there))
+    by_first false is others = later (not (is_eligible height put)) (is_nobody (live_payers more height))
+        (others (rw is at there))
 
 -- A set has the same seats as itself.
 pub are_same_seats-self : (set : List Bool) → are_same_seats set set ≡ true
@@ -124,10 +143,12 @@ are_same_seats-self (true ∷ more) = are_same_seats-self more
 are_same_seats-self (false ∷ more) = are_same_seats-self more
 
 -- Who has put in just this amount does not pay a greater height.
-pub live_payers-differ : (puts : List Put) (reached height : ℕ) → list_any (is_live_at reached) puts ≡ true → reached < height
+pub live_payers-differ : (puts : List Put) (reached height : ℕ) → list_any (is_live_at reached) puts ≡ true
+    → reached < height
     → are_same_seats (live_payers puts reached) (live_payers puts height) ≡ false
 live_payers-differ [] reached height there above = absurd cc
-live_payers-differ (put ∷ more) reached height there above = by_first (put.live && (put.amount == reached)) refl (λ rest. live_payers-differ more reached height rest above)
+live_payers-differ (put ∷ more) reached height there above =
+    by_first (put.live && (put.amount == reached)) refl (λ rest. live_payers-differ more reached height rest above)
   where
     pays : (live : Bool) (amount : ℕ) → (live && (amount == reached)) ≡ true → (live && nat_le reached amount) ≡ true
     pays true amount is = grind (arith, nat_tests)
@@ -141,8 +162,11 @@ live_payers-differ (put ∷ more) reached height there above = by_first (put.liv
     later true rest is = is
     later false rest is = refl
 
-    by_first : (first : Bool) → (put.live && (put.amount == reached)) ≡ first → (list_any (is_live_at reached) more ≡ true → are_same_seats (live_payers more reached) (live_payers more height) ≡ false)
+    by_first : (first : Bool) → (put.live && (put.amount == reached)) ≡ first
+        → (list_any (is_live_at reached) more ≡ true
+        → are_same_seats (live_payers more reached) (live_payers more height) ≡ false)
         → are_same_seats (live_payers (put ∷ more) reached) (live_payers (put ∷ more) height) ≡ false
     by_first true is others = rw (pays put.live put.amount is, stops put.live put.amount is)
     by_first false is others =
-        later (cond (is_eligible reached put) (is_eligible height put) (not (is_eligible height put))) (are_same_seats (live_payers more reached) (live_payers more height)) (others (rw is at there))
+        later (cond (is_eligible reached put) (is_eligible height put) (not (is_eligible height put)))
+        (are_same_seats (live_payers more reached) (live_payers more height)) (others (rw is at there))

@@ -15,18 +15,22 @@ and-right true b both = both
 and-right false b both = absurd cc
 
 -- What holds of all items holds of all in which it implies another test.
-pub list_all-implied : {A : Type 0} (p q : A → Bool) (items : List A) → ((item : A) → p item ≡ true → q item ≡ true) → list_all p items ≡ true → list_all q items ≡ true
+pub list_all-implied : {A : Type 0} (p q : A → Bool) (items : List A) → ((item : A) → p item ≡ true → q item ≡ true)
+    → list_all p items ≡ true → list_all q items ≡ true
 list_all-implied p q [] implies all = refl
 list_all-implied p q (item ∷ more) implies all =
-    rw (implies item (and-left (p item) (list_all p more) all)) (list_all-implied p q more implies (and-right (p item) (list_all p more) all))
+    rw (implies item (and-left (p item) (list_all p more) all))
+    (list_all-implied p q more implies (and-right (p item) (list_all p more) all))
 
 -- A test that holds of every item whatever it is holds of all.
-pub list_all-always : {A : Type 0} (p : A → Bool) (items : List A) → ((item : A) → p item ≡ true) → list_all p items ≡ true
+pub list_all-always : {A : Type 0} (p : A → Bool) (items : List A) → ((item : A) → p item ≡ true)
+    → list_all p items ≡ true
 list_all-always p [] always = refl
 list_all-always p (item ∷ more) always = rw (always item) (list_all-always p more always)
 
 -- Two functions that agree where a test holds map a list alike of which all items pass the test.
-pub map-agree : {A B : Type 0} (f g : A → B) (p : A → Bool) (items : List A) → ((item : A) → p item ≡ true → f item ≡ g item) → list_all p items ≡ true → map f items ≡ map g items
+pub map-agree : {A B : Type 0} (f g : A → B) (p : A → Bool) (items : List A)
+    → ((item : A) → p item ≡ true → f item ≡ g item) → list_all p items ≡ true → map f items ≡ map g items
 map-agree f g p [] agree all = refl
 map-agree f g p (item ∷ more) agree all =
     let first = agree item (and-left (p item) (list_all p more) all) in
@@ -34,7 +38,8 @@ map-agree f g p (item ∷ more) agree all =
     cc
 
 -- The same of sums.
-pub sum_by-agree : {A : Type 0} (f g : A → ℕ) (p : A → Bool) (items : List A) → ((item : A) → p item ≡ true → f item ≡ g item) → list_all p items ≡ true → sum_by f items ≡ sum_by g items
+pub sum_by-agree : {A : Type 0} (f g : A → ℕ) (p : A → Bool) (items : List A)
+    → ((item : A) → p item ≡ true → f item ≡ g item) → list_all p items ≡ true → sum_by f items ≡ sum_by g items
 sum_by-agree f g p [] agree all = refl
 sum_by-agree f g p (item ∷ more) agree all =
     let first = agree item (and-left (p item) (list_all p more) all) in
@@ -42,32 +47,39 @@ sum_by-agree f g p (item ∷ more) agree all =
     rw (sum_by-cons f item more, sum_by-cons g item more, first, others)
 
 -- A test that holds of some item, of which it implies another.
-pub list_any-implied : {A : Type 0} (p q : A → Bool) (items : List A) → ((item : A) → p item ≡ true → q item ≡ true) → list_any p items ≡ true → list_any q items ≡ true
+pub list_any-implied : {A : Type 0} (p q : A → Bool) (items : List A) → ((item : A) → p item ≡ true → q item ≡ true)
+    → list_any p items ≡ true → list_any q items ≡ true
 list_any-implied p q [] implies some = some
-list_any-implied p q (item ∷ more) implies some = by_first (p item) refl (λ rest. list_any-implied p q more implies rest)
+list_any-implied p q (item ∷ more) implies some =
+    by_first (p item) refl (λ rest. list_any-implied p q more implies rest)
   where
     later : (b rest : Bool) → rest ≡ true → (b || rest) ≡ true
     later true rest is = refl
     later false rest is = is
 
-    by_first : (first : Bool) → p item ≡ first → (list_any p more ≡ true → list_any q more ≡ true) → list_any q (item ∷ more) ≡ true
+    by_first : (first : Bool) → p item ≡ first → (list_any p more ≡ true → list_any q more ≡ true)
+        → list_any q (item ∷ more) ≡ true
     by_first true is others = rw (implies item is)
     by_first false is others = later (q item) (list_any q more) (others (rw is at some))
 
 -- A test that fails of all items holds of none.
-pub list_any-none : {A : Type 0} (p q : A → Bool) (items : List A) → ((item : A) → p item ≡ true → q item ≡ false) → list_all p items ≡ true → list_any q items ≡ false
+pub list_any-none : {A : Type 0} (p q : A → Bool) (items : List A) → ((item : A) → p item ≡ true → q item ≡ false)
+    → list_all p items ≡ true → list_any q items ≡ false
 list_any-none p q [] fails all = refl
 list_any-none p q (item ∷ more) fails all =
-    rw (fails item (and-left (p item) (list_all p more) all)) (list_any-none p q more fails (and-right (p item) (list_all p more) all))
+    rw (fails item (and-left (p item) (list_all p more) all))
+    (list_any-none p q more fails (and-right (p item) (list_all p more) all))
 
 -- The first item of a list is the last of the list reversed.
 pub reverse-cons : {A : Type 0} (item : A) (more : List A) → reverse (item ∷ more) ≡ reverse more ++ item ∷ []
 reverse-cons item more = reverse-append (item ∷ []) more
 
 -- A list has one last item.
-pub same-last : {A : Type 0} (items others : List A) (item other : A) → items ++ item ∷ [] ≡ others ++ other ∷ [] → item ≡ other
+pub same-last : {A : Type 0} (items others : List A) (item other : A) → items ++ item ∷ [] ≡ others ++ other ∷ []
+    → item ≡ other
 same-last items others item other same =
-    let turned : item ∷ reverse items ≡ other ∷ reverse others = sym (reverse-append items (item ∷ [])) ∙ ap reverse same ∙ reverse-append others (other ∷ []) in
+    let turned : item ∷ reverse items ≡ other ∷ reverse others = sym (reverse-append items (item ∷ []))
+    ∙ ap reverse same ∙ reverse-append others (other ∷ []) in
     cc
 
 -- A test whose contrary holds fails, and one whose contrary fails holds.

@@ -19,24 +19,32 @@ abbrev pub stands_at : ℕ → Standing → Bool
 stands_at amount standing = is_live_at amount standing.put
 
 -- Where nobody is found, nobody is above.
-pub none-above : (below : ℕ) (so_far : Option Standing) (standings : List Standing) → fold (nearer below) so_far standings ≡ None
+pub none-above : (below : ℕ) (so_far : Option Standing) (standings : List Standing)
+    → fold (nearer below) so_far standings ≡ None
     → (so_far ≡ None) × (list_all (λ standing. not (is_above below standing)) standings ≡ true)
 none-above below so_far [] none = (none, refl)
-none-above below None (standing ∷ more) none = (refl, by_test (is_above below standing) refl (none-above below (nearer below None standing) more none))
+none-above below None (standing ∷ more) none =
+    (refl, by_test (is_above below standing) refl (none-above below (nearer below None standing) more none))
   where
-    by_test : (above : Bool) → is_above below standing ≡ above → (nearer below None standing ≡ None) × (list_all (λ other. not (is_above below other)) more ≡ true)
+    by_test : (above : Bool) → is_above below standing ≡ above
+        → (nearer below None standing ≡ None) × (list_all (λ other. not (is_above below other)) more ≡ true)
         → list_all (λ other. not (is_above below other)) (standing ∷ more) ≡ true
     by_test true is later = let found : Some standing ≡ None = rw is at later.0 in absurd cc
     by_test false is later = rw is later.1
-none-above below (Some best) (standing ∷ more) none = by_test (is_not_nearer below best.put.amount standing) refl (none-above below (nearer below (Some best) standing) more none)
+none-above below (Some best) (standing ∷ more) none =
+    by_test (is_not_nearer below best.put.amount standing) refl
+    (none-above below (nearer below (Some best) standing) more none)
   where
-    by_test : (keeps : Bool) → is_not_nearer below best.put.amount standing ≡ keeps → (nearer below (Some best) standing ≡ None) × (list_all (λ other. not (is_above below other)) more ≡ true)
+    by_test : (keeps : Bool) → is_not_nearer below best.put.amount standing ≡ keeps
+        → (nearer below (Some best) standing ≡ None) × (list_all (λ other. not (is_above below other)) more ≡ true)
         → (Some best ≡ None) × (list_all (λ other. not (is_above below other)) (standing ∷ more) ≡ true)
     by_test true is later = let found : Some best ≡ None = rw is at later.0 in absurd cc
     by_test false is later = let found : Some standing ≡ None = rw is at later.0 in absurd cc
 
--- What holds of the player who is found: he is above, nobody else above is nearer, he is one of those looked at, and he passes each test that all pass.
-pub record IsNearest (test : Standing → Bool) (below : ℕ) (so_far : Option Standing) (standings : List Standing) (best : Standing) : Type 0 where
+-- What holds of the player who is found: he is above, nobody else above is nearer, he is one of those looked at, and he
+-- passes each test that all pass.
+pub record IsNearest (test : Standing → Bool) (below : ℕ) (so_far : Option Standing) (standings : List Standing)
+    (best : Standing) : Type 0 where
   pub above : is_above below best ≡ true
   pub least : list_all (is_not_nearer below best.put.amount) standings ≡ true
   pub under : (before : Standing) → so_far ≡ Some before → best.put.amount ≤ before.put.amount
@@ -45,9 +53,11 @@ pub record IsNearest (test : Standing → Bool) (below : ℕ) (so_far : Option S
 
 -- The one so far is above and passes the test.
 abbrev pub IsGoodStart : (Standing → Bool) → ℕ → Option Standing → Type 0
-IsGoodStart test below so_far = (before : Standing) → so_far ≡ Some before → (is_above below before ≡ true) × (test before ≡ true)
+IsGoodStart test below so_far = (before : Standing) → so_far ≡ Some before
+    → (is_above below before ≡ true) × (test before ≡ true)
 
-stands_at-self : (live : Bool) (below amount : ℕ) → (live && nat_lt below amount) ≡ true → (live && (amount == amount)) ≡ true
+stands_at-self : (live : Bool) (below amount : ℕ) → (live && nat_lt below amount) ≡ true
+    → (live && (amount == amount)) ≡ true
 stands_at-self true below amount above = grind (arith, nat_tests)
 stands_at-self false below amount above = above
 
@@ -62,16 +72,20 @@ true_le : (a b : ℕ) → nat_le a b ≡ true → a ≤ b
 true_le a b is = grind (arith, nat_tests)
 
 -- One who was not nearer than the one so far is not nearer than one who is at least as near.
-not_nearer-more : (above : Bool) (before best amount : ℕ) → (not above || nat_le before amount) ≡ true → best ≤ before → (not above || nat_le best amount) ≡ true
+not_nearer-more : (above : Bool) (before best amount : ℕ) → (not above || nat_le before amount) ≡ true → best ≤ before
+    → (not above || nat_le best amount) ≡ true
 not_nearer-more true before best amount is under = grind (arith, nat_tests)
 not_nearer-more false before best amount is under = refl
 
-is_nearer : (above : Bool) (before amount : ℕ) → (not above || nat_le before amount) ≡ false → (above ≡ true) × (amount ≤ before)
+is_nearer : (above : Bool) (before amount : ℕ) → (not above || nat_le before amount) ≡ false
+    → (above ≡ true) × (amount ≤ before)
 is_nearer true before amount is = (refl, grind (arith, nat_tests))
 is_nearer false before amount is = absurd cc
 
-pub nearest-found : (test : Standing → Bool) (below : ℕ) (so_far : Option Standing) (standings : List Standing) (best : Standing)
-    → IsGoodStart test below so_far → list_all test standings ≡ true → fold (nearer below) so_far standings ≡ Some best → IsNearest test below so_far standings best
+pub nearest-found : (test : Standing → Bool) (below : ℕ) (so_far : Option Standing) (standings : List Standing)
+    (best : Standing)
+    → IsGoodStart test below so_far → list_all test standings ≡ true → fold (nearer below) so_far standings ≡ Some best
+    → IsNearest test below so_far standings best
 nearest-found test below so_far [] best start all found = record {
   above = (start best found).0;
   least = refl;
@@ -79,20 +93,30 @@ nearest-found test below so_far [] best start all found = record {
   there = inl found;
   passes = (start best found).1;
 }
-nearest-found test below None (standing ∷ more) best start all found = by_test (is_above below standing) refl (λ good. nearest-found test below (nearer below None standing) more best good (and-right (test standing) (list_all test more) all) found)
+nearest-found test below None (standing ∷ more) best start all found =
+    by_test (is_above below standing) refl
+    (λ good. nearest-found test below (nearer below None standing) more best good
+    (and-right (test standing) (list_all test more) all) found)
   where
-    by_test : (above : Bool) → is_above below standing ≡ above → (IsGoodStart test below (nearer below None standing) → IsNearest test below (nearer below None standing) more best) → IsNearest test below None (standing ∷ more) best
+    by_test : (above : Bool) → is_above below standing ≡ above
+        → (IsGoodStart test below (nearer below None standing)
+        → IsNearest test below (nearer below None standing) more best)
+        → IsNearest test below None (standing ∷ more) best
     by_test true is later =
         let first : nearer below None standing ≡ Some standing = rw is in
-        let rest = later (λ before was. let same : before ≡ standing = cc in rw same (is, and-left (test standing) (list_all test more) all)) in
+        let rest = later (λ before was. let same : before ≡ standing = cc in
+        rw same (is, and-left (test standing) (list_all test more) all)) in
         let under = rest.under standing first in
         record {
           above = rest.above;
-          least = rw (or-right (not (is_above below standing)) (nat_le best.put.amount standing.put.amount) (le_true best.put.amount standing.put.amount under)) rest.least;
+          least = rw (or-right (not (is_above below standing)) (nat_le best.put.amount standing.put.amount)
+              (le_true best.put.amount standing.put.amount under)) rest.least;
           under = λ before was. absurd cc;
           there = elim rest.there [
-            | inl same ↦ let is_best : standing ≡ best = cc in inr (rw (← is_best) (rw (stands_at-self standing.put.live below standing.put.amount is)))
-            | inr some ↦ inr (or-right (stands_at best.put.amount standing) (list_any (stands_at best.put.amount) more) some)
+            | inl same ↦ let is_best : standing ≡ best = cc in
+                inr (rw (← is_best) (rw (stands_at-self standing.put.live below standing.put.amount is)))
+            | inr some ↦ inr (or-right (stands_at best.put.amount standing)
+                (list_any (stands_at best.put.amount) more) some)
           ];
           passes = rest.passes;
         }
@@ -105,51 +129,64 @@ nearest-found test below None (standing ∷ more) best start all found = by_test
           under = λ before was. absurd cc;
           there = elim rest.there [
             | inl same ↦ absurd cc
-            | inr some ↦ inr (or-right (stands_at best.put.amount standing) (list_any (stands_at best.put.amount) more) some)
+            | inr some ↦ inr (or-right (stands_at best.put.amount standing)
+                (list_any (stands_at best.put.amount) more) some)
           ];
           passes = rest.passes;
         }
 nearest-found test below (Some so_far) (standing ∷ more) best start all found =
-    by_test (is_not_nearer below so_far.put.amount standing) refl (λ good. nearest-found test below (nearer below (Some so_far) standing) more best good (and-right (test standing) (list_all test more) all) found)
+    by_test (is_not_nearer below so_far.put.amount standing) refl
+    (λ good. nearest-found test below (nearer below (Some so_far) standing) more best good
+    (and-right (test standing) (list_all test more) all) found)
   where
     by_test : (keeps : Bool) → is_not_nearer below so_far.put.amount standing ≡ keeps
-        → (IsGoodStart test below (nearer below (Some so_far) standing) → IsNearest test below (nearer below (Some so_far) standing) more best) → IsNearest test below (Some so_far) (standing ∷ more) best
+        → (IsGoodStart test below (nearer below (Some so_far) standing)
+        → IsNearest test below (nearer below (Some so_far) standing) more best)
+        → IsNearest test below (Some so_far) (standing ∷ more) best
     by_test true is later =
         let first : nearer below (Some so_far) standing ≡ Some so_far = rw is in
         let rest = later (λ before was. start before (sym first ∙ was)) in
         let under = rest.under so_far first in
         record {
           above = rest.above;
-          least = rw (not_nearer-more (is_above below standing) so_far.put.amount best.put.amount standing.put.amount is under) rest.least;
+          least = rw (not_nearer-more (is_above below standing) so_far.put.amount best.put.amount standing.put.amount is
+              under) rest.least;
           under = λ before was. rest.under before (first ∙ was);
           there = elim rest.there [
             | inl same ↦ inl (sym first ∙ same)
-            | inr some ↦ inr (or-right (stands_at best.put.amount standing) (list_any (stands_at best.put.amount) more) some)
+            | inr some ↦ inr (or-right (stands_at best.put.amount standing)
+                (list_any (stands_at best.put.amount) more) some)
           ];
           passes = rest.passes;
         }
     by_test false is later =
         let first : nearer below (Some so_far) standing ≡ Some standing = rw is in
         let nearer_than = is_nearer (is_above below standing) so_far.put.amount standing.put.amount is in
-        let rest = later (λ before was. let same : before ≡ standing = cc in rw same (nearer_than.0, and-left (test standing) (list_all test more) all)) in
+        let rest = later (λ before was. let same : before ≡ standing = cc in
+        rw same (nearer_than.0, and-left (test standing) (list_all test more) all)) in
         let under = rest.under standing first in
         record {
           above = rest.above;
-          least = rw (or-right (not (is_above below standing)) (nat_le best.put.amount standing.put.amount) (le_true best.put.amount standing.put.amount under)) rest.least;
+          least = rw (or-right (not (is_above below standing)) (nat_le best.put.amount standing.put.amount)
+              (le_true best.put.amount standing.put.amount under)) rest.least;
           under = λ before was. let same : before ≡ so_far = cc in rw same (omega (arith, nearer_than.1, under));
           there = elim rest.there [
-            | inl same ↦ let is_best : standing ≡ best = cc in inr (rw (← is_best) (rw (stands_at-self standing.put.live below standing.put.amount nearer_than.0)))
-            | inr some ↦ inr (or-right (stands_at best.put.amount standing) (list_any (stands_at best.put.amount) more) some)
+            | inl same ↦ let is_best : standing ≡ best = cc in
+                inr (rw (← is_best) (rw (stands_at-self standing.put.live below standing.put.amount nearer_than.0)))
+            | inr some ↦ inr (or-right (stands_at best.put.amount standing)
+                (list_any (stands_at best.put.amount) more) some)
           ];
           passes = rest.passes;
         }
 
-one-less : (live : Bool) (below amount reached : ℕ) → below < reached → cond (live && nat_lt reached amount) 1 0 ≤ cond (live && nat_lt below amount) 1 0
+one-less : (live : Bool) (below amount reached : ℕ) → below < reached
+    → cond (live && nat_lt reached amount) 1 0 ≤ cond (live && nat_lt below amount) 1 0
 one-less true below amount reached low = grind (arith, nat_tests)
 one-less false below amount reached low = omega arith
 
 -- No more players are above a greater height.
-above-fewer : (standings : List Standing) (below reached : ℕ) → below < reached → count_by (is_above reached) standings ≤ count_by (is_above below) standings
+above-fewer : (standings : List Standing) (below reached : ℕ) → below < reached
+    → count_by (is_above reached) standings ≤ count_by (is_above below) standings
 above-fewer [] below reached low = omega arith
 above-fewer (standing ∷ more) below reached low =
     let before = sum_by-cons (λ (s : Standing). cond (is_above below s) 1 0) standing more in
@@ -158,16 +195,20 @@ above-fewer (standing ∷ more) below reached low =
     omega (arith, before, after, one, above-fewer more below reached low)
 
 -- Above an amount that a live player above a height has put in, fewer are above than above the height.
-pub above-falls : (standings : List Standing) (below reached : ℕ) → below < reached → list_any (stands_at reached) standings ≡ true
+pub above-falls : (standings : List Standing) (below reached : ℕ) → below < reached
+    → list_any (stands_at reached) standings ≡ true
     → count_by (is_above reached) standings < count_by (is_above below) standings
 above-falls [] below reached low there = absurd cc
-above-falls (standing ∷ more) below reached low there = by_first (stands_at reached standing) refl (λ rest. above-falls more below reached low rest)
+above-falls (standing ∷ more) below reached low there =
+    by_first (stands_at reached standing) refl (λ rest. above-falls more below reached low rest)
   where
-    stops : (live : Bool) (amount : ℕ) → (live && (amount == reached)) ≡ true → cond (live && nat_lt reached amount) 1 0 < cond (live && nat_lt below amount) 1 0
+    stops : (live : Bool) (amount : ℕ) → (live && (amount == reached)) ≡ true
+        → cond (live && nat_lt reached amount) 1 0 < cond (live && nat_lt below amount) 1 0
     stops true amount is = grind (arith, nat_tests)
     stops false amount is = absurd cc
 
-    by_first : (first : Bool) → stands_at reached standing ≡ first → (list_any (stands_at reached) more ≡ true → count_by (is_above reached) more < count_by (is_above below) more)
+    by_first : (first : Bool) → stands_at reached standing ≡ first
+        → (list_any (stands_at reached) more ≡ true → count_by (is_above reached) more < count_by (is_above below) more)
         → count_by (is_above reached) (standing ∷ more) < count_by (is_above below) (standing ∷ more)
     by_first true is others =
         let before = sum_by-cons (λ (s : Standing). cond (is_above below s) 1 0) standing more in
@@ -181,31 +222,42 @@ above-falls (standing ∷ more) below reached low there = by_first (stands_at re
         let later : count_by (is_above reached) more < count_by (is_above below) more = others (rw is at there) in
         omega (arith, before, after, one, later)
 
-outside : (live : Bool) (below reached amount : ℕ) → (not (live && nat_lt below amount) || nat_le reached amount) ≡ true → (not live || (nat_le amount below || nat_le reached amount)) ≡ true
+outside : (live : Bool) (below reached amount : ℕ) → (not (live && nat_lt below amount) || nat_le reached amount) ≡ true
+    → (not live || (nat_le amount below || nat_le reached amount)) ≡ true
 outside true below reached amount is = grind (arith, nat_tests)
 outside false below reached amount is = refl
 
-within : (live : Bool) (below amount : ℕ) → not (live && nat_lt below amount) ≡ true → (not live || nat_le amount below) ≡ true
+within : (live : Bool) (below amount : ℕ) → not (live && nat_lt below amount) ≡ true
+    → (not live || nat_le amount below) ≡ true
 within true below amount is = grind (arith, nat_tests)
 within false below amount is = refl
 
 -- Where nobody above is nearer than an amount, no live player's amount lies between.
-pub outside-puts_of : (standings : List Standing) (below reached : ℕ) → list_all (is_not_nearer below reached) standings ≡ true → list_all (is_outside below reached) (puts_of standings) ≡ true
+pub outside-puts_of : (standings : List Standing) (below reached : ℕ)
+    → list_all (is_not_nearer below reached) standings ≡ true
+    → list_all (is_outside below reached) (puts_of standings) ≡ true
 outside-puts_of standings below reached least =
     list_all-map (is_outside below reached) (λ (standing : Standing). standing.put) standings
-    ∙ list_all-implied (is_not_nearer below reached) (λ standing. is_outside below reached standing.put) standings (λ standing is. outside standing.put.live below reached standing.put.amount is) least
+    ∙ list_all-implied (is_not_nearer below reached) (λ standing. is_outside below reached standing.put) standings
+    (λ standing is. outside standing.put.live below reached standing.put.amount is) least
 
 -- Where nobody is above, every live player is within.
-pub within-puts_of : (standings : List Standing) (below : ℕ) → list_all (λ standing. not (is_above below standing)) standings ≡ true → list_all (is_within below) (puts_of standings) ≡ true
+pub within-puts_of : (standings : List Standing) (below : ℕ)
+    → list_all (λ standing. not (is_above below standing)) standings ≡ true
+    → list_all (is_within below) (puts_of standings) ≡ true
 within-puts_of standings below none =
     list_all-map (is_within below) (λ (standing : Standing). standing.put) standings
-    ∙ list_all-implied (λ standing. not (is_above below standing)) (λ standing. is_within below standing.put) standings (λ standing is. within standing.put.live below standing.put.amount is) none
+    ∙ list_all-implied (λ standing. not (is_above below standing)) (λ standing. is_within below standing.put) standings
+    (λ standing is. within standing.put.live below standing.put.amount is) none
 
 -- A player who stands at an amount has put it in.
-pub there-puts_of : (standings : List Standing) (amount : ℕ) → list_any (stands_at amount) standings ≡ true → list_any (is_live_at amount) (puts_of standings) ≡ true
+pub there-puts_of : (standings : List Standing) (amount : ℕ) → list_any (stands_at amount) standings ≡ true
+    → list_any (is_live_at amount) (puts_of standings) ≡ true
 there-puts_of [] amount there = there
-there-puts_of (standing ∷ more) amount there = step (stands_at amount standing) (list_any (stands_at amount) more) (list_any (is_live_at amount) (puts_of more)) (λ rest. there-puts_of more amount rest) there
+there-puts_of (standing ∷ more) amount there = step (stands_at amount standing) (list_any (stands_at amount) more)
+    (list_any (is_live_at amount) (puts_of more)) (λ rest. there-puts_of more amount rest) there
   where
-    step : (first rest others : Bool) → (rest ≡ true → others ≡ true) → (first || rest) ≡ true → (first || others) ≡ true
+    step : (first rest others : Bool) → (rest ≡ true → others ≡ true) → (first || rest) ≡ true
+        → (first || others) ≡ true
     step true rest others later is = refl
     step false rest others later is = later is

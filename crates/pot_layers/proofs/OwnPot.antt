@@ -24,18 +24,25 @@ same_seats-equal (false ∷ more) (true ∷ others) same = absurd cc
 same_seats-equal (false ∷ more) (false ∷ others) same = ap (λ seats. false ∷ seats) (same_seats-equal more others same)
 
 -- Above the others' heights nobody of them pays.
-nobody-pays : (puts : List Put) (reached height : ℕ) → list_all (λ put. nat_le put.amount reached) puts ≡ true → reached < height → live_payers puts height ≡ replicate (length puts) false
+nobody-pays : (puts : List Put) (reached height : ℕ) → list_all (λ put. nat_le put.amount reached) puts ≡ true
+    → reached < height → live_payers puts height ≡ replicate (length puts) false
 nobody-pays [] reached height all above = refl
 nobody-pays (put ∷ more) reached height all above =
-    let own = stops put.live put.amount (and-left (nat_le put.amount reached) (list_all (λ other. nat_le other.amount reached) more) all) in
-    rw (own, nobody-pays more reached height (and-right (nat_le put.amount reached) (list_all (λ other. nat_le other.amount reached) more) all) above)
+    let own = stops put.live put.amount
+    (and-left (nat_le put.amount reached) (list_all (λ other. nat_le other.amount reached) more) all) in
+    rw (
+      own,
+      nobody-pays more reached height
+          (and-right (nat_le put.amount reached) (list_all (λ other. nat_le other.amount reached) more) all) above,
+    )
   where
     stops : (live : Bool) (amount : ℕ) → nat_le amount reached ≡ true → (live && nat_le height amount) ≡ false
     stops true amount within = grind (arith, nat_tests)
     stops false amount within = refl
 
 -- Above the others' heights one alone pays.
-one-pays : (puts : List Put) (index amount reached height : ℕ) → has_put puts index amount ≡ true → are_others_within puts index reached ≡ true → reached < height → height ≤ amount
+one-pays : (puts : List Put) (index amount reached height : ℕ) → has_put puts index amount ≡ true
+    → are_others_within puts index reached ≡ true → reached < height → height ≤ amount
     → live_payers puts height ≡ set (replicate (length puts) false) index true
 one-pays [] index amount reached height put_in others above under = absurd cc
 one-pays (put ∷ more) zero amount reached height put_in others above under =
@@ -45,15 +52,21 @@ one-pays (put ∷ more) zero amount reached height put_in others above under =
     pays true own is = grind (arith, nat_tests)
     pays false own is = absurd cc
 one-pays (put ∷ more) (suc index) amount reached height put_in others above under =
-    let own = stops put.live put.amount (and-left (nat_le put.amount reached) (are_others_within more index reached) others) in
-    rw (own, one-pays more index amount reached height put_in (and-right (nat_le put.amount reached) (are_others_within more index reached) others) above under)
+    let own = stops put.live put.amount
+    (and-left (nat_le put.amount reached) (are_others_within more index reached) others) in
+    rw (
+      own,
+      one-pays more index amount reached height put_in
+          (and-right (nat_le put.amount reached) (are_others_within more index reached) others) above under,
+    )
   where
     stops : (live : Bool) (amount : ℕ) → nat_le amount reached ≡ true → (live && nat_le height amount) ≡ false
     stops true amount within = grind (arith, nat_tests)
     stops false amount within = refl
 
 -- A height that is reached has a payment.
-some-payment : (puts : List Put) (index amount height : ℕ) → has_put puts index amount ≡ true → height ≤ amount → 1 ≤ payments puts height
+some-payment : (puts : List Put) (index amount height : ℕ) → has_put puts index amount ≡ true → height ≤ amount
+    → 1 ≤ payments puts height
 some-payment [] index amount height put_in under = absurd cc
 some-payment (put ∷ more) zero amount height put_in under =
     let own = pays put.live put.amount put_in in
@@ -74,12 +87,22 @@ record IsOwnTop (puts : List Put) (payers : List Bool) (reached height : ℕ) : 
   top : pots_to puts height ≡ pot_of amount payers ∷ rest
   holds : height ≤ reached + amount
 
-first-top : (pots : List Pot) (paid : ℕ) (payers : List Bool) → is_nobody payers ≡ false → (amount : ℕ) × (rest : List Pot) × (lay pots paid payers ≡ pot_of amount payers ∷ rest) × (paid ≤ amount)
+first-top : (pots : List Pot) (paid : ℕ) (payers : List Bool) → is_nobody payers ≡ false
+    → (amount : ℕ) × (rest : List Pot) × (lay pots paid payers ≡ pot_of amount payers ∷ rest) × (paid ≤ amount)
 first-top [] paid payers somebody = (paid, [], refl, omega arith)
 first-top (top ∷ below) paid payers somebody = by_same (are_same_seats top.eligible payers) refl
   where
-    by_same : (same : Bool) → are_same_seats top.eligible payers ≡ same → (amount : ℕ) × (rest : List Pot) × (lay (top ∷ below) paid payers ≡ pot_of amount payers ∷ rest) × (paid ≤ amount)
-    by_same true is = (top.amount + paid, below, rw is (ap (λ eligible. pot_of (top.amount + paid) eligible ∷ below) (same_seats-equal top.eligible payers is)), omega arith)
+    by_same : (same : Bool) → are_same_seats top.eligible payers ≡ same
+        → (amount : ℕ) × (rest : List Pot) × (lay (top ∷ below) paid payers ≡ pot_of amount payers ∷ rest)
+        × (paid ≤ amount)
+    by_same true is = (
+      top.amount + paid,
+      below,
+      rw is
+          (ap (λ eligible. pot_of (top.amount + paid) eligible ∷ below) (same_seats-equal top.eligible payers is)),
+      omega
+          arith,
+    )
     by_same false is = (paid, top ∷ below, rw (is, somebody), omega arith)
 
 somebody-alone : (n index : ℕ) → index < n → is_nobody (set (replicate n false) index true) ≡ false
@@ -87,7 +110,8 @@ somebody-alone zero index within = absurd (omega arith)
 somebody-alone (suc n) zero within = refl
 somebody-alone (suc n) (suc index) within = somebody-alone n index (omega arith)
 
-own-top : (puts : List Put) (payers : List Bool) (reached amount height : ℕ) → is_nobody payers ≡ false → ((h : ℕ) → reached < h → h ≤ amount → live_payers puts h ≡ payers) → ((h : ℕ) → h ≤ amount → 1 ≤ payments puts h)
+own-top : (puts : List Put) (payers : List Bool) (reached amount height : ℕ) → is_nobody payers ≡ false
+    → ((h : ℕ) → reached < h → h ≤ amount → live_payers puts h ≡ payers) → ((h : ℕ) → h ≤ amount → 1 ≤ payments puts h)
     → reached < height → height ≤ amount → IsOwnTop puts payers reached height
 unfolding pots_to
 own-top puts payers reached amount zero somebody alone pays above under = absurd (omega arith)
@@ -97,7 +121,8 @@ own-top puts payers reached amount (suc before) somebody alone pays above under 
       record {
         amount = own.amount + payments puts (suc before);
         rest = own.rest;
-        top = rw (alone (suc before) above under, own.top) (lay-same own.amount (payments puts (suc before)) payers own.rest);
+        top = rw (alone (suc before) above under, own.top)
+            (lay-same own.amount (payments puts (suc before)) payers own.rest);
         holds = omega (arith, own.holds, pays (suc before) under);
       }
   | inr first ↦
@@ -111,19 +136,27 @@ own-top puts payers reached amount (suc before) somebody alone pays above under 
 ]
 
 -- Of a list whose items are within a bound the greatest is.
-greatest-within : (bound least : ℕ) (puts : List Put) → least ≤ bound → list_all (λ put. nat_le put.amount bound) puts ≡ true → fold (λ greatest (put : Put). max greatest put.amount) least puts ≤ bound
+greatest-within : (bound least : ℕ) (puts : List Put) → least ≤ bound
+    → list_all (λ put. nat_le put.amount bound) puts ≡ true
+    → fold (λ greatest (put : Put). max greatest put.amount) least puts ≤ bound
 greatest-within bound least [] under all = under
 greatest-within bound least (put ∷ more) under all =
-    let own = within put.amount (and-left (nat_le put.amount bound) (list_all (λ other. nat_le other.amount bound) more) all) in
-    greatest-within bound (max least put.amount) more (omega (arith, own, under)) (and-right (nat_le put.amount bound) (list_all (λ other. nat_le other.amount bound) more) all)
+    let own = within put.amount
+    (and-left (nat_le put.amount bound) (list_all (λ other. nat_le other.amount bound) more) all) in
+    greatest-within bound (max least put.amount) more (omega (arith, own, under))
+    (and-right (nat_le put.amount bound) (list_all (λ other. nat_le other.amount bound) more) all)
   where
     within : (amount : ℕ) → nat_le amount bound ≡ true → amount ≤ bound
     within amount is = grind (arith, nat_tests)
 
-all-within : (puts : List Put) (index amount reached : ℕ) → has_put puts index amount ≡ true → are_others_within puts index reached ≡ true → reached < amount → list_all (λ put. nat_le put.amount amount) puts ≡ true
+all-within : (puts : List Put) (index amount reached : ℕ) → has_put puts index amount ≡ true
+    → are_others_within puts index reached ≡ true → reached < amount
+    → list_all (λ put. nat_le put.amount amount) puts ≡ true
 all-within [] index amount reached put_in others above = refl
 all-within (put ∷ more) zero amount reached put_in others above =
-    rw (own put.live put.amount put_in) (list_all-implied (λ other. nat_le other.amount reached) (λ other. nat_le other.amount amount) more (λ other is. under other.amount is) others)
+    rw (own put.live put.amount put_in)
+    (list_all-implied (λ other. nat_le other.amount reached) (λ other. nat_le other.amount amount) more
+    (λ other is. under other.amount is) others)
   where
     own : (live : Bool) (n : ℕ) → (live && (n == amount)) ≡ true → nat_le n amount ≡ true
     own true n is = grind (arith, nat_tests)
@@ -133,35 +166,47 @@ all-within (put ∷ more) zero amount reached put_in others above =
     under n is = grind (arith, nat_tests)
 all-within (put ∷ more) (suc index) amount reached put_in others above =
     rw (under put.amount (and-left (nat_le put.amount reached) (are_others_within more index reached) others))
-    (all-within more index amount reached put_in (and-right (nat_le put.amount reached) (are_others_within more index reached) others) above)
+    (all-within more index amount reached put_in
+    (and-right (nat_le put.amount reached) (are_others_within more index reached) others) above)
   where
     under : (n : ℕ) → nat_le n reached ≡ true → nat_le n amount ≡ true
     under n is = grind (arith, nat_tests)
 
-reaches : (puts : List Put) (index amount most : ℕ) → has_put puts index amount ≡ true → list_all (λ put. nat_le put.amount most) puts ≡ true → (amount ≤ most) × (index < length puts)
+reaches : (puts : List Put) (index amount most : ℕ) → has_put puts index amount ≡ true
+    → list_all (λ put. nat_le put.amount most) puts ≡ true → (amount ≤ most) × (index < length puts)
 reaches [] index amount most put_in all = absurd cc
-reaches (put ∷ more) zero amount most put_in all = (own put.live put.amount put_in (and-left (nat_le put.amount most) (list_all (λ other. nat_le other.amount most) more) all), omega arith)
+reaches (put ∷ more) zero amount most put_in all = (
+  own put.live put.amount put_in
+      (and-left (nat_le put.amount most) (list_all (λ other. nat_le other.amount most) more) all),
+  omega arith,
+)
   where
     own : (live : Bool) (n : ℕ) → (live && (n == amount)) ≡ true → nat_le n most ≡ true → amount ≤ most
     own true n is under = grind (arith, nat_tests)
     own false n is under = absurd cc
 reaches (put ∷ more) (suc index) amount most put_in all =
-    let later = reaches more index amount most put_in (and-right (nat_le put.amount most) (list_all (λ other. nat_le other.amount most) more) all) in
+    let later = reaches more index amount most put_in
+    (and-right (nat_le put.amount most) (list_all (λ other. nat_le other.amount most) more) all) in
     (later.0, omega (arith, later.1))
 
 -- A live player who has put in more than every other has a pot of his own, of at least what is above them.
-pub own-pot : (puts : List Put) (index amount reached : ℕ) → length puts ≡ 10 → has_put puts index amount ≡ true → are_others_within puts index reached ≡ true → reached < amount → IsOwnPot (layers puts) index (amount - reached)
+pub own-pot : (puts : List Put) (index amount reached : ℕ) → length puts ≡ 10 → has_put puts index amount ≡ true
+    → are_others_within puts index reached ≡ true → reached < amount → IsOwnPot (layers puts) index (amount - reached)
 unfolding layers
 own-pot puts index amount reached ten put_in others above =
     let at_most = reaches puts index amount (greatest_put puts) put_in (greatest_put-most puts) in
-    let at_least = greatest-within amount 0 puts (omega arith) (all-within puts index amount reached put_in others above) in
+    let at_least = greatest-within amount 0 puts (omega arith)
+    (all-within puts index amount reached put_in others above) in
     let greatest : greatest_put puts ≡ amount = omega (arith, at_most.0, at_least) in
     let payers : List Bool = set (replicate (length puts) false) index true in
-    let own = own-top puts payers reached amount amount (somebody-alone (length puts) index at_most.1) (λ h low high. one-pays puts index amount reached h put_in others low high) (λ h high. some-payment puts index amount h put_in high) above (omega arith) in
+    let own = own-top puts payers reached amount amount (somebody-alone (length puts) index at_most.1)
+    (λ h low high. one-pays puts index amount reached h put_in others low high)
+    (λ h high. some-payment puts index amount h put_in high) above (omega arith) in
     record {
       below = reverse own.rest;
       pot = pot_of own.amount payers;
-      highest = ap (λ h. reverse (pots_to puts h)) greatest ∙ ap reverse own.top ∙ reverse-cons (pot_of own.amount payers) own.rest;
+      highest = ap (λ h. reverse (pots_to puts h)) greatest ∙ ap reverse own.top
+          ∙ reverse-cons (pot_of own.amount payers) own.rest;
       own = ap (λ n. set (replicate n false) index true) ten;
       holds = omega (arith, own.holds);
     }

@@ -14,14 +14,17 @@ use Rattle.pot_layers.proofs.Heights.{total_to-suc, total_to-zero, total_to-grea
 use Rattle.pot_layers.proofs.Stretches.{pot_of}
 
 -- A height's payments go into the pots.
-pub total_of-lay : (pots : List Pot) (paid : ℕ) (payers : List Bool) → total_of (lay pots paid payers) ≡ total_of pots + paid
+pub total_of-lay : (pots : List Pot) (paid : ℕ) (payers : List Bool)
+    → total_of (lay pots paid payers) ≡ total_of pots + paid
 total_of-lay [] paid payers = refl
 total_of-lay (top ∷ below) paid payers = by_test (are_same_seats top.eligible payers || is_nobody payers)
   where
     amount_of : Pot → ℕ
     amount_of pot = pot.amount
 
-    by_test : (joins : Bool) → total_of (cond joins (pot_of (top.amount + paid) top.eligible ∷ below) (pot_of paid payers ∷ top ∷ below)) ≡ total_of (top ∷ below) + paid
+    by_test : (joins : Bool)
+        → total_of (cond joins (pot_of (top.amount + paid) top.eligible ∷ below) (pot_of paid payers ∷ top ∷ below))
+        ≡ total_of (top ∷ below) + paid
     by_test true =
         let after = sum_by-cons (λ (pot : Pot). pot.amount) (pot_of (top.amount + paid) top.eligible) below in
         let before = sum_by-cons (λ (pot : Pot). pot.amount) top below in
@@ -52,33 +55,47 @@ total_of-reverse (pot ∷ more) =
 -- The pots sum to all that was put in.
 pub total_of-layers : (puts : List Put) → total_of (layers puts) ≡ total_put puts
 unfolding layers
-total_of-layers puts = total_of-reverse (pots_to puts (greatest_put puts)) ∙ total_of-pots_to puts (greatest_put puts) ∙ total_to-greatest puts
+total_of-layers puts = total_of-reverse (pots_to puts (greatest_put puts)) ∙ total_of-pots_to puts (greatest_put puts)
+    ∙ total_to-greatest puts
 
 -- What a test says of who may win the pots, once a height is laid on them.
-eligible-lay : (test : List Bool → Bool) (pots : List Pot) (paid : ℕ) (payers : List Bool) → list_all (λ pot. test pot.eligible) pots ≡ true → (pots ≡ [] → test payers ≡ true) → (is_nobody payers ≡ false → test payers ≡ true)
+eligible-lay : (test : List Bool → Bool) (pots : List Pot) (paid : ℕ) (payers : List Bool)
+    → list_all (λ pot. test pot.eligible) pots ≡ true → (pots ≡ [] → test payers ≡ true)
+    → (is_nobody payers ≡ false → test payers ≡ true)
     → list_all (λ pot. test pot.eligible) (lay pots paid payers) ≡ true
 eligible-lay test [] paid payers all first other = rw (first refl)
 eligible-lay test (top ∷ below) paid payers all first other = by_nobody (is_nobody payers) refl
   where
-    by_same : (same : Bool) → test payers ≡ true → list_all (λ pot. test pot.eligible) (cond same (pot_of (top.amount + paid) top.eligible ∷ below) (pot_of paid payers ∷ top ∷ below)) ≡ true
+    by_same : (same : Bool) → test payers ≡ true
+        → list_all (λ pot. test pot.eligible)
+        (cond same (pot_of (top.amount + paid) top.eligible ∷ below) (pot_of paid payers ∷ top ∷ below)) ≡ true
     by_same true is = all
     by_same false is = rw (is, all)
 
-    joined : (same : Bool) → list_all (λ pot. test pot.eligible) (cond (same || true) (pot_of (top.amount + paid) top.eligible ∷ below) (pot_of paid payers ∷ top ∷ below)) ≡ true
+    joined : (same : Bool)
+        → list_all (λ pot. test pot.eligible)
+        (cond (same || true) (pot_of (top.amount + paid) top.eligible ∷ below) (pot_of paid payers ∷ top ∷ below))
+        ≡ true
     joined true = all
     joined false = all
 
-    by_nobody : (nobody : Bool) → is_nobody payers ≡ nobody → list_all (λ pot. test pot.eligible) (lay (top ∷ below) paid payers) ≡ true
+    by_nobody : (nobody : Bool) → is_nobody payers ≡ nobody
+        → list_all (λ pot. test pot.eligible) (lay (top ∷ below) paid payers) ≡ true
     by_nobody true is = rw is (joined (are_same_seats top.eligible payers))
     by_nobody false is = by_same (are_same_seats top.eligible payers || is_nobody payers) (other is)
 
 -- What all of a list pass, all of it in reverse pass.
-pub list_all-reverse : {A : Type 0} (test : A → Bool) (items : List A) → list_all test items ≡ true → list_all test (reverse items) ≡ true
+pub list_all-reverse : {A : Type 0} (test : A → Bool) (items : List A) → list_all test items ≡ true
+    → list_all test (reverse items) ≡ true
 list_all-reverse test [] all = refl
 list_all-reverse test (item ∷ more) all =
     ap (list_all test) (reverse-cons item more)
     ∙ list_all-append test (reverse more) (item ∷ [])
-    ∙ rw (list_all-reverse test more (and-right (test item) (list_all test more) all), and-left (test item) (list_all test more) all)
+    ∙ rw (
+      list_all-reverse test more (and-right (test item) (list_all test more) all),
+      and-left (test item)
+          (list_all test more) all,
+    )
 
 payers-live : (puts : List Put) (height : ℕ) → are_all_in (live_payers puts height) (live_seats puts) ≡ true
 payers-live [] height = refl
@@ -92,12 +109,15 @@ payers-live (put ∷ more) height = rw (first put.live (has_paid height put)) (p
 -- Only live players may win a pot.
 pub layers-live : (puts : List Put) → are_for (live_seats puts) (layers puts) ≡ true
 unfolding layers pots_to
-layers-live puts = list_all-reverse (λ (pot : Pot). are_all_in pot.eligible (live_seats puts)) (pots_to puts (greatest_put puts)) (each (greatest_put puts))
+layers-live puts = list_all-reverse (λ (pot : Pot). are_all_in pot.eligible (live_seats puts))
+    (pots_to puts (greatest_put puts)) (each (greatest_put puts))
   where
     each : (height : ℕ) → are_for (live_seats puts) (pots_to puts height) ≡ true
     each zero = refl
     each (suc height) =
-        eligible-lay (λ seats. are_all_in seats (live_seats puts)) (pots_to puts height) (payments puts (suc height)) (live_payers puts (suc height)) (each height) (λ none. payers-live puts (suc height)) (λ somebody. payers-live puts (suc height))
+        eligible-lay (λ seats. are_all_in seats (live_seats puts)) (pots_to puts height) (payments puts (suc height))
+        (live_payers puts (suc height)) (each height) (λ none. payers-live puts (suc height))
+        (λ somebody. payers-live puts (suc height))
 
 somebody-first : (puts : List Put) → is_contested puts ≡ true → not (is_nobody (live_payers puts 1)) ≡ true
 somebody-first [] contested = absurd cc
@@ -107,7 +127,9 @@ somebody-first (put ∷ more) contested = by_first (is_eligible 1 put) refl (λ 
     later true rest is = refl
     later false rest is = is
 
-    by_first : (first : Bool) → is_eligible 1 put ≡ first → (is_contested more ≡ true → not (is_nobody (live_payers more 1)) ≡ true) → not (is_nobody (live_payers (put ∷ more) 1)) ≡ true
+    by_first : (first : Bool) → is_eligible 1 put ≡ first
+        → (is_contested more ≡ true → not (is_nobody (live_payers more 1)) ≡ true)
+        → not (is_nobody (live_payers (put ∷ more) 1)) ≡ true
     by_first true is others = rw is
     by_first false is others = later (is_eligible 1 put) (is_nobody (live_payers more 1)) (others (rw is at contested))
 
@@ -115,14 +137,16 @@ not-empty : (pots : List Pot) (paid : ℕ) (payers : List Bool) → lay pots pai
 not-empty [] paid payers same = cc
 not-empty (top ∷ below) paid payers same = by_test (are_same_seats top.eligible payers || is_nobody payers) same
   where
-    by_test : (joins : Bool) → cond joins (pot_of (top.amount + paid) top.eligible ∷ below) (pot_of paid payers ∷ top ∷ below) ≡ [] → ⊥
+    by_test : (joins : Bool)
+        → cond joins (pot_of (top.amount + paid) top.eligible ∷ below) (pot_of paid payers ∷ top ∷ below) ≡ [] → ⊥
     by_test true is = cc
     by_test false is = cc
 
 -- Each pot can be won by somebody, where a live player has put in chips.
 pub layers-somebody : (puts : List Put) → is_contested puts ≡ true → have_somebody (layers puts) ≡ true
 unfolding layers pots_to
-layers-somebody puts contested = list_all-reverse (λ (pot : Pot). not (is_nobody pot.eligible)) (pots_to puts (greatest_put puts)) (each (greatest_put puts))
+layers-somebody puts contested = list_all-reverse (λ (pot : Pot). not (is_nobody pot.eligible))
+    (pots_to puts (greatest_put puts)) (each (greatest_put puts))
   where
     some : (b : Bool) → b ≡ false → not b ≡ true
     some true is = cc
@@ -132,6 +156,8 @@ layers-somebody puts contested = list_all-reverse (λ (pot : Pot). not (is_nobod
     each zero = refl
     each (suc zero) = rw (somebody-first puts contested)
     each (suc (suc height)) =
-        eligible-lay (λ seats. not (is_nobody seats)) (pots_to puts (suc height)) (payments puts (suc (suc height))) (live_payers puts (suc (suc height))) (each (suc height))
-        (λ none. absurd (not-empty (pots_to puts height) (payments puts (suc height)) (live_payers puts (suc height)) none))
+        eligible-lay (λ seats. not (is_nobody seats)) (pots_to puts (suc height)) (payments puts (suc (suc height)))
+        (live_payers puts (suc (suc height))) (each (suc height))
+        (λ none. absurd (not-empty (pots_to puts height) (payments puts (suc height))
+        (live_payers puts (suc height)) none))
         (some (is_nobody (live_payers puts (suc (suc height)))))

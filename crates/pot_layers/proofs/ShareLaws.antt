@@ -22,11 +22,13 @@ sum_below-zero zero = refl
 sum_below-zero (suc n) = omega (arith, sum_below-zero n)
 
 -- All units that are dealt go to the winners.
-sum_below-units_to : (winners dealt : ℕ) → 1 ≤ winners → sum_below (λ index. units_to winners index dealt) winners ≡ dealt
+sum_below-units_to : (winners dealt : ℕ) → 1 ≤ winners
+    → sum_below (λ index. units_to winners index dealt) winners ≡ dealt
 unfolding units_to
 sum_below-units_to winners zero some = sum_below-zero winners
 sum_below-units_to winners (suc dealt) some =
-    let turn : nat_lt (dealt % winners) winners ≡ true = below (dealt % winners) winners (mod_below dealt winners (omega arith)) in
+    let turn : nat_lt (dealt % winners) winners ≡ true =
+    below (dealt % winners) winners (mod_below dealt winners (omega arith)) in
     sum_below-plus (λ index. units_to winners index dealt) (λ index. cond (dealt % winners == index) 1 0) winners
     ∙ rw (sum_below-units_to winners dealt some, one-winner (dealt % winners) winners, turn) (omega arith)
   where
@@ -41,7 +43,8 @@ units-whole : (amount unit : ℕ) → amount % unit ≡ 0 → unit * (amount / u
 units-whole amount unit whole = omega (arith, div-add-mod' amount unit, whole)
 
 -- The shares of all winners sum to the pot.
-pub sum_below-share_of : (amount unit winners : ℕ) → 1 ≤ winners → amount % unit ≡ 0 → sum_below (λ index. share_of amount unit winners index) winners ≡ amount
+pub sum_below-share_of : (amount unit winners : ℕ) → 1 ≤ winners → amount % unit ≡ 0
+    → sum_below (λ index. share_of amount unit winners index) winners ≡ amount
 sum_below-share_of amount unit winners some whole =
     sum_below-times unit (λ index. units_to winners index (amount / unit)) winners
     ∙ ap (λ n. unit * n) (sum_below-units_to winners (amount / unit) some)

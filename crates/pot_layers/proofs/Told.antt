@@ -14,33 +14,43 @@ abbrev pub told_so_far : List Put → ℕ → List Put
 told_so_far puts index = take index puts ++ replicate (10 - index) fresh
 
 put-next : (puts : List Put) (index rest : ℕ) → index < length puts
-    → put_in_at (take index puts ++ replicate (suc rest) fresh) index (get_or puts index no_put).amount ≡ take index puts ++ record (get_or puts index no_put) { live = true } ∷ replicate rest fresh
+    → put_in_at (take index puts ++ replicate (suc rest) fresh) index (get_or puts index no_put).amount
+    ≡ take index puts ++ record (get_or puts index no_put) { live = true } ∷ replicate rest fresh
 put-next [] index rest within = absurd (omega arith)
-put-next (put ∷ more) zero rest within = let sum : 0 + put.amount ≡ put.amount = omega arith in ap (λ (n : ℕ). record { amount = n; live = true } ∷ replicate rest fresh) sum
+put-next (put ∷ more) zero rest within = let sum : 0 + put.amount ≡ put.amount = omega arith in
+    ap (λ (n : ℕ). record { amount = n; live = true } ∷ replicate rest fresh) sum
 put-next (put ∷ more) (suc index) rest within = ap (λ puts. put ∷ puts) (put-next more index rest (omega arith))
 
 fold-next : (puts rest : List Put) (index : ℕ) → index < length puts
-    → folded_at (take index puts ++ record (get_or puts index no_put) { live = true } ∷ rest) index ≡ take index puts ++ record (get_or puts index no_put) { live = false } ∷ rest
+    → folded_at (take index puts ++ record (get_or puts index no_put) { live = true } ∷ rest) index
+    ≡ take index puts ++ record (get_or puts index no_put) { live = false } ∷ rest
 fold-next [] rest index within = absurd (omega arith)
 fold-next (put ∷ more) rest zero within = refl
 fold-next (put ∷ more) rest (suc index) within = ap (λ puts. put ∷ puts) (fold-next more rest index (omega arith))
 
-told-next : (puts rest : List Put) (index : ℕ) (live : Bool) → index < length puts → (get_or puts index no_put).live ≡ live
+told-next : (puts rest : List Put) (index : ℕ) (live : Bool) → index < length puts
+    → (get_or puts index no_put).live ≡ live
     → take index puts ++ record (get_or puts index no_put) { live = live } ∷ rest ≡ take (suc index) puts ++ rest
 told-next [] rest index live within is = absurd (omega arith)
-told-next (put ∷ more) rest zero live within is = ap (λ (own : Bool). record { amount = put.amount; live = own } ∷ rest) (sym is)
-told-next (put ∷ more) rest (suc index) live within is = ap (λ puts. put ∷ puts) (told-next more rest index live (omega arith) is)
+told-next (put ∷ more) rest zero live within is = ap (λ (own : Bool). record { amount = put.amount; live = own } ∷ rest)
+    (sym is)
+told-next (put ∷ more) rest (suc index) live within is =
+    ap (λ puts. put ∷ puts) (told-next more rest index live (omega arith) is)
 
 -- The next player has put in so much.
-pub put-told : (puts tally : List Put) (index : ℕ) → index < length puts → length puts ≡ 10 → tally ≡ told_so_far puts index
-    → put_in_at tally index (get_or puts index no_put).amount ≡ take index puts ++ record (get_or puts index no_put) { live = true } ∷ replicate (10 - (index + 1)) fresh
+pub put-told : (puts tally : List Put) (index : ℕ) → index < length puts → length puts ≡ 10
+    → tally ≡ told_so_far puts index
+    → put_in_at tally index (get_or puts index no_put).amount
+    ≡ take index puts ++ record (get_or puts index no_put) { live = true } ∷ replicate (10 - (index + 1)) fresh
 put-told puts tally index within ten told =
     let left : 10 - index ≡ suc (10 - (index + 1)) = omega arith in
-    ap (λ puts'. put_in_at puts' index (get_or puts index no_put).amount) (told ∙ ap (λ (n : ℕ). take index puts ++ replicate n fresh) left)
+    ap (λ puts'. put_in_at puts' index (get_or puts index no_put).amount) (told
+    ∙ ap (λ (n : ℕ). take index puts ++ replicate n fresh) left)
     ∙ put-next puts index (10 - (index + 1)) within
 
 -- A live player is told.
-pub live-told : (puts tally : List Put) (index : ℕ) → index < length puts → length puts ≡ 10 → tally ≡ told_so_far puts index → (get_or puts index no_put).live ≡ true
+pub live-told : (puts tally : List Put) (index : ℕ) → index < length puts → length puts ≡ 10
+    → tally ≡ told_so_far puts index → (get_or puts index no_put).live ≡ true
     → put_in_at tally index (get_or puts index no_put).amount ≡ told_so_far puts (index + 1)
 live-told puts tally index within ten told live =
     put-told puts tally index within ten told
@@ -48,7 +58,8 @@ live-told puts tally index within ten told live =
     ∙ ap (λ (n : ℕ). take n puts ++ replicate (10 - (index + 1)) fresh) (sym (add-one index))
 
 -- A player who has folded is told.
-pub folded-told : (puts tally : List Put) (index : ℕ) → index < length puts → length puts ≡ 10 → tally ≡ told_so_far puts index → (get_or puts index no_put).live ≡ false
+pub folded-told : (puts tally : List Put) (index : ℕ) → index < length puts → length puts ≡ 10
+    → tally ≡ told_so_far puts index → (get_or puts index no_put).live ≡ false
     → folded_at (put_in_at tally index (get_or puts index no_put).amount) index ≡ told_so_far puts (index + 1)
 folded-told puts tally index within ten told folded =
     ap (λ puts'. folded_at puts' index) (put-told puts tally index within ten told)
@@ -57,7 +68,8 @@ folded-told puts tally index within ten told folded =
     ∙ ap (λ (n : ℕ). take n puts ++ replicate (10 - (index + 1)) fresh) (sym (add-one index))
 
 -- What is told with the next amount is within all that is put in.
-pub told-within : (puts tally : List Put) (index : ℕ) → index < length puts → tally ≡ told_so_far puts index → total_put tally + (get_or puts index no_put).amount ≤ total_put puts
+pub told-within : (puts tally : List Put) (index : ℕ) → index < length puts → tally ≡ told_so_far puts index
+    → total_put tally + (get_or puts index no_put).amount ≤ total_put puts
 told-within puts tally index within told =
     let parts = sum_by-append (λ (put : Put). put.amount) (take index puts) (replicate (10 - index) fresh) in
     let none = sum_by-replicate (λ (put : Put). put.amount) (10 - index) fresh in

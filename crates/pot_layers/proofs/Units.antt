@@ -39,12 +39,16 @@ whole-min a b unit whole_a whole_b = elim (cases_lt a b) [
 ]
 
 -- What is put in up to a height that is a multiple of the unit is one.
-pub total_to-whole : (puts : List Put) (height unit : ℕ) → are_whole_puts unit puts ≡ true → height % unit ≡ 0 → total_to puts height % unit ≡ 0
+pub total_to-whole : (puts : List Put) (height unit : ℕ) → are_whole_puts unit puts ≡ true → height % unit ≡ 0
+    → total_to puts height % unit ≡ 0
 total_to-whole [] height unit whole level = zero-mod unit
 total_to-whole (put ∷ more) height unit whole level =
-    let others = total_to-whole more height unit (and-right (put.amount % unit == 0) (are_whole_puts unit more) whole) level in
-    let own = whole-min put.amount height unit (true_eqb put.amount unit (and-left (put.amount % unit == 0) (are_whole_puts unit more) whole)) level in
-    ap (λ n. n % unit) (sum_by-cons (λ (p : Put). min p.amount height) put more) ∙ plus-whole (min put.amount height) (total_to more height) unit others ∙ own
+    let others = total_to-whole more height unit (and-right (put.amount % unit == 0) (are_whole_puts unit more) whole)
+    level in
+    let own = whole-min put.amount height unit
+    (true_eqb put.amount unit (and-left (put.amount % unit == 0) (are_whole_puts unit more) whole)) level in
+    ap (λ n. n % unit) (sum_by-cons (λ (p : Put). min p.amount height) put more)
+    ∙ plus-whole (min put.amount height) (total_to more height) unit others ∙ own
 
 -- All that is put in is a multiple of the unit.
 pub total_put-whole : (puts : List Put) (unit : ℕ) → are_whole_puts unit puts ≡ true → total_put puts % unit ≡ 0
@@ -52,30 +56,40 @@ total_put-whole [] unit whole = zero-mod unit
 total_put-whole (put ∷ more) unit whole =
     let others = total_put-whole more unit (and-right (put.amount % unit == 0) (are_whole_puts unit more) whole) in
     let own = true_eqb put.amount unit (and-left (put.amount % unit == 0) (are_whole_puts unit more) whole) in
-    ap (λ n. n % unit) (sum_by-cons (λ (p : Put). p.amount) put more) ∙ plus-whole put.amount (total_put more) unit others ∙ own
+    ap (λ n. n % unit) (sum_by-cons (λ (p : Put). p.amount) put more)
+    ∙ plus-whole put.amount (total_put more) unit others ∙ own
 
 -- An amount that a live player has put in is a multiple of the unit.
-pub there-whole : (puts : List Put) (amount unit : ℕ) → are_whole_puts unit puts ≡ true → list_any (is_live_at amount) puts ≡ true → amount % unit ≡ 0
+pub there-whole : (puts : List Put) (amount unit : ℕ) → are_whole_puts unit puts ≡ true
+    → list_any (is_live_at amount) puts ≡ true → amount % unit ≡ 0
 there-whole [] amount unit whole there = absurd cc
 there-whole (put ∷ more) amount unit whole there =
-    by_first (is_live_at amount put) refl (λ rest. there-whole more amount unit (and-right (put.amount % unit == 0) (are_whole_puts unit more) whole) rest)
+    by_first (is_live_at amount put) refl
+    (λ rest. there-whole more amount unit (and-right (put.amount % unit == 0) (are_whole_puts unit more) whole)
+    rest)
   where
     same : (live : Bool) (own : ℕ) → (live && (own == amount)) ≡ true → own ≡ amount
     same true own is = grind (arith, nat_tests)
     same false own is = absurd cc
 
-    by_first : (first : Bool) → is_live_at amount put ≡ first → (list_any (is_live_at amount) more ≡ true → amount % unit ≡ 0) → amount % unit ≡ 0
+    by_first : (first : Bool) → is_live_at amount put ≡ first
+        → (list_any (is_live_at amount) more ≡ true → amount % unit ≡ 0) → amount % unit ≡ 0
     by_first true is others =
-        rw (← same put.live put.amount is) (true_eqb put.amount unit (and-left (put.amount % unit == 0) (are_whole_puts unit more) whole))
+        rw (← same put.live put.amount is)
+        (true_eqb put.amount unit (and-left (put.amount % unit == 0) (are_whole_puts unit more) whole))
     by_first false is others = others (rw is at there)
 
 -- Chips in whole units added to the highest pot leave whole pots.
-pub last-whole : (unit : ℕ) (below : List Pot) (amount more : ℕ) (eligible : List Bool) → are_whole_pots unit (below ++ record { amount = amount; eligible = eligible } ∷ []) ≡ true → more % unit ≡ 0
+pub last-whole : (unit : ℕ) (below : List Pot) (amount more : ℕ) (eligible : List Bool)
+    → are_whole_pots unit (below ++ record { amount = amount; eligible = eligible } ∷ []) ≡ true → more % unit ≡ 0
     → are_whole_pots unit (below ++ record { amount = amount + more; eligible = eligible } ∷ []) ≡ true
 last-whole unit [] amount more eligible whole rest =
     let own = true_eqb amount unit (and-left (amount % unit == 0) true whole) in
     rw (eqb_true (amount + more) unit (plus-whole amount more unit rest ∙ own))
 last-whole unit (pot ∷ below) amount more eligible whole rest =
-    let first = and-left (pot.amount % unit == 0) (are_whole_pots unit (below ++ record { amount = amount; eligible = eligible } ∷ [])) whole in
-    let others = last-whole unit below amount more eligible (and-right (pot.amount % unit == 0) (are_whole_pots unit (below ++ record { amount = amount; eligible = eligible } ∷ [])) whole) rest in
+    let first = and-left (pot.amount % unit == 0)
+    (are_whole_pots unit (below ++ record { amount = amount; eligible = eligible } ∷ [])) whole in
+    let others = last-whole unit below amount more eligible
+    (and-right (pot.amount % unit == 0)
+    (are_whole_pots unit (below ++ record { amount = amount; eligible = eligible } ∷ [])) whole) rest in
     rw (first, others)

@@ -6,28 +6,35 @@ use Rattle.std.specs.Option.{option_or}
 use Rattle.rulebook.specs.Checks.{first_that_holds}
 
 -- The first that holds of two groups is that of the one, else that of the other.
-pub first_that_holds-append : {A : Type 0} (one other : List (A × Bool)) → first_that_holds (one ++ other) ≡ option_or (first_that_holds one) (first_that_holds other)
+pub first_that_holds-append : {A : Type 0} (one other : List (A × Bool))
+    → first_that_holds (one ++ other) ≡ option_or (first_that_holds one) (first_that_holds other)
 first_that_holds-append [] other = refl
 first_that_holds-append (check ∷ one) other = by_test check.1 (first_that_holds-append one other)
   where
-    by_test : (holds : Bool) → first_that_holds (one ++ other) ≡ option_or (first_that_holds one) (first_that_holds other)
-        → cond holds (Some check.0) (first_that_holds (one ++ other)) ≡ option_or (cond holds (Some check.0) (first_that_holds one)) (first_that_holds other)
+    by_test : (holds : Bool)
+        → first_that_holds (one ++ other) ≡ option_or (first_that_holds one) (first_that_holds other)
+        → cond holds (Some check.0) (first_that_holds (one ++ other))
+        ≡ option_or (cond holds (Some check.0) (first_that_holds one)) (first_that_holds other)
     by_test true rest = refl
     by_test false rest = rest
 
 -- Where no check of the one holds, the first of both is that of the other.
-pub first_that_holds-later : {A : Type 0} (one other : List (A × Bool)) → first_that_holds one ≡ None → first_that_holds (one ++ other) ≡ first_that_holds other
+pub first_that_holds-later : {A : Type 0} (one other : List (A × Bool)) → first_that_holds one ≡ None
+    → first_that_holds (one ++ other) ≡ first_that_holds other
 first_that_holds-later one other none = rw (first_that_holds-append one other, none)
 
 -- Where a check of the one holds, the first of both is that of the one.
-pub first_that_holds-sooner : {A : Type 0} (one other : List (A × Bool)) (found : A) → first_that_holds one ≡ Some found → first_that_holds (one ++ other) ≡ Some found
+pub first_that_holds-sooner : {A : Type 0} (one other : List (A × Bool)) (found : A) → first_that_holds one ≡ Some found
+    → first_that_holds (one ++ other) ≡ Some found
 first_that_holds-sooner one other found is = rw (first_that_holds-append one other, is)
 
 -- Where no check of both holds, none of either does.
-pub none_holds-both : {A : Type 0} (one other : List (A × Bool)) → first_that_holds (one ++ other) ≡ None → (first_that_holds one ≡ None) × (first_that_holds other ≡ None)
+pub none_holds-both : {A : Type 0} (one other : List (A × Bool)) → first_that_holds (one ++ other) ≡ None
+    → (first_that_holds one ≡ None) × (first_that_holds other ≡ None)
 none_holds-both one other none = by_one (first_that_holds one) refl
   where
-    by_one : (found : Option _) → first_that_holds one ≡ found → (first_that_holds one ≡ None) × (first_that_holds other ≡ None)
+    by_one : (found : Option _) → first_that_holds one ≡ found
+        → (first_that_holds one ≡ None) × (first_that_holds other ≡ None)
     by_one None same = (same, rw (first_that_holds-later one other same) at none)
     by_one (Some check) same = let sooner = first_that_holds-sooner one other check same in absurd cc
 
@@ -44,11 +51,14 @@ none_holds (check ∷ checks) none = by_test check.1 none (none_holds checks)
     by_test false none rest = rest none
 
 -- Where what each check answers is put in other words, the first that holds is the same in these words.
-pub first_that_holds-map : {A B : Type 0} (words : A → B) (checks : List (A × Bool)) → first_that_holds (map (λ check. (words check.0, check.1)) checks) ≡ option_map words (first_that_holds checks)
+pub first_that_holds-map : {A B : Type 0} (words : A → B) (checks : List (A × Bool))
+    → first_that_holds (map (λ check. (words check.0, check.1)) checks) ≡ option_map words (first_that_holds checks)
 first_that_holds-map words [] = refl
 first_that_holds-map words (check ∷ checks) = by_test check.1 (first_that_holds-map words checks)
   where
-    by_test : (holds : Bool) → first_that_holds (map (λ check. (words check.0, check.1)) checks) ≡ option_map words (first_that_holds checks)
-        → cond holds (Some (words check.0)) (first_that_holds (map (λ check. (words check.0, check.1)) checks)) ≡ option_map words (cond holds (Some check.0) (first_that_holds checks))
+    by_test : (holds : Bool)
+        → first_that_holds (map (λ check. (words check.0, check.1)) checks) ≡ option_map words (first_that_holds checks)
+        → cond holds (Some (words check.0)) (first_that_holds (map (λ check. (words check.0, check.1)) checks))
+        ≡ option_map words (cond holds (Some check.0) (first_that_holds checks))
     by_test true rest = refl
     by_test false rest = rest

@@ -14,7 +14,8 @@ pub seat_after-last : (seats seat : ℕ) → seat ≡ seats → seat_after seats
 seat_after-last seats seat last = grind (arith, nat_tests)
 
 -- The first seat of a list that is occupied is occupied, whether it is the first of all or comes later.
-pub first-occupied : (occupied : ℕ → Bool) (seat : ℕ) (more : List ℕ) (fallback : ℕ) → (occupied seat ≡ false → occupied (unwrap_or (find occupied more) fallback) ≡ true)
+pub first-occupied : (occupied : ℕ → Bool) (seat : ℕ) (more : List ℕ) (fallback : ℕ)
+    → (occupied seat ≡ false → occupied (unwrap_or (find occupied more) fallback) ≡ true)
     → occupied (unwrap_or (find occupied (seat ∷ more)) fallback) ≡ true
 first-occupied occupied seat more fallback later =
     elim (cases_Bool (occupied seat)) [
@@ -23,37 +24,45 @@ first-occupied occupied seat more fallback later =
     ]
 
 -- A walk finds an occupied seat with a higher number, if it has the steps to come there.
-pub walk-higher : (occupied : ℕ → Bool) (seats steps seat target fallback : ℕ) → occupied target ≡ true → seat < target → target ≤ seats → target ≤ seat + steps
+pub walk-higher : (occupied : ℕ → Bool) (seats steps seat target fallback : ℕ) → occupied target ≡ true → seat < target
+    → target ≤ seats → target ≤ seat + steps
     → occupied (unwrap_or (find occupied (walk (seat_after seats) steps seat)) fallback) ≡ true
 walk-higher occupied seats zero seat target fallback sits higher within reached = absurd (omega arith)
 walk-higher occupied seats (suc steps) seat target fallback sits higher within reached =
     let next = seat_after-below seats seat (omega arith) in
-    first-occupied occupied (seat_after seats seat) (walk (seat_after seats) steps (seat_after seats seat)) fallback (λ empty.
+    first-occupied occupied (seat_after seats seat) (walk (seat_after seats) steps (seat_after seats seat)) fallback
+    (λ empty.
     elim (cases_eq target (seat + 1)) [
       | inl same ↦ let nobody : occupied target ≡ false = ap occupied (same ∙ sym next) ∙ empty in absurd cc
-      | inr other ↦ walk-higher occupied seats steps (seat_after seats seat) target fallback sits (rw next (omega arith)) within (rw next (omega arith))
+      | inr other ↦ walk-higher occupied seats steps (seat_after seats seat) target fallback sits
+          (rw next (omega arith)) within (rw next (omega arith))
     ])
 
 -- A walk past the last seat finds an occupied seat, if it has the steps to come there.
-pub walk-round : (occupied : ℕ → Bool) (seats steps seat target fallback : ℕ) → occupied target ≡ true → seat ≤ seats → 1 ≤ target → target ≤ seats → seats + target ≤ seat + steps
+pub walk-round : (occupied : ℕ → Bool) (seats steps seat target fallback : ℕ) → occupied target ≡ true → seat ≤ seats
+    → 1 ≤ target → target ≤ seats → seats + target ≤ seat + steps
     → occupied (unwrap_or (find occupied (walk (seat_after seats) steps seat)) fallback) ≡ true
 walk-round occupied seats zero seat target fallback sits at low within reached = absurd (omega arith)
 walk-round occupied seats (suc steps) seat target fallback sits at low within reached =
-    first-occupied occupied (seat_after seats seat) (walk (seat_after seats) steps (seat_after seats seat)) fallback (λ empty.
+    first-occupied occupied (seat_after seats seat) (walk (seat_after seats) steps (seat_after seats seat)) fallback
+    (λ empty.
     elim (cases_lt seat seats) [
       | inl below ↦
           let next = seat_after-below seats seat below in
-          walk-round occupied seats steps (seat_after seats seat) target fallback sits (rw next (omega arith)) low within (rw next (omega arith))
+          walk-round occupied seats steps (seat_after seats seat) target fallback sits
+          (rw next (omega arith)) low within (rw next (omega arith))
       | inr last ↦
           let next = seat_after-last seats seat (omega arith) in
           elim (cases_eq target 1) [
             | inl same ↦ let nobody : occupied target ≡ false = ap occupied (same ∙ sym next) ∙ empty in absurd cc
-            | inr other ↦ walk-higher occupied seats steps (seat_after seats seat) target fallback sits (rw next (omega arith)) within (rw next (omega arith))
+            | inr other ↦ walk-higher occupied seats steps (seat_after seats seat) target fallback sits
+                (rw next (omega arith)) within (rw next (omega arith))
           ]
     ])
 
 -- Where a seat of the table is occupied, the next occupied seat is occupied.
-pub next_occupied_after-occupied : (occupied : ℕ → Bool) (seats seat target : ℕ) → seat ≤ seats → 1 ≤ target → target ≤ seats → occupied target ≡ true
+pub next_occupied_after-occupied : (occupied : ℕ → Bool) (seats seat target : ℕ) → seat ≤ seats → 1 ≤ target
+    → target ≤ seats → occupied target ≡ true
     → occupied (next_occupied_after seats occupied seat) ≡ true
 next_occupied_after-occupied occupied seats seat target at low within sits =
     elim (cases_lt seat target) [

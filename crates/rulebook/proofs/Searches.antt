@@ -12,14 +12,17 @@ use Rattle.rulebook.specs.Search.{found_along, are_at_table}
 use Rattle.rulebook.specs.Seats.{seat_after, walk, clockwise_after, people_clockwise_after}
 
 -- Tests that agree on people who pass another test find the same among these.
-find-alike : {A : Type 0} (one other right : A → Bool) (people : List A) → ((person : A) → right person ≡ true → one person ≡ other person) → list_all right people ≡ true → find one people ≡ find other people
+find-alike : {A : Type 0} (one other right : A → Bool) (people : List A)
+    → ((person : A) → right person ≡ true → one person ≡ other person) → list_all right people ≡ true
+    → find one people ≡ find other people
 find-alike one other right [] alike all = refl
 find-alike one other right (person ∷ people) alike all =
     let parts = and_parts (right person) (list_all right people) all in
     rw (alike person parts.0) (ap (cond (other person) (Some person)) (find-alike one other right people alike parts.1))
 
 -- A test that nobody passes finds nobody.
-find-nobody : {A : Type 0} (one right : A → Bool) (people : List A) → ((person : A) → right person ≡ true → one person ≡ false) → list_all right people ≡ true → find one people ≡ None
+find-nobody : {A : Type 0} (one right : A → Bool) (people : List A)
+    → ((person : A) → right person ≡ true → one person ≡ false) → list_all right people ≡ true → find one people ≡ None
 find-nobody one right [] fails all = refl
 find-nobody one right (person ∷ people) fails all =
     let parts = and_parts (right person) (list_all right people) all in
@@ -40,11 +43,15 @@ module _ {A : Type 0} (seat_of : A → ℕ) (wanted : A → Bool) where
 
   -- nobody is at no seat
   none_within : (seat : ℕ) (people : List A) → find (within seat seat) people ≡ None
-  none_within seat people = find-nobody (within seat seat) (λ person. true) people (λ person right. grind (arith, nat_tests)) (all_pass people)
+  none_within seat people =
+      find-nobody (within seat seat) (λ person. true) people (λ person right. grind (arith, nat_tests))
+      (all_pass people)
 
   -- the test of the first of two people, by what it says of him
-  first_step : (person : A) (here beyond all : Bool) (here_found beyond_found found : Option A) → here ≡ all → beyond ≡ false → option_or here_found beyond_found ≡ found
-      → option_or (cond here (Some person) here_found) (cond beyond (Some person) beyond_found) ≡ cond all (Some person) found
+  first_step : (person : A) (here beyond all : Bool) (here_found beyond_found found : Option A) → here ≡ all
+      → beyond ≡ false → option_or here_found beyond_found ≡ found
+      → option_or (cond here (Some person) here_found) (cond beyond (Some person) beyond_found)
+      ≡ cond all (Some person) found
   first_step person true beyond all here_found beyond_found found same none rest = rw (← same) refl
   first_step person false beyond all here_found beyond_found found same none rest = rw (none, ← same) rest
 
@@ -53,25 +60,33 @@ module _ {A : Type 0} (seat_of : A → ℕ) (wanted : A → Bool) where
       → option_or (find (at (low + 1)) people) (find (within (low + 1) high) people) ≡ find (within low high) people
   next_seat [] low high some rising = refl
   next_seat (person ∷ people) low high some rising =
-      let parts = and_parts (list_all (nat_lt (seat_of person)) (map seat_of people)) (is_pairwise nat_lt (map seat_of people)) rising in
+      let parts = and_parts (list_all (nat_lt (seat_of person)) (map seat_of people))
+      (is_pairwise nat_lt (map seat_of people)) rising in
       let rest = next_seat people low high some parts.1 in
       elim (cases_lt (low + 1) (seat_of person)) [
         | inl above ↦
-            let later : list_all (λ (other : A). nat_lt (seat_of person) (seat_of other)) people ≡ true = sym (list_all-map (nat_lt (seat_of person)) seat_of people) ∙ parts.0 in
-            let nobody = find-nobody (at (low + 1)) (λ (other : A). nat_lt (seat_of person) (seat_of other)) people (λ other right. grind (arith, nat_tests)) later in
+            let later : list_all (λ (other : A). nat_lt (seat_of person) (seat_of other)) people ≡ true =
+            sym (list_all-map (nat_lt (seat_of person)) seat_of people) ∙ parts.0 in
+            let nobody = find-nobody (at (low + 1)) (λ (other : A). nat_lt (seat_of person) (seat_of other)) people
+            (λ other right. grind (arith, nat_tests)) later in
             let here : at (low + 1) person ≡ false = grind (arith, nat_tests) in
             let same : within (low + 1) high person ≡ within low high person = grind (arith, nat_tests) in
-            let others = find-alike (within (low + 1) high) (within low high) (λ (other : A). nat_lt (seat_of person) (seat_of other)) people (λ other right. grind (arith, nat_tests)) later in
+            let others = find-alike (within (low + 1) high) (within low high)
+            (λ (other : A). nat_lt (seat_of person) (seat_of other)) people
+            (λ other right. grind (arith, nat_tests)) later in
             rw (here, nobody, same, others) refl
         | inr below ↦
             let beyond : within (low + 1) high person ≡ false = grind (arith, nat_tests) in
             let here : at (low + 1) person ≡ within low high person = grind (arith, nat_tests) in
-            first_step person (at (low + 1) person) (within (low + 1) high person) (within low high person) _ _ _ here beyond rest
+            first_step person (at (low + 1) person) (within (low + 1) high person)
+            (within low high person) _ _ _ here beyond rest
       ]
 
   -- a walk that does not pass the last seat finds the first at the seats that it comes to
-  found-before_last : (people : List A) (seats steps seat : ℕ) → are_rising (map seat_of people) ≡ true → seat + steps ≤ seats
-      → found_along seat_of wanted people (walk (seat_after seats) steps seat) ≡ find (within seat (seat + steps)) people
+  found-before_last : (people : List A) (seats steps seat : ℕ) → are_rising (map seat_of people) ≡ true
+      → seat + steps ≤ seats
+      → found_along seat_of wanted people (walk (seat_after seats) steps seat)
+      ≡ find (within seat (seat + steps)) people
   found-before_last people seats zero seat rising short =
       let none = none_within seat people in
       let same : seat + 0 ≡ seat = omega arith in
@@ -96,26 +111,38 @@ module _ {A : Type 0} (seat_of : A → ℕ) (wanted : A → Bool) where
   or_joined (Some person) two three = refl
 
   -- a walk that passes the last seat finds the first at the seats up to it, and else the first from seat 1 on
-  found-round : (people : List A) (seats ahead behind seat : ℕ) → are_rising (map seat_of people) ≡ true → seat + ahead ≡ seats → behind ≤ seats
-      → found_along seat_of wanted people (walk (seat_after seats) (ahead + behind) seat) ≡ option_or (find (within seat seats) people) (find (within 0 behind) people)
+  found-round : (people : List A) (seats ahead behind seat : ℕ) → are_rising (map seat_of people) ≡ true
+      → seat + ahead ≡ seats → behind ≤ seats
+      → found_along seat_of wanted people (walk (seat_after seats) (ahead + behind) seat)
+      ≡ option_or (find (within seat seats) people) (find (within 0 behind) people)
   found-round people seats zero behind seat rising there short =
       let at_last : seat ≡ seats = omega arith in
       let steps : 0 + behind ≡ behind = omega arith in
       let rest = found-before_last people seats behind 0 rising (omega arith) in
       let none = none_within seats people in
-      let from_seat = ap (λ (n : ℕ). found_along seat_of wanted people (walk (seat_after seats) (0 + behind) n)) at_last in
+      let from_seat = ap (λ (n : ℕ). found_along seat_of wanted people (walk (seat_after seats) (0 + behind) n))
+      at_last in
       let fewer = ap (λ (n : ℕ). found_along seat_of wanted people (walk (seat_after seats) n seats)) steps in
       let from_none = ap (found_along seat_of wanted people) (from_last seats behind short) in
       let end = ap (λ (n : ℕ). find (within 0 n) people) steps in
-      let whole : find (within 0 behind) people ≡ option_or (find (within seats seats) people) (find (within 0 behind) people) = rw none refl in
-      let here = ap (λ (n : ℕ). option_or (find (within n seats) people) (find (within 0 behind) people)) (sym at_last) in
+      let whole : find (within 0 behind) people ≡ option_or (find (within seats seats) people)
+      (find (within 0 behind) people) = rw none refl in
+      let here = ap (λ (n : ℕ). option_or (find (within n seats) people) (find (within 0 behind) people))
+      (sym at_last) in
       from_seat ∙ fewer ∙ from_none ∙ rest ∙ end ∙ whole ∙ here
   found-round people seats (suc ahead) behind seat rising there short =
       let next = seat_after-below seats seat (omega arith) in
       let steps : suc ahead + behind ≡ suc (ahead + behind) = omega arith in
       let rest = found-round people seats ahead behind (seat + 1) rising (omega arith) short in
       let here = next_seat people seat seats (omega arith) rising in
-      rw (steps, next, rest, or_joined (find (at (seat + 1)) people) (find (within (seat + 1) seats) people) (find (within 0 behind) people), here) refl
+      rw (
+        steps,
+        next,
+        rest,
+        or_joined (find (at (seat + 1)) people) (find (within (seat + 1) seats) people)
+            (find (within 0 behind) people),
+        here,
+      ) refl
 
   -- one person more, by whether the test keeps him and he is wanted
   find-filter_step : (person : A) (keeps : Bool) (left : List A) (found : Option A) → find wanted left ≡ found
@@ -124,20 +151,34 @@ module _ {A : Type 0} (seat_of : A → ℕ) (wanted : A → Bool) where
   find-filter_step person false left found same = same
 
   -- what a list finds among those that another test keeps
-  find-filter : (kept : A → Bool) (people : List A) → find wanted (filter kept people) ≡ find (λ person. kept person && wanted person) people
+  find-filter : (kept : A → Bool) (people : List A)
+      → find wanted (filter kept people) ≡ find (λ person. kept person && wanted person) people
   find-filter kept [] = refl
-  find-filter kept (person ∷ people) = find-filter_step person (kept person) (filter kept people) _ (find-filter kept people)
+  find-filter kept (person ∷ people) = find-filter_step person (kept person) (filter kept people) _
+      (find-filter kept people)
 
   -- the search through the list is the walk round the table
-  pub search-walk : (people : List A) (seats seat : ℕ) → seat ≤ seats → are_rising (map seat_of people) ≡ true → are_at_table seat_of seats people ≡ true
-      → find wanted (people_clockwise_after seat_of people seat) ≡ found_along seat_of wanted people (clockwise_after seats seat)
+  pub search-walk : (people : List A) (seats seat : ℕ) → seat ≤ seats → are_rising (map seat_of people) ≡ true
+      → are_at_table seat_of seats people ≡ true
+      → find wanted (people_clockwise_after seat_of people seat) ≡ found_along seat_of wanted people
+      (clockwise_after seats seat)
   search-walk people seats seat low rising sit =
       let right : A → Bool = λ person. nat_le 1 (seat_of person) && nat_le (seat_of person) seats in
-      let above = find-alike (λ person. nat_lt seat (seat_of person) && wanted person) (within seat seats) right people (λ person sits. grind (arith, nat_tests)) sit in
-      let others = find-alike (λ person. not (nat_lt seat (seat_of person)) && wanted person) (within 0 seat) right people (λ person sits. grind (arith, nat_tests)) sit in
+      let above = find-alike (λ person. nat_lt seat (seat_of person) && wanted person) (within seat seats) right people
+      (λ person sits. grind (arith, nat_tests)) sit in
+      let others = find-alike (λ person. not (nat_lt seat (seat_of person)) && wanted person)
+      (within 0 seat) right people (λ person sits. grind (arith, nat_tests)) sit in
       let steps : seats - seat + seat ≡ seats = omega arith in
       let round = found-round people seats (seats - seat) seat seat rising (omega arith) low in
       let walked = ap (λ (n : ℕ). found_along seat_of wanted people (walk (seat_after seats) n seat)) steps in
-      let found : find wanted (people_clockwise_after seat_of people seat) ≡ option_or (find (within seat seats) people) (find (within 0 seat) people) =
-      rw (find-append, find-filter (λ person. nat_lt seat (seat_of person)), find-filter (λ person. not (nat_lt seat (seat_of person))), above, others) refl in
+      let found : find wanted (people_clockwise_after seat_of people seat) ≡ option_or (find (within seat seats) people)
+      (find (within 0 seat) people) =
+      rw (
+        find-append,
+        find-filter (λ person. nat_lt seat (seat_of person)),
+        find-filter
+            (λ person. not (nat_lt seat (seat_of person))),
+        above,
+        others,
+      ) refl in
       found ∙ sym round ∙ walked

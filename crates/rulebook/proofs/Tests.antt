@@ -6,7 +6,8 @@ use Rattle.std.proofs.lemmas.Bool.{and_parts, and_from, or_left, or_right, cases
 use Rattle.std.proofs.lemmas.Option.{same_Some}
 
 -- What passes two tests passes a third that follows from them.
-pub list_all-both : {A : Type 0} (one other third : A → Bool) (items : List A) → ((item : A) → one item ≡ true → other item ≡ true → third item ≡ true)
+pub list_all-both : {A : Type 0} (one other third : A → Bool) (items : List A)
+    → ((item : A) → one item ≡ true → other item ≡ true → third item ≡ true)
     → list_all one items ≡ true → list_all other items ≡ true → list_all third items ≡ true
 list_all-both one other third [] follows first second = refl
 list_all-both one other third (item ∷ items) follows first second =
@@ -15,11 +16,14 @@ list_all-both one other third (item ∷ items) follows first second =
     and_from _ _ (follows item here.0 there.0) (list_all-both one other third items follows here.1 there.1)
 
 -- What passes a test passes another that follows from it.
-pub list_all-follows : {A : Type 0} (one other : A → Bool) (items : List A) → ((item : A) → one item ≡ true → other item ≡ true) → list_all one items ≡ true → list_all other items ≡ true
-list_all-follows one other items follows first = list_all-both one one other items (λ item passes again. follows item passes) first first
+pub list_all-follows : {A : Type 0} (one other : A → Bool) (items : List A)
+    → ((item : A) → one item ≡ true → other item ≡ true) → list_all one items ≡ true → list_all other items ≡ true
+list_all-follows one other items follows first =
+    list_all-both one one other items (λ item passes again. follows item passes) first first
 
 -- What passes a test for all of a list does for some of it.
-pub list_all-filter : {A K : Type 0} (test : K → Bool) (key : A → K) (keep : A → Bool) (items : List A) → list_all test (map key items) ≡ true → list_all test (map key (filter keep items)) ≡ true
+pub list_all-filter : {A K : Type 0} (test : K → Bool) (key : A → K) (keep : A → Bool) (items : List A)
+    → list_all test (map key items) ≡ true → list_all test (map key (filter keep items)) ≡ true
 list_all-filter test key keep [] all = refl
 list_all-filter test key keep (item ∷ items) all =
     let parts = and_parts (test (key item)) (list_all test (map key items)) all in
@@ -30,7 +34,8 @@ list_all-filter test key keep (item ∷ items) all =
     ]
 
 -- One more item, between those in front and those behind.
-pub list_all-between : {A : Type 0} (test : A → Bool) (front : List A) (item : A) (behind : List A) → list_all test (front ++ behind) ≡ true → test item ≡ true
+pub list_all-between : {A : Type 0} (test : A → Bool) (front : List A) (item : A) (behind : List A)
+    → list_all test (front ++ behind) ≡ true → test item ≡ true
     → list_all test (front ++ item ∷ behind) ≡ true
 list_all-between test [] item behind all here = and_from _ _ here all
 list_all-between test (first ∷ front) item behind all here =
@@ -38,57 +43,73 @@ list_all-between test (first ∷ front) item behind all here =
     and_from _ _ parts.0 (list_all-between test front item behind parts.1 here)
 
 -- Where somebody passes a test and all pass another, somebody passes a third that follows from both.
-pub list_any-both : {A : Type 0} (one other third : A → Bool) (items : List A) → ((item : A) → one item ≡ true → other item ≡ true → third item ≡ true)
+pub list_any-both : {A : Type 0} (one other third : A → Bool) (items : List A)
+    → ((item : A) → one item ≡ true → other item ≡ true → third item ≡ true)
     → list_any one items ≡ true → list_all other items ≡ true → list_any third items ≡ true
 list_any-both one other third [] follows some all = some
 list_any-both one other third (item ∷ items) follows some all =
     let parts = and_parts (other item) (list_all other items) all in
     by_first (one item) refl (λ later. list_any-both one other third items follows later parts.1) parts.0
   where
-    by_first : (passes : Bool) → one item ≡ passes → (list_any one items ≡ true → list_any third items ≡ true) → other item ≡ true → (third item || list_any third items) ≡ true
+    by_first : (passes : Bool) → one item ≡ passes → (list_any one items ≡ true → list_any third items ≡ true)
+        → other item ≡ true → (third item || list_any third items) ≡ true
     by_first true is later too = or_left _ _ (follows item is too)
     by_first false is later too = or_right _ _ (later (rw is at some))
 
 -- Where somebody passes a test, somebody passes another that follows from it.
-pub list_any-follows : {A : Type 0} (one other : A → Bool) (items : List A) → ((item : A) → one item ≡ true → other item ≡ true) → list_any one items ≡ true → list_any other items ≡ true
+pub list_any-follows : {A : Type 0} (one other : A → Bool) (items : List A)
+    → ((item : A) → one item ≡ true → other item ≡ true) → list_any one items ≡ true → list_any other items ≡ true
 list_any-follows one other [] follows some = some
 list_any-follows one other (item ∷ items) follows some =
     by_first (one item) refl (λ later. list_any-follows one other items follows later)
   where
-    by_first : (passes : Bool) → one item ≡ passes → (list_any one items ≡ true → list_any other items ≡ true) → (other item || list_any other items) ≡ true
+    by_first : (passes : Bool) → one item ≡ passes → (list_any one items ≡ true → list_any other items ≡ true)
+        → (other item || list_any other items) ≡ true
     by_first true is later = or_left _ _ (follows item is)
     by_first false is later = or_right _ _ (later (rw is at some))
 
 -- Who is found by a test passes it.
-pub find-passes : {A : Type 0} (wanted : A → Bool) (items : List A) (found : A) → find wanted items ≡ Some found → wanted found ≡ true
+pub find-passes : {A : Type 0} (wanted : A → Bool) (items : List A) (found : A) → find wanted items ≡ Some found
+    → wanted found ≡ true
 find-passes wanted [] found is = absurd cc
 find-passes wanted (item ∷ items) found is = by_first (wanted item) refl (λ later. find-passes wanted items found later)
   where
-    by_first : (passes : Bool) → wanted item ≡ passes → (find wanted items ≡ Some found → wanted found ≡ true) → wanted found ≡ true
-    by_first true passes later = let he : item ≡ found = same_Some item found (rw passes at is) in ap wanted (sym he) ∙ passes
+    by_first : (passes : Bool) → wanted item ≡ passes → (find wanted items ≡ Some found → wanted found ≡ true)
+        → wanted found ≡ true
+    by_first true passes later = let he : item ≡ found = same_Some item found (rw passes at is) in ap wanted (sym he)
+        ∙ passes
     by_first false passes later = later (rw passes at is)
 
 -- Who is found passes what all pass.
-pub find-all : {A : Type 0} (wanted test : A → Bool) (items : List A) (found : A) → find wanted items ≡ Some found → list_all test items ≡ true → test found ≡ true
+pub find-all : {A : Type 0} (wanted test : A → Bool) (items : List A) (found : A) → find wanted items ≡ Some found
+    → list_all test items ≡ true → test found ≡ true
 find-all wanted test [] found is all = absurd cc
 find-all wanted test (item ∷ items) found is all =
     let parts = and_parts (test item) (list_all test items) all in
     by_first (wanted item) refl parts.0 (λ later. find-all wanted test items found later parts.1)
   where
-    by_first : (passes : Bool) → wanted item ≡ passes → test item ≡ true → (find wanted items ≡ Some found → test found ≡ true) → test found ≡ true
-    by_first true passes too later = let he : item ≡ found = same_Some item found (rw passes at is) in ap test (sym he) ∙ too
+    by_first : (passes : Bool) → wanted item ≡ passes → test item ≡ true
+        → (find wanted items ≡ Some found → test found ≡ true) → test found ≡ true
+    by_first true passes too later = let he : item ≡ found = same_Some item found (rw passes at is) in ap test (sym he)
+        ∙ too
     by_first false passes too later = later (rw passes at is)
 
 -- Where the one who is found passes a test, somebody passes it.
-pub find-any : {A : Type 0} (wanted test : A → Bool) (items : List A) (found : A) → find wanted items ≡ Some found → test found ≡ true → list_any test items ≡ true
+pub find-any : {A : Type 0} (wanted test : A → Bool) (items : List A) (found : A) → find wanted items ≡ Some found
+    → test found ≡ true → list_any test items ≡ true
 find-any wanted test [] found is passes = absurd cc
-find-any wanted test (item ∷ items) found is passes = by_first (wanted item) refl (λ later. find-any wanted test items found later passes)
+find-any wanted test (item ∷ items) found is passes =
+    by_first (wanted item) refl (λ later. find-any wanted test items found later passes)
   where
-    by_first : (here : Bool) → wanted item ≡ here → (find wanted items ≡ Some found → list_any test items ≡ true) → (test item || list_any test items) ≡ true
-    by_first true here later = let he : item ≡ found = same_Some item found (rw here at is) in or_left _ _ (ap test he ∙ passes)
+    by_first : (here : Bool) → wanted item ≡ here → (find wanted items ≡ Some found → list_any test items ≡ true)
+        → (test item || list_any test items) ≡ true
+    by_first true here later = let he : item ≡ found = same_Some item found (rw here at is) in
+        or_left _ _ (ap test he ∙ passes)
     by_first false here later = or_right _ _ (later (rw here at is))
 
 -- Somebody of a list that is made of another passes a test where somebody of that one does.
-pub list_any-made : {A B : Type 0} (test : B → Bool) (made : A → B) (items : List A) → list_any test (map made items) ≡ list_any (λ item. test (made item)) items
+pub list_any-made : {A B : Type 0} (test : B → Bool) (made : A → B) (items : List A)
+    → list_any test (map made items) ≡ list_any (λ item. test (made item)) items
 list_any-made test made [] = refl
-list_any-made test made (item ∷ items) = ap (λ (others : Bool). test (made item) || others) (list_any-made test made items)
+list_any-made test made (item ∷ items) =
+    ap (λ (others : Bool). test (made item) || others) (list_any-made test made items)

@@ -11,14 +11,17 @@ walk-next step steps taken seat within =
     ap (λ (n : ℕ). walk step n seat) left
 
 -- A walk whose first seat is occupied finds that seat.
-pub walk-found : (occupied : ℕ → Bool) (step : ℕ → ℕ) (steps taken seat fallback : ℕ) → taken < steps → occupied (step seat) ≡ true
+pub walk-found : (occupied : ℕ → Bool) (step : ℕ → ℕ) (steps taken seat fallback : ℕ) → taken < steps
+    → occupied (step seat) ≡ true
     → unwrap_or (find occupied (walk step (steps - taken) seat)) fallback ≡ step seat
 walk-found occupied step steps taken seat fallback within found =
     rw (walk-next step steps taken seat within, found)
 
 -- A walk whose first seat is not occupied finds what the rest of it finds.
-pub walk-passed : (occupied : ℕ → Bool) (step : ℕ → ℕ) (steps taken seat fallback : ℕ) → taken < steps → occupied (step seat) ≡ false
-    → unwrap_or (find occupied (walk step (steps - taken) seat)) fallback ≡ unwrap_or (find occupied (walk step (steps - (taken + 1)) (step seat))) fallback
+pub walk-passed : (occupied : ℕ → Bool) (step : ℕ → ℕ) (steps taken seat fallback : ℕ) → taken < steps
+    → occupied (step seat) ≡ false
+    → unwrap_or (find occupied (walk step (steps - taken) seat)) fallback
+    ≡ unwrap_or (find occupied (walk step (steps - (taken + 1)) (step seat))) fallback
 walk-passed occupied step steps taken seat fallback within passed =
     rw (walk-next step steps taken seat within, passed)
 

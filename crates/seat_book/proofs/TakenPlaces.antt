@@ -15,7 +15,8 @@ use Rattle.seat_book.proofs.Passing.{count_by-cons}
 pub has_seat-one_more : (set : List Bool) (more seat : ℕ) → 1 ≤ seat → seat ≤ length set
     → has_seat (with_seat set more) seat ≡ (more == seat || has_seat set seat)
 has_seat-one_more set more zero first within = absurd (omega arith)
-has_seat-one_more set zero (suc k) first within = let none : (0 == suc k) ≡ false = grind (arith, nat_tests) in rw none refl
+has_seat-one_more set zero (suc k) first within = let none : (0 == suc k) ≡ false = grind (arith, nat_tests) in
+    rw none refl
 has_seat-one_more set (suc at) (suc k) first within = elim (cases_eq k at) [
   | inl same ↦
       let one : (suc at == suc k) ≡ true = eq-eqb (suc at) (suc k) (ap suc (sym same)) in
@@ -72,7 +73,8 @@ module _ (table seat : ℕ) (first : 1 ≤ seat) (last : seat ≤ 10) where
 
   one : (seated : Seated) (players : List Seated) (set : List Bool) (here there : Bool) → length set ≡ 10
       → (seated.place.seat == seat) ≡ there
-      → ((set : List Bool) → length set ≡ 10 → has_seat (with_seats set (seats_of (filter (sits_at table) players))) seat
+      → ((set : List Bool) → length set ≡ 10
+      → has_seat (with_seats set (seats_of (filter (sits_at table) players))) seat
       ≡ (is_in players || has_seat set seat))
       → has_seat (with_seats set (seats_of (cond here (seated ∷ filter (sits_at table) players)
       (filter (sits_at table) players)))) seat
@@ -82,7 +84,8 @@ module _ (table seat : ℕ) (first : 1 ≤ seat) (last : seat ≤ 10) where
   one seated players set false there size is others = others set size
   one seated players set true true size is others =
       let put = has_seat-one_more set seated.place.seat seat first (omega (arith, size, last)) in
-      let put_true : has_seat (with_seat set seated.place.seat) seat ≡ true = put ∙ ap (λ b. b || has_seat set seat) is in
+      let put_true : has_seat (with_seat set seated.place.seat) seat ≡ true = put
+      ∙ ap (λ b. b || has_seat set seat) is in
       rw is (others (with_seat set seated.place.seat) (same_size set seated.place.seat ∙ size)
       ∙ (ap (λ b. is_in players || b) put_true ∙ either-true (is_in players)))
   one seated players set true false size is others =
@@ -93,7 +96,8 @@ module _ (table seat : ℕ) (first : 1 ≤ seat) (last : seat ≤ 10) where
       ∙ ap (λ b. is_in players || b) put_as)
 
   all : (players : List Seated) (set : List Bool) → length set ≡ 10
-      → has_seat (with_seats set (seats_of (filter (sits_at table) players))) seat ≡ (is_in players || has_seat set seat)
+      → has_seat (with_seats set (seats_of (filter (sits_at table) players))) seat
+      ≡ (is_in players || has_seat set seat)
   unfolding is_in seats_of
   all [] set size = refl
   all (seated ∷ players) set size =

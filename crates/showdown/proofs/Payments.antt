@@ -10,17 +10,26 @@ use Rattle.pot_layers.proofs.ShareLaws.{sum_below-share_of}
 use Rattle.showdown.specs.Awards.{is_seat, award_to, pay_in_turn}
 
 -- Seats count from 1, and indices from 0.
-pub award_to-index : (awards : List ℕ) (seat amount : ℕ) → 1 ≤ seat → award_to awards seat amount ≡ set awards (seat - 1) (get_or awards (seat - 1) 0 + amount)
+pub award_to-index : (awards : List ℕ) (seat amount : ℕ) → 1 ≤ seat
+    → award_to awards seat amount ≡ set awards (seat - 1) (get_or awards (seat - 1) 0 + amount)
 award_to-index awards zero amount low = absurd (omega arith)
 award_to-index awards (suc index) amount low = let same : suc index - 1 ≡ index = omega arith in rw same
 
 -- The next winner is paid: what is left pays the same.
-pub paid-next : (amount unit count : ℕ) (awards order : List ℕ) (index : ℕ) → index < length order → 1 ≤ get_or order index 0
-    → pay_in_turn amount unit count (set awards (get_or order index 0 - 1) (get_or awards (get_or order index 0 - 1) 0 + share_of amount unit count index)) (index + 1) (drop (index + 1) order)
+pub paid-next : (amount unit count : ℕ) (awards order : List ℕ) (index : ℕ) → index < length order
+    → 1 ≤ get_or order index 0
+    → pay_in_turn amount unit count
+    (set awards (get_or order index 0 - 1)
+    (get_or awards (get_or order index 0 - 1) 0 + share_of amount unit count index)) (index + 1)
+    (drop (index + 1) order)
     ≡ pay_in_turn amount unit count awards index (drop index order)
 paid-next amount unit count awards order index within low =
-    ap (λ (n : ℕ). pay_in_turn amount unit count (set awards (get_or order index 0 - 1) (get_or awards (get_or order index 0 - 1) 0 + share_of amount unit count index)) n (drop n order)) (add-one index)
-    ∙ ap (λ (paid : List ℕ). pay_in_turn amount unit count paid (suc index) (drop (suc index) order)) (sym (award_to-index awards (get_or order index 0) (share_of amount unit count index) low))
+    ap (λ (n : ℕ). pay_in_turn amount unit count
+    (set awards (get_or order index 0 - 1)
+    (get_or awards (get_or order index 0 - 1) 0 + share_of amount unit count index)) n (drop n order))
+    (add-one index)
+    ∙ ap (λ (paid : List ℕ). pay_in_turn amount unit count paid (suc index) (drop (suc index) order))
+    (sym (award_to-index awards (get_or order index 0) (share_of amount unit count index) low))
     ∙ sym (ap (pay_in_turn amount unit count awards index) (drop-cons order index 0 within))
 
 le : (a b : ℕ) → nat_le a b ≡ true → a ≤ b
@@ -28,17 +37,25 @@ le a b is = grind (arith, nat_tests)
 
 -- A seat of tables is from 1 to 10.
 pub first-seat : (seat : ℕ) → is_seat seat ≡ true → (1 ≤ seat) × (seat ≤ 10)
-first-seat seat is = (le 1 seat (and-left (nat_le 1 seat) (nat_le seat 10) is), le seat 10 (and-right (nat_le 1 seat) (nat_le seat 10) is))
+first-seat seat is = (
+  le 1 seat (and-left (nat_le 1 seat) (nat_le seat 10) is),
+  le seat 10
+      (and-right (nat_le 1 seat) (nat_le seat 10) is),
+)
 
 -- A seat of an order of seats.
-pub seat-at : (order : List ℕ) (index : ℕ) → list_all is_seat order ≡ true → index < length order → (1 ≤ get_or order index 0) × (get_or order index 0 ≤ 10)
+pub seat-at : (order : List ℕ) (index : ℕ) → list_all is_seat order ≡ true → index < length order
+    → (1 ≤ get_or order index 0) × (get_or order index 0 ≤ 10)
 seat-at [] index all within = absurd (omega arith)
 seat-at (seat ∷ more) zero all within = first-seat seat (and-left (is_seat seat) (list_all is_seat more) all)
-seat-at (seat ∷ more) (suc index) all within = seat-at more index (and-right (is_seat seat) (list_all is_seat more) all) (omega arith)
+seat-at (seat ∷ more) (suc index) all within = seat-at more index (and-right (is_seat seat) (list_all is_seat more) all)
+    (omega arith)
 
 -- The awards grow by what is paid.
-pub sum-award : (awards : List ℕ) (index amount : ℕ) → index < length awards → sum (set awards index (get_or awards index 0 + amount)) ≡ sum awards + amount
-sum-award awards index amount within = omega (arith, sum_by-set (λ (n : ℕ). n) awards index (get_or awards index 0 + amount) 0 within)
+pub sum-award : (awards : List ℕ) (index amount : ℕ) → index < length awards
+    → sum (set awards index (get_or awards index 0 + amount)) ≡ sum awards + amount
+sum-award awards index amount within =
+    omega (arith, sum_by-set (λ (n : ℕ). n) awards index (get_or awards index 0 + amount) 0 within)
 
 sum_below-grows : (f : ℕ → ℕ) (few many : ℕ) → few ≤ many → sum_below f few ≤ sum_below f many
 sum_below-grows f few zero under = let none : few ≡ 0 = omega arith in rw none (omega arith)
@@ -50,12 +67,14 @@ sum_below-grows f few (suc many) under = by_least (nat_le few many) refl (sum_be
     equal : (a b : ℕ) → a ≤ suc b → nat_le a b ≡ false → a ≡ suc b
     equal a b under is = grind (arith, nat_tests)
 
-    by_least : (is_less : Bool) → nat_le few many ≡ is_less → (few ≤ many → sum_below f few ≤ sum_below f many) → sum_below f few ≤ sum_below f (suc many)
+    by_least : (is_less : Bool) → nat_le few many ≡ is_less → (few ≤ many → sum_below f few ≤ sum_below f many)
+        → sum_below f few ≤ sum_below f (suc many)
     by_least true is less = omega (arith, less (le few many is))
     by_least false is less = rw (equal few many under is) (omega arith)
 
 -- What the first winners are paid with the next one's share is within the amount.
-pub shares-within : (amount unit count index : ℕ) → index < count → amount % unit ≡ 0 → sum_below (share_of amount unit count) index + share_of amount unit count index ≤ amount
+pub shares-within : (amount unit count index : ℕ) → index < count → amount % unit ≡ 0
+    → sum_below (share_of amount unit count) index + share_of amount unit count index ≤ amount
 shares-within amount unit count index within whole =
     let grows = sum_below-grows (share_of amount unit count) (suc index) count (omega arith) in
     let all = sum_below-share_of amount unit count (omega arith) whole in

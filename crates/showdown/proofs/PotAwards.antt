@@ -23,14 +23,22 @@ use Rattle.showdown.proofs.Turns.{in_turn-some}
 use Rattle.showdown.proofs.Best.{some-wins}
 
 -- A pot that is split once.
-pub award_pot-once : (hands : List (Option Hand)) (unit button seats : ℕ) (awards : List ℕ) (pot : Pot) → (seat_count (winners Low (in_play pot.eligible hands)) == 0 || are_same_seats (winners High (in_play pot.eligible hands)) (winners Low (in_play pot.eligible hands))) ≡ true
-    → split pot.amount unit awards (in_turn seats button (winners High (in_play pot.eligible hands))) ≡ award_pot hands unit button seats awards pot
+pub award_pot-once : (hands : List (Option Hand)) (unit button seats : ℕ) (awards : List ℕ) (pot : Pot)
+    → (seat_count (winners Low (in_play pot.eligible hands)) == 0 || are_same_seats
+    (winners High (in_play pot.eligible hands)) (winners Low (in_play pot.eligible hands))) ≡ true
+    → split pot.amount unit awards (in_turn seats button (winners High (in_play pot.eligible hands)))
+    ≡ award_pot hands unit button seats awards pot
 unfolding award_pot
 award_pot-once hands unit button seats awards pot once = rw once
 
 -- A pot of which each side splits its half.
-pub award_pot-halves : (hands : List (Option Hand)) (unit button seats : ℕ) (awards : List ℕ) (pot : Pot) → (seat_count (winners Low (in_play pot.eligible hands)) == 0 || are_same_seats (winners High (in_play pot.eligible hands)) (winners Low (in_play pot.eligible hands))) ≡ false
-    → split (low_half pot.amount unit) unit (split (high_half pot.amount unit) unit awards (in_turn seats button (winners High (in_play pot.eligible hands)))) (in_turn seats button (winners Low (in_play pot.eligible hands)))
+pub award_pot-halves : (hands : List (Option Hand)) (unit button seats : ℕ) (awards : List ℕ) (pot : Pot)
+    → (seat_count (winners Low (in_play pot.eligible hands)) == 0 || are_same_seats
+    (winners High (in_play pot.eligible hands)) (winners Low (in_play pot.eligible hands))) ≡ false
+    → split (low_half pot.amount unit) unit
+    (split (high_half pot.amount unit) unit awards
+    (in_turn seats button (winners High (in_play pot.eligible hands))))
+    (in_turn seats button (winners Low (in_play pot.eligible hands)))
     ≡ award_pot hands unit button seats awards pot
 unfolding award_pot
 award_pot-halves hands unit button seats awards pot halves = rw halves
@@ -39,17 +47,20 @@ award_pot-halves hands unit button seats awards pot halves = rw halves
 pub share_of-whole : (amount unit winners index : ℕ) → share_of amount unit winners index % unit ≡ 0
 share_of-whole amount unit winners index = mul-mod_right unit (units_to winners index (amount / unit))
 
-wins-some : (side : Side) (hands : List (Option Hand)) (hand : Option Hand) → wins side hands hand ≡ true → is_some hand ≡ true
+wins-some : (side : Side) (hands : List (Option Hand)) (hand : Option Hand) → wins side hands hand ≡ true
+    → is_some hand ≡ true
 wins-some side hands None is = absurd cc
 wins-some side hands (Some own) is = refl
 
 -- The test of the hand at an index.
-pub map-at : (test : Option Hand → Bool) (hands : List (Option Hand)) (index : ℕ) → get_or (map test hands) index false ≡ true → test (get_or hands index None) ≡ true
+pub map-at : (test : Option Hand → Bool) (hands : List (Option Hand)) (index : ℕ)
+    → get_or (map test hands) index false ≡ true → test (get_or hands index None) ≡ true
 map-at test [] index is = absurd cc
 map-at test (hand ∷ more) zero is = is
 map-at test (hand ∷ more) (suc index) is = map-at test more index is
 
-at-map : (test : Option Hand → Bool) (hands : List (Option Hand)) (index : ℕ) → test None ≡ false → test (get_or hands index None) ≡ true → get_or (map test hands) index false ≡ true
+at-map : (test : Option Hand → Bool) (hands : List (Option Hand)) (index : ℕ) → test None ≡ false
+    → test (get_or hands index None) ≡ true → get_or (map test hands) index false ≡ true
 at-map test [] index none is = absurd cc
 at-map test (hand ∷ more) zero none is = is
 at-map test (hand ∷ more) (suc index) none is = at-map test more index none is
@@ -59,36 +70,48 @@ some-either true hand is = is
 some-either false hand is = absurd cc
 
 -- A winner sits at the table.
-pub winner-sits : (side : Side) (hands : List (Option Hand)) (eligible : List Bool) (seats seat : ℕ) → AreSeatsOf seats (map is_some hands) → has_seat (winners side (in_play eligible hands)) seat ≡ true → IsSeat seats seat
+pub winner-sits : (side : Side) (hands : List (Option Hand)) (eligible : List Bool) (seats seat : ℕ)
+    → AreSeatsOf seats (map is_some hands) → has_seat (winners side (in_play eligible hands)) seat ≡ true
+    → IsSeat seats seat
 unfolding winners
 winner-sits side hands eligible seats zero table is = absurd cc
 winner-sits side hands eligible seats (suc index) table is =
     let wins_it = map-at (wins side (in_play eligible hands)) (in_play eligible hands) index is in
     let in_it = wins-some side (in_play eligible hands) (get_or (in_play eligible hands) index None) wins_it in
-    let has_hand : is_some (get_or hands index None) ≡ true = some-either (get_or eligible index false) (get_or hands index None) (ap is_some (sym (get_or-in_play eligible hands index)) ∙ in_it) in
+    let has_hand : is_some (get_or hands index None) ≡ true =
+    some-either (get_or eligible index false) (get_or hands index None)
+    (ap is_some (sym (get_or-in_play eligible hands index)) ∙ in_it) in
     (omega arith, table.within (suc index) (at-map is_some hands index refl has_hand))
 
 -- Where an eligible player has a hand, somebody has the high side's first turn.
-pub high-some : (hands : List (Option Hand)) (eligible : List Bool) (seats button : ℕ) → AreSeatsOf seats (map is_some hands) → IsSeat seats button → list_any is_some (in_play eligible hands) ≡ true
+pub high-some : (hands : List (Option Hand)) (eligible : List Bool) (seats button : ℕ)
+    → AreSeatsOf seats (map is_some hands) → IsSeat seats button → list_any is_some (in_play eligible hands) ≡ true
     → 1 ≤ length (in_turn seats button (winners High (in_play eligible hands)))
 unfolding winners
 high-some hands eligible seats button table at some =
     let best = some-wins (in_play eligible hands) some in
-    let is : has_seat (winners High (in_play eligible hands)) (suc best.0) ≡ true = get_or-map (wins High (in_play eligible hands)) (in_play eligible hands) best.0 None false best.1 ∙ best.2 in
-    in_turn-some (winners High (in_play eligible hands)) seats button (suc best.0) at (winner-sits High hands eligible seats (suc best.0) table is) is
+    let is : has_seat (winners High (in_play eligible hands)) (suc best.0) ≡ true =
+    get_or-map (wins High (in_play eligible hands)) (in_play eligible hands) best.0 None false best.1 ∙ best.2 in
+    in_turn-some (winners High (in_play eligible hands)) seats button (suc best.0) at
+    (winner-sits High hands eligible seats (suc best.0) table is) is
 
 -- Where somebody has a low, somebody has the low side's first turn.
-pub low-some : (hands : List (Option Hand)) (eligible : List Bool) (seats button : ℕ) → AreSeatsOf seats (map is_some hands) → IsSeat seats button → (seat_count (winners Low (in_play eligible hands)) == 0) ≡ false
+pub low-some : (hands : List (Option Hand)) (eligible : List Bool) (seats button : ℕ)
+    → AreSeatsOf seats (map is_some hands) → IsSeat seats button
+    → (seat_count (winners Low (in_play eligible hands)) == 0) ≡ false
     → 1 ≤ length (in_turn seats button (winners Low (in_play eligible hands)))
 low-some hands eligible seats button table at some =
-    let seat = some-seat (winners Low (in_play eligible hands)) (above (seat_count (winners Low (in_play eligible hands))) some) in
-    in_turn-some (winners Low (in_play eligible hands)) seats button seat.0 at (winner-sits Low hands eligible seats seat.0 table seat.2) seat.2
+    let seat = some-seat (winners Low (in_play eligible hands))
+    (above (seat_count (winners Low (in_play eligible hands))) some) in
+    in_turn-some (winners Low (in_play eligible hands)) seats button seat.0 at
+    (winner-sits Low hands eligible seats seat.0 table seat.2) seat.2
   where
     above : (n : ℕ) → (n == 0) ≡ false → 1 ≤ n
     above n is = grind (arith, nat_tests)
 
 -- A pot that somebody may win, of players who all have hands, has a hand in play.
-pub some-in_play : (eligible : List Bool) (hands : List (Option Hand)) → not (is_nobody eligible) ≡ true → are_all_in eligible (map is_some hands) ≡ true → list_any is_some (in_play eligible hands) ≡ true
+pub some-in_play : (eligible : List Bool) (hands : List (Option Hand)) → not (is_nobody eligible) ≡ true
+    → are_all_in eligible (map is_some hands) ≡ true → list_any is_some (in_play eligible hands) ≡ true
 some-in_play [] hands somebody all = absurd cc
 some-in_play (true ∷ more) [] somebody all = absurd cc
 some-in_play (false ∷ more) [] somebody all = some-in_play more [] somebody all
@@ -97,13 +120,17 @@ some-in_play (true ∷ more) (None ∷ hands) somebody all = absurd cc
 some-in_play (false ∷ more) (hand ∷ hands) somebody all = some-in_play more hands somebody all
 
 -- What all items pass, the item at an index passes.
-pub list_all-get : {A : Type 0} (test : A → Bool) (items : List A) (index : ℕ) (item : A) → list_all test items ≡ true → slice_get items index ≡ Some item → test item ≡ true
+pub list_all-get : {A : Type 0} (test : A → Bool) (items : List A) (index : ℕ) (item : A) → list_all test items ≡ true
+    → slice_get items index ≡ Some item → test item ≡ true
 list_all-get test [] index item all is = absurd cc
-list_all-get test (first ∷ more) zero item all is = let same : first ≡ item = cc in rw (← same) (and-left (test first) (list_all test more) all)
-list_all-get test (first ∷ more) (suc index) item all is = list_all-get test more index item (and-right (test first) (list_all test more) all) is
+list_all-get test (first ∷ more) zero item all is = let same : first ≡ item = cc in
+    rw (← same) (and-left (test first) (list_all test more) all)
+list_all-get test (first ∷ more) (suc index) item all is =
+    list_all-get test more index item (and-right (test first) (list_all test more) all) is
 
 -- The item at an index, whatever is taken past the end.
-pub get_or-get : {A : Type 0} (items : List A) (index : ℕ) (item other : A) → slice_get items index ≡ Some item → get_or items index other ≡ item
+pub get_or-get : {A : Type 0} (items : List A) (index : ℕ) (item other : A) → slice_get items index ≡ Some item
+    → get_or items index other ≡ item
 get_or-get [] index item other is = absurd cc
 get_or-get (first ∷ more) zero item other is = cc
 get_or-get (first ∷ more) (suc index) item other is = get_or-get more index item other is

@@ -10,31 +10,43 @@ use Rattle.button_blinds.proofs.Distances.{IsSeat, found-reached, most_steps}
 use Rattle.showdown.specs.Awards.{is_seat, in_turn}
 
 -- The next seat of the walk is one of the set: it comes next.
-pub turn-yes : (set : List Bool) (seats steps taken seat : ℕ) (order : List ℕ) → taken < steps → has_seat set (seat_after seats seat) ≡ true
-    → (order ++ seat_after seats seat ∷ []) ++ filter (has_seat set) (walk (seat_after seats) (steps - (taken + 1)) (seat_after seats seat)) ≡ order ++ filter (has_seat set) (walk (seat_after seats) (steps - taken) seat)
+pub turn-yes : (set : List Bool) (seats steps taken seat : ℕ) (order : List ℕ) → taken < steps
+    → has_seat set (seat_after seats seat) ≡ true
+    → (order ++ seat_after seats seat ∷ []) ++ filter (has_seat set)
+    (walk (seat_after seats) (steps - (taken + 1)) (seat_after seats seat)) ≡ order ++ filter (has_seat set)
+    (walk (seat_after seats) (steps - taken) seat)
 turn-yes set seats steps taken seat order within is =
-    append_assoc order (seat_after seats seat ∷ []) (filter (has_seat set) (walk (seat_after seats) (steps - (taken + 1)) (seat_after seats seat)))
+    append_assoc order (seat_after seats seat ∷ [])
+    (filter (has_seat set) (walk (seat_after seats) (steps - (taken + 1)) (seat_after seats seat)))
     ∙ sym (rw (walk-next (seat_after seats) steps taken seat within, is))
 
 -- The next seat of the walk is not one of the set.
-pub turn-no : (set : List Bool) (seats steps taken seat : ℕ) (order : List ℕ) → taken < steps → has_seat set (seat_after seats seat) ≡ false
-    → order ++ filter (has_seat set) (walk (seat_after seats) (steps - (taken + 1)) (seat_after seats seat)) ≡ order ++ filter (has_seat set) (walk (seat_after seats) (steps - taken) seat)
+pub turn-no : (set : List Bool) (seats steps taken seat : ℕ) (order : List ℕ) → taken < steps
+    → has_seat set (seat_after seats seat) ≡ false
+    → order ++ filter (has_seat set) (walk (seat_after seats) (steps - (taken + 1)) (seat_after seats seat))
+    ≡ order ++ filter (has_seat set) (walk (seat_after seats) (steps - taken) seat)
 turn-no set seats steps taken seat order within is = sym (rw (walk-next (seat_after seats) steps taken seat within, is))
 
 next-is_seat : (seats seat : ℕ) → 1 ≤ seats → seats ≤ 10 → is_seat (seat_after seats seat) ≡ true
 next-is_seat seats seat some most = grind (arith, nat_tests)
 
-walked-seats : (set : List Bool) (seats steps seat : ℕ) → 1 ≤ seats → seats ≤ 10 → list_all is_seat (filter (has_seat set) (walk (seat_after seats) steps seat)) ≡ true
+walked-seats : (set : List Bool) (seats steps seat : ℕ) → 1 ≤ seats → seats ≤ 10
+    → list_all is_seat (filter (has_seat set) (walk (seat_after seats) steps seat)) ≡ true
 walked-seats set seats zero seat some most = refl
-walked-seats set seats (suc steps) seat some most = by_test (has_seat set (seat_after seats seat)) (walked-seats set seats steps (seat_after seats seat) some most)
+walked-seats set seats (suc steps) seat some most =
+    by_test (has_seat set (seat_after seats seat)) (walked-seats set seats steps (seat_after seats seat) some most)
   where
-    by_test : (is_in : Bool) → list_all is_seat (filter (has_seat set) (walk (seat_after seats) steps (seat_after seats seat))) ≡ true
-        → list_all is_seat (cond is_in (seat_after seats seat ∷ filter (has_seat set) (walk (seat_after seats) steps (seat_after seats seat))) (filter (has_seat set) (walk (seat_after seats) steps (seat_after seats seat)))) ≡ true
+    by_test : (is_in : Bool)
+        → list_all is_seat (filter (has_seat set) (walk (seat_after seats) steps (seat_after seats seat))) ≡ true
+        → list_all is_seat (cond is_in
+        (seat_after seats seat ∷ filter (has_seat set) (walk (seat_after seats) steps (seat_after seats seat)))
+        (filter (has_seat set) (walk (seat_after seats) steps (seat_after seats seat)))) ≡ true
     by_test true rest = rw (next-is_seat seats seat some most, rest)
     by_test false rest = rest
 
 -- The seats in turn are seats of tables.
-pub in_turn-seats : (set : List Bool) (seats button : ℕ) → 1 ≤ seats → seats ≤ 10 → list_all is_seat (in_turn seats button set) ≡ true
+pub in_turn-seats : (set : List Bool) (seats button : ℕ) → 1 ≤ seats → seats ≤ 10
+    → list_all is_seat (in_turn seats button set) ≡ true
 in_turn-seats set seats button some most = walked-seats set seats seats button some most
 
 -- Where a test finds nothing, it keeps nothing, and where it keeps nothing it finds nothing.
@@ -42,7 +54,8 @@ kept-none : (test : ℕ → Bool) (items : List ℕ) → filter test items ≡ [
 kept-none test [] none = refl
 kept-none test (item ∷ more) none = by_test (test item) refl (kept-none test more)
   where
-    by_test : (is : Bool) → test item ≡ is → (filter test more ≡ [] → find test more ≡ None) → find test (item ∷ more) ≡ None
+    by_test : (is : Bool) → test item ≡ is → (filter test more ≡ [] → find test more ≡ None)
+        → find test (item ∷ more) ≡ None
     by_test true is later = let some : item ∷ filter test more ≡ [] = rw is at none in absurd cc
     by_test false is later = rw is (later (rw is at none))
 
@@ -51,7 +64,10 @@ some-length [] some = absurd (some refl)
 some-length (item ∷ more) some = omega arith
 
 -- Where a seat of the table is in the set, somebody has a turn.
-pub in_turn-some : (set : List Bool) (seats button seat : ℕ) → IsSeat seats button → IsSeat seats seat → has_seat set seat ≡ true → 1 ≤ length (in_turn seats button set)
+pub in_turn-some : (set : List Bool) (seats button seat : ℕ) → IsSeat seats button → IsSeat seats seat
+    → has_seat set seat ≡ true → 1 ≤ length (in_turn seats button set)
 in_turn-some set seats button seat at there is =
     some-length (in_turn seats button set)
-    (λ none. found-reached (has_seat set) seats seats button seat at there is (most_steps seats button seat at.0 at.1 there.0 there.1) (kept-none (has_seat set) (clockwise_after seats button) none))
+    (λ none. found-reached (has_seat set) seats seats button seat at there is
+    (most_steps seats button seat at.0 at.1 there.0 there.1)
+    (kept-none (has_seat set) (clockwise_after seats button) none))

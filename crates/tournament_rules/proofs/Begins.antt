@@ -208,7 +208,8 @@ valid_begun book table row valid free =
     let marks = subst (λ (seats : ℕ). AreMarksOf seats next.marks) (sym valid.tables.seats) lawful.marks in
     record {
       plan = valid.plan;
-      entries = entered_changed book.entries players book.busts (as_dealt table next.waiting) (dealt-stacks table next.waiting)
+      entries = entered_changed book.entries players book.busts (as_dealt table next.waiting)
+          (dealt-stacks table next.waiting)
           valid.entries;
       tables = fitting_changed book.plan book.seating book.out table
           (playing_from next.marks (status_at book.seating.tables table)) (Some start) (as_dealt table next.waiting)

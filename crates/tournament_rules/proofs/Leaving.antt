@@ -42,7 +42,8 @@ stayed-more leaving more (player ∷ players) =
       where
         by_test : (b : Bool)
             → is_among number (leaving ++ more ∷ []) ≡ (is_among number leaving || (number == more.player))
-            → (b || is_among number (leaving ++ more ∷ [])) ≡ ((b || is_among number leaving) || (number == more.player))
+            → (b || is_among number (leaving ++ more ∷ []))
+            ≡ ((b || is_among number leaving) || (number == more.player))
         by_test true rest = refl
         by_test false rest = rest
 

@@ -33,7 +33,8 @@ returns-clause-order c =
     ap (λ set. has_seat set big) (sym c.occupied.ensures.taken) ∙ c.next_big-big.ensures.sits in
     let mover = taken-player c.args.book.now.players c.args.from big c.next_big-big.ensures.first last taken in
     let number = read-number (λ seated. seated.name) (λ seated. seated.stack)
-    (player_at c.args.book.now.players (record { table = c.args.from; seat = big })) c.at.result c.unwrap-player.result mover.0 c.at.ensures.player
+    (player_at c.args.book.now.players (record { table = c.args.from; seat = big })) c.at.result c.unwrap-player.result
+    mover.0 c.at.ensures.player
     c.unwrap-player.ensures mover.1 in
     let is_big : big ≡ next_big_seat c.args.book.now c.args.from = rw (
       ← c.status.ensures.status,
@@ -56,7 +57,8 @@ returns-clause-sits c =
     ap (λ set. has_seat set big) (sym c.occupied.ensures.taken) ∙ c.next_big-big.ensures.sits in
     let mover = taken-player c.args.book.now.players c.args.from big c.next_big-big.ensures.first last taken in
     let number = read-number (λ seated. seated.name) (λ seated. seated.stack)
-    (player_at c.args.book.now.players (record { table = c.args.from; seat = big })) c.at.result c.unwrap-player.result mover.0 c.at.ensures.player
+    (player_at c.args.book.now.players (record { table = c.args.from; seat = big })) c.at.result c.unwrap-player.result
+    mover.0 c.at.ensures.player
     c.unwrap-player.ensures mover.1 in
     rw number (sits-there c.args.book.now (record { table = c.args.from; seat = big }) mover.0
     c.seat_count-seats.ensures.lawful mover.1)

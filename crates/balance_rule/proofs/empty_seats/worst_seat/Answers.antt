@@ -12,7 +12,8 @@ pub empty_seat_after-requires-in-Some-clause-room :
     goal.empty_seat_after-requires-in-Some-clause-room
 empty_seat_after-requires-in-Some-clause-room c =
     let more = seat_count-one_more c.occupied-taken.result c.in-Some.marks.big in
-    let same : seat_count c.with.result ≡ seat_count (with_seat c.occupied-taken.result c.in-Some.marks.big) = ap seat_count
+    let same : seat_count c.with.result ≡ seat_count (with_seat c.occupied-taken.result c.in-Some.marks.big) =
+    ap seat_count
     c.with.ensures.same in
     omega (arith, more, same)
 
@@ -25,7 +26,8 @@ returns-in-None-clause-worst c =
     (is_empty_seat c.args.book.now.players c.args.table) c.args.book.now.seat_count (omega (arith, seats.some_seats))
     (λ at first last. empty-untaken c.args.book.now.players c.args.table c.args.book.now.seat_count at seats.most_seats
     first last) in
-    let found = rw (c.seat_count-seats.ensures.seats, c.occupied-taken.ensures.taken) at c.empty_seat_after.ensures.next in
+    let found = rw (c.seat_count-seats.ensures.seats, c.occupied-taken.ensures.taken) at
+    c.empty_seat_after.ensures.next in
     ap (worst_of c.args.book.now.seat_count (is_empty_seat c.args.book.now.players c.args.table))
     (sym marks ∙ c.in-None.is) ∙ (sym alike ∙ found)
 
@@ -55,4 +57,5 @@ pub returns-in-Some-clause-empty : goal.returns-in-Some-clause-empty
 returns-in-Some-clause-empty c =
     empty-nobody c.args.book.now.players c.args.table c.empty_seat_after-in-Some.result
     (worst-empty c.args.book.now.seat_count (is_empty_seat c.args.book.now.players c.args.table)
-    (status_at c.args.book.now.tables c.args.table).marks c.empty_seat_after-in-Some.result (returns-in-Some-clause-worst c))
+    (status_at c.args.book.now.tables c.args.table).marks c.empty_seat_after-in-Some.result
+    (returns-in-Some-clause-worst c))

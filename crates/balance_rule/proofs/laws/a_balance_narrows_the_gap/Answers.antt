@@ -14,7 +14,8 @@ pub returns-clause-takes : goal.returns-clause-takes
 returns-clause-takes c = takes-one
 
 pub returns-clause-others : goal.returns-clause-others
-returns-clause-others c = λ seating from to other order valid lawful. others-same seating from to order valid lawful other
+returns-clause-others c =
+    λ seating from to other order valid lawful. others-same seating from to order valid lawful other
 
 pub returns-clause-narrower : goal.returns-clause-narrower
 returns-clause-narrower c = still-fewer

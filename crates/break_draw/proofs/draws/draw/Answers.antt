@@ -5,5 +5,6 @@ use Rattle.break_draw.proofs.draws.draw.Goals as goal
 
 -- Whichever lists are handed out, they are those of the call in some order.
 pub returns-clause-right : goal.returns-clause-right
-returns-clause-right c = λ seating table names_are. draw-right seating table c.args.fill.now.items _ c.args.names.now.items _
+returns-clause-right c =
+    λ seating table names_are. draw-right seating table c.args.fill.now.items _ c.args.names.now.items _
     names_are (search (rules, IsPermutation-refl)) (search (rules, IsPermutation-refl))

@@ -5,7 +5,8 @@ use Rattle.break_draw.proofs.filling.counts_of.Goals as goal
 
 pub loop-below-preserved : goal.loop-below-preserved
 loop-below-preserved c = record {
-  each = counted-more (count_at c.args.book.now.players) c.loop-below.counts c.loop-below.below c.count.result c.from.result
+  each = counted-more (count_at c.args.book.now.players) c.loop-below.counts c.loop-below.below c.count.result
+      c.from.result
       c.from.ensures c.count.ensures.count
       (omega (
         arith,

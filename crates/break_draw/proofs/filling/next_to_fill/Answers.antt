@@ -22,7 +22,8 @@ free_seat-requires-clause-room c =
     let same : Some lowest.0 ≡ Some c.unwrap-other.result = sym (c.lowest_table.ensures.lowest
     (count_with c.args.book.now.players c.args.chosen.now) c.requires.counts ∙ lowest.1.0) ∙ c.unwrap-other.ensures in
     let one : lowest.0 ≡ c.unwrap-other.result = cc in
-    subst (λ (n : ℕ). count_with c.args.book.now.players c.args.chosen.now n < c.args.book.now.seat_count) one lowest.1.1
+    subst (λ (n : ℕ). count_with c.args.book.now.players c.args.chosen.now n < c.args.book.now.seat_count) one
+    lowest.1.1
 
 pub returns-clause-room : goal.returns-clause-room
 returns-clause-room c =
@@ -31,4 +32,5 @@ returns-clause-room c =
     let same : Some lowest.0 ≡ Some c.unwrap-other.result = sym (c.lowest_table.ensures.lowest
     (count_with c.args.book.now.players c.args.chosen.now) c.requires.counts ∙ lowest.1.0) ∙ c.unwrap-other.ensures in
     let one : lowest.0 ≡ c.unwrap-other.result = cc in
-    subst (λ (n : ℕ). count_with c.args.book.now.players c.args.chosen.now n < c.args.book.now.seat_count) one lowest.1.1
+    subst (λ (n : ℕ). count_with c.args.book.now.players c.args.chosen.now n < c.args.book.now.seat_count) one
+    lowest.1.1

@@ -8,6 +8,7 @@ pub returns-then-place-table-clause-few : goal.returns-then-place-table-clause-f
 returns-then-place-table-clause-few c =
     let more = seat_count-one_more c.args.taken c.args.place.seat in
     let same = ap seat_count c.with.ensures.same in
-    let here : (c.args.place.table == c.args.table) ≡ true = eq-eqb c.args.place.table c.args.table c.if-place-table.true in
+    let here : (c.args.place.table == c.args.table) ≡ true =
+    eq-eqb c.args.place.table c.args.table c.if-place-table.true in
     let one = ap (λ b. cond {A = ℕ} b 1 0) here in
     omega (arith, more, same, one)

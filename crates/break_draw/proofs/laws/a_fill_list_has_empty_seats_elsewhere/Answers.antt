@@ -11,7 +11,8 @@ pub returns-clause-places : goal.returns-clause-places
 returns-clause-places c = λ seating table fill is. chosen-places seating table (count_at seating.players table) fill is
 
 pub returns-clause-elsewhere : goal.returns-clause-elsewhere
-returns-clause-elsewhere c = λ seating table fill is. chosen-elsewhere seating table (count_at seating.players table) fill is
+returns-clause-elsewhere c =
+    λ seating table fill is. chosen-elsewhere seating table (count_at seating.players table) fill is
 
 pub returns-clause-empty : goal.returns-clause-empty
 returns-clause-empty c = λ seating table fill is. chosen-empty seating table (count_at seating.players table) fill is

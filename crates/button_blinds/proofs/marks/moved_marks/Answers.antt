@@ -3,4 +3,5 @@ use Rattle.button_blinds.proofs.marks.moved_marks.Goals as goal
 
 pub returns-clause-waiting_sit : goal.returns-clause-waiting_sit
 returns-clause-waiting_sit c =
-    λ seat is. waiting_between-sit c.args.occupied c.args.seats c.args.old.small c.args.old.big seat (rw c.waiting_between-waiting.ensures at is)
+    λ seat is. waiting_between-sit c.args.occupied c.args.seats c.args.old.small c.args.old.big seat
+    (rw c.waiting_between-waiting.ensures at is)

@@ -14,12 +14,19 @@ loop-step-preserved c =
     let left = c.loop-step.invariant.1 in
     elim c.if-has.branch [
       | then-has+else-next-seat w ↦
-          let sits : has_seat c.args.dealt (seat_after c.args.seats c.loop-step.next) ≡ true = ap (has_seat c.args.dealt) (sym next) ∙ sym c.has.ensures ∙ w.if-has.true in
-          let other : (seat_after c.args.seats c.loop-step.next == c.args.seat) ≡ false = rw (← next) (grind (arith, nat_tests)) in
-          let passed = index-passed (has_seat c.args.dealt) (seat_after c.args.seats) c.args.seats c.loop-step._step c.loop-step.next c.args.seat c.loop-step-test.true sits other in
+          let sits : has_seat c.args.dealt (seat_after c.args.seats c.loop-step.next) ≡ true =
+          ap (has_seat c.args.dealt) (sym next) ∙ sym c.has.ensures ∙ w.if-has.true in
+          let other : (seat_after c.args.seats c.loop-step.next == c.args.seat) ≡ false =
+          rw (← next) (grind (arith, nat_tests)) in
+          let passed = index-passed (has_seat c.args.dealt)
+          (seat_after c.args.seats) c.args.seats c.loop-step._step c.loop-step.next c.args.seat
+          c.loop-step-test.true sits other in
           (rw w.before-is (omega arith), rw (w.before-is, next) (omega (arith, passed, left)))
       | else-has w ↦
-          let nobody : has_seat c.args.dealt (seat_after c.args.seats c.loop-step.next) ≡ false = ap (has_seat c.args.dealt) (sym next) ∙ sym c.has.ensures ∙ w.if-has.false in
-          let passed = index-empty (has_seat c.args.dealt) (seat_after c.args.seats) c.args.seats c.loop-step._step c.loop-step.next c.args.seat c.loop-step-test.true nobody in
+          let nobody : has_seat c.args.dealt (seat_after c.args.seats c.loop-step.next) ≡ false =
+          ap (has_seat c.args.dealt) (sym next) ∙ sym c.has.ensures ∙ w.if-has.false in
+          let passed = index-empty (has_seat c.args.dealt)
+          (seat_after c.args.seats) c.args.seats c.loop-step._step c.loop-step.next c.args.seat
+          c.loop-step-test.true nobody in
           (rw w.before-is (omega arith), rw (w.before-is, next) (omega (arith, passed, left)))
     ]

@@ -18,7 +18,8 @@ bust-requires-clause-sits c =
     let here = subst (λ (players : List StartSeat). c.index-players-index.result ≡ get_or players c.loop-index.index
     c.index-players-index.result) c.items-players.ensures c.index-players-index.is in
     (next_leaves c.args.done.now.start.seats (is_broke (hand_of c.args.done.now)) c.args.group c.args.seats.now
-    c.loop-index.seats c.args.busts.now c.loop-index.busts c.loop-index.index c.index-players-index.result c.requires.may
+    c.loop-index.seats c.args.busts.now c.loop-index.busts c.loop-index.index c.index-players-index.result
+    c.requires.may
     c.loop-index.invariant within here).sits
 
 pub bust-requires-clause-room : goal.bust-requires-clause-room
@@ -28,7 +29,8 @@ bust-requires-clause-room c =
     let here = subst (λ (players : List StartSeat). c.index-players-index.result ≡ get_or players c.loop-index.index
     c.index-players-index.result) c.items-players.ensures c.index-players-index.is in
     (next_leaves c.args.done.now.start.seats (is_broke (hand_of c.args.done.now)) c.args.group c.args.seats.now
-    c.loop-index.seats c.args.busts.now c.loop-index.busts c.loop-index.index c.index-players-index.result c.requires.may
+    c.loop-index.seats c.args.busts.now c.loop-index.busts c.loop-index.index c.index-players-index.result
+    c.requires.may
     c.loop-index.invariant within here).room
 
 pub bust-requires-clause-once : goal.bust-requires-clause-once
@@ -38,7 +40,8 @@ bust-requires-clause-once c =
     let here = subst (λ (players : List StartSeat). c.index-players-index.result ≡ get_or players c.loop-index.index
     c.index-players-index.result) c.items-players.ensures c.index-players-index.is in
     (next_leaves c.args.done.now.start.seats (is_broke (hand_of c.args.done.now)) c.args.group c.args.seats.now
-    c.loop-index.seats c.args.busts.now c.loop-index.busts c.loop-index.index c.index-players-index.result c.requires.may
+    c.loop-index.seats c.args.busts.now c.loop-index.busts c.loop-index.index c.index-players-index.result
+    c.requires.may
     c.loop-index.invariant within here).new
 
 is_nothing : (stack after : ℕ) → stack ≡ after → stack ≡ 0 → (after == 0) ≡ true

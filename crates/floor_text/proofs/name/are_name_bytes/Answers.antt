@@ -6,4 +6,5 @@ use Rattle.floor_text.proofs.name.are_name_bytes.Goals as goal
 
 pub returns : goal.returns
 returns c =
-    all_from_yields_List is_name_byte _ _ c.all.result c.all.ensures.ran (YieldsList-from_slice c.args.bytes.now cc) (λ x b q k. search (rules, tests))
+    all_from_yields_List is_name_byte _ _ c.all.result c.all.ensures.ran (YieldsList-from_slice c.args.bytes.now cc)
+    (λ x b q k. search (rules, tests))

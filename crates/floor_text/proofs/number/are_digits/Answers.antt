@@ -6,4 +6,5 @@ use Rattle.floor_text.proofs.number.are_digits.Goals as goal
 
 pub returns : goal.returns
 returns c =
-    all_from_yields_List is_ascii_digit _ _ c.all.result c.all.ensures.ran (YieldsList-from_slice c.args.bytes.now cc) (λ x b q k. search (rules, tests))
+    all_from_yields_List is_ascii_digit _ _ c.all.result c.all.ensures.ran (YieldsList-from_slice c.args.bytes.now cc)
+    (λ x b q k. search (rules, tests))

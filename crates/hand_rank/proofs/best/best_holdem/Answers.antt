@@ -9,4 +9,8 @@ returns c =
     let cards = c.args.hole ++ c.args.board in
     let once = distinct-once cards c.requires.distinct in
     let enough : 5 ≤ length cards = search rules in
-    record { best = c.value.ensures cards (subst (λ all. AreSuitsOf c.of.result.ranks all) c.together.ensures c.of.ensures) once ∙ sym (best-made cards once enough) }
+    record {
+      best = c.value.ensures cards
+          (subst (λ all. AreSuitsOf c.of.result.ranks all) c.together.ensures c.of.ensures) once
+          ∙ sym (best-made cards once enough);
+    }

@@ -8,6 +8,8 @@ use Rattle.hand_rank.proofs.best.best_omaha.Given as goal
 
 abbrev pub invariant-loop-pair : goal.invariant-loop-pair
 invariant-loop-pair l = record {
-  value : shown_value l.best ≡ greater (0 ∷ []) (best_high (flat_map (λ pair. map (λ three. pair ++ three) (choices 3 l.fn.board)) (take l.pair-index l.pair-items)));
+  value : shown_value l.best
+      ≡ greater (0 ∷ []) (best_high
+      (flat_map (λ pair. map (λ three. pair ++ three) (choices 3 l.fn.board)) (take l.pair-index l.pair-items)));
   sized : IsSized l.best;
 }

@@ -15,12 +15,15 @@ loop-three-preserved c hole board sized part parts two apart =
     let at = part-at c.args.threes.now hands c.loop-three.three-index _ parts within in
     let three = at.0 in
     let is = choice-at 3 board hands c.loop-three.three-index three refl within at.1 in
-    let once = choice-once (hole ++ three) (hole ++ board) (choice-joined hole hole three board (itself hole) is.0) apart in
+    let once = choice-once (hole ++ three) (hole ++ board)
+    (choice-joined hole hole three board (itself hole) is.0) apart in
     let five : length (hole ++ three) ≡ 5 = omega (arith, length-append hole three, two, is.1) in
-    let all = part-joined c.union.result c.args.pair _ c.union.ensures hole three (omega (arith, two)) (omega (arith, is.1)) part at.2 in
+    let all = part-joined c.union.result c.args.pair _ c.union.ensures hole three (omega (arith, two))
+    (omega (arith, is.1)) part at.2 in
     let before = c.loop-three.invariant hole board sized part parts two apart in
     let shown = c.shown.ensures (hole ++ three) all once five in
-    better-more c.args.best c.loop-three.best c.shown.result c.max-best.result (λ three. hole ++ three) hands c.loop-three.three-index three within at.1 before shown
+    better-more c.args.best c.loop-three.best c.shown.result c.max-best.result
+    (λ three. hole ++ three) hands c.loop-three.three-index three within at.1 before shown
     (c.max-best.ensures.value before.sized shown.sized) (c.max-best.ensures.sized before.sized shown.sized)
 
 pub returns : goal.returns
@@ -28,4 +31,6 @@ returns c hole board sized part parts two apart =
     let hands = choices 3 board in
     let same = parts-length c.args.threes.now hands parts in
     let ten : length c.args.threes.now ≡ 10 = search rules in
-    better-all c.args.best c.loop-three.best (λ three. hole ++ three) hands c.loop-three.three-index (omega (arith, same, ten, c.loop-three-test.false)) (c.loop-three.invariant hole board sized part parts two apart)
+    better-all c.args.best c.loop-three.best (λ three. hole ++ three) hands c.loop-three.three-index
+    (omega (arith, same, ten, c.loop-three-test.false))
+    (c.loop-three.invariant hole board sized part parts two apart)

@@ -8,5 +8,6 @@ use Rattle.hand_rank.proofs.best.best_with_pair.Given as goal
 
 abbrev pub invariant-loop-three : goal.invariant-loop-three
 invariant-loop-three l =
-    (hole board : List Card) → IsSized l.fn.best → IsPartOf l.pair hole → AreParts l.threes (choices 3 board) → length hole ≡ 2 → AreOnce (hole ++ board)
+    (hole board : List Card) → IsSized l.fn.best → IsPartOf l.pair hole → AreParts l.threes (choices 3 board)
+    → length hole ≡ 2 → AreOnce (hole ++ board)
     → IsBetter l.fn.best (map (λ three. hole ++ three) (take l.three-index (choices 3 board))) l.best

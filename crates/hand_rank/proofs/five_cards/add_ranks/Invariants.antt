@@ -6,6 +6,7 @@ use Rattle.hand_rank.proofs.five_cards.add_ranks.Given as goal
 
 abbrev pub invariant-loop-rank : goal.invariant-loop-rank
 invariant-loop-rank l = record {
-  written : l.ranks ++ left_of (λ rank. eqb (count_of_rank l.cards rank) l.often) l.rank-items l.rank-index ≡ l.initial.ranks ++ ranks_that_occur l.cards l.often;
+  written : l.ranks ++ left_of (λ rank. eqb (count_of_rank l.cards rank) l.often) l.rank-items l.rank-index
+      ≡ l.initial.ranks ++ ranks_that_occur l.cards l.often;
   beside : l.times ≡ map (count_of_rank l.cards) l.ranks;
 }

@@ -50,8 +50,11 @@ add_ranks-requires-4-clause-room c =
 pub of-requires : goal.of-requires
 of-requires c = omega (
   arith,
-  ap length (c.as_slice-ranks.ensures ∙ distinct_ranks-of c.args.cards.now c.new-ranks.result c.add_ranks.new.ranks c.add_ranks-2.new.ranks c.add_ranks-3.new.ranks c.add_ranks-4.new.ranks
-      c.new-ranks.ensures c.add_ranks.ensures.ranks c.add_ranks-2.ensures.ranks c.add_ranks-3.ensures.ranks c.add_ranks-4.ensures.ranks),
+  ap length (c.as_slice-ranks.ensures
+      ∙ distinct_ranks-of c.args.cards.now c.new-ranks.result c.add_ranks.new.ranks c.add_ranks-2.new.ranks
+      c.add_ranks-3.new.ranks c.add_ranks-4.new.ranks
+      c.new-ranks.ensures c.add_ranks.ensures.ranks c.add_ranks-2.ensures.ranks c.add_ranks-3.ensures.ranks
+      c.add_ranks-4.ensures.ranks),
   length-distinct_ranks c.args.cards.now,
   c.told-cards,
 )
@@ -59,8 +62,11 @@ of-requires c = omega (
 pub value_of_distinct-requires : goal.value_of_distinct-requires
 value_of_distinct-requires c = omega (
   arith,
-  ap length (c.as_slice-ranks.ensures ∙ distinct_ranks-of c.args.cards.now c.new-ranks.result c.add_ranks.new.ranks c.add_ranks-2.new.ranks c.add_ranks-3.new.ranks c.add_ranks-4.new.ranks
-      c.new-ranks.ensures c.add_ranks.ensures.ranks c.add_ranks-2.ensures.ranks c.add_ranks-3.ensures.ranks c.add_ranks-4.ensures.ranks),
+  ap length (c.as_slice-ranks.ensures
+      ∙ distinct_ranks-of c.args.cards.now c.new-ranks.result c.add_ranks.new.ranks c.add_ranks-2.new.ranks
+      c.add_ranks-3.new.ranks c.add_ranks-4.new.ranks
+      c.new-ranks.ensures c.add_ranks.ensures.ranks c.add_ranks-2.ensures.ranks c.add_ranks-3.ensures.ranks
+      c.add_ranks-4.ensures.ranks),
   length-distinct_ranks c.args.cards.now,
   c.told-cards,
 )
@@ -69,17 +75,26 @@ pub returns-in-Some : goal.returns-in-Some
 returns-in-Some c =
     c.of.ensures
     ∙ value-by c.args.cards.now c.as_slice-ranks.result.now c.as_slice.result.now (Some c.in-Some.category)
-    (c.as_slice-ranks.ensures ∙ distinct_ranks-of c.args.cards.now c.new-ranks.result c.add_ranks.new.ranks c.add_ranks-2.new.ranks c.add_ranks-3.new.ranks c.add_ranks-4.new.ranks
-    c.new-ranks.ensures c.add_ranks.ensures.ranks c.add_ranks-2.ensures.ranks c.add_ranks-3.ensures.ranks c.add_ranks-4.ensures.ranks)
-    (c.as_slice.ensures ∙ c.add_ranks-4.ensures.times ∙ ap (map (count_of_rank c.args.cards.now)) (sym c.as_slice-ranks.ensures))
+    (c.as_slice-ranks.ensures
+    ∙ distinct_ranks-of c.args.cards.now c.new-ranks.result c.add_ranks.new.ranks c.add_ranks-2.new.ranks
+    c.add_ranks-3.new.ranks c.add_ranks-4.new.ranks
+    c.new-ranks.ensures c.add_ranks.ensures.ranks c.add_ranks-2.ensures.ranks c.add_ranks-3.ensures.ranks
+    c.add_ranks-4.ensures.ranks)
+    (c.as_slice.ensures ∙ c.add_ranks-4.ensures.times
+    ∙ ap (map (count_of_rank c.args.cards.now)) (sym c.as_slice-ranks.ensures))
     (sym c.in-Some.is ∙ c.category_of.ensures)
 
 pub returns-in-None : goal.returns-in-None
 returns-in-None c =
     c.value_of_distinct.ensures
-    ∙ ap₂ (λ top one_suit. value_of_distinct top one_suit c.as_slice-ranks.result.now) c.run_top.ensures c.are_of_one_suit.ensures
+    ∙ ap₂ (λ top one_suit. value_of_distinct top one_suit c.as_slice-ranks.result.now) c.run_top.ensures
+    c.are_of_one_suit.ensures
     ∙ value-by c.args.cards.now c.as_slice-ranks.result.now c.as_slice.result.now None
-    (c.as_slice-ranks.ensures ∙ distinct_ranks-of c.args.cards.now c.new-ranks.result c.add_ranks.new.ranks c.add_ranks-2.new.ranks c.add_ranks-3.new.ranks c.add_ranks-4.new.ranks
-    c.new-ranks.ensures c.add_ranks.ensures.ranks c.add_ranks-2.ensures.ranks c.add_ranks-3.ensures.ranks c.add_ranks-4.ensures.ranks)
-    (c.as_slice.ensures ∙ c.add_ranks-4.ensures.times ∙ ap (map (count_of_rank c.args.cards.now)) (sym c.as_slice-ranks.ensures))
+    (c.as_slice-ranks.ensures
+    ∙ distinct_ranks-of c.args.cards.now c.new-ranks.result c.add_ranks.new.ranks c.add_ranks-2.new.ranks
+    c.add_ranks-3.new.ranks c.add_ranks-4.new.ranks
+    c.new-ranks.ensures c.add_ranks.ensures.ranks c.add_ranks-2.ensures.ranks c.add_ranks-3.ensures.ranks
+    c.add_ranks-4.ensures.ranks)
+    (c.as_slice.ensures ∙ c.add_ranks-4.ensures.times
+    ∙ ap (map (count_of_rank c.args.cards.now)) (sym c.as_slice-ranks.ensures))
     (sym c.in-None.is ∙ c.category_of.ensures)

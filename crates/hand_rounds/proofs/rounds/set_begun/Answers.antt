@@ -28,7 +28,8 @@ loop-below-preserved c =
       | else-playing w ↦ rw w.if-playing.false (w.begun-is ∙ w.if-playing.false)
     ] in
     record {
-      same = one-more-seating (begins_with c.args.playing) first c.loop-below.book c.set_status.new.self c.loop-below.below
+      same = one-more-seating (begins_with c.args.playing) first c.loop-below.book c.set_status.new.self
+          c.loop-below.below
           c.status-status.result c.if-playing.begun within inside c.loop-below.invariant.same
           c.status-status.ensures.status begun c.set_status.ensures.same;
       lawful = c.set_status.ensures.lawful;

@@ -23,17 +23,24 @@ store-requires g c =
     let counted : c.args.count ≡ length left = c.requires.count ∙ ap length same in (
       search rules,
       search rules,
-      subst (λ (m : M). Allows (IsKept H C n) slots id m 2 (λ _. c.args.count) (λ _. published left (step slots 2 c.args.count 0 none) m c.args.count)) (sym is)
-          (publishes H C n slots id v (first_share before.0.shares) left grown.0 c.args.count refl refl (sym same ∙ grown.1) (each_of_all (λ e. C e ≡ (first_share before.0.shares).number) grown.0 grown.2) counted (omega arith)),
+      subst (λ (m : M). Allows (IsKept H C n) slots id m 2 (λ _. c.args.count)
+          (λ _. published left (step slots 2 c.args.count 0 none) m c.args.count)) (sym is)
+          (publishes H C n slots id v (first_share before.0.shares) left grown.0 c.args.count refl refl (sym same
+          ∙ grown.1) (each_of_all (λ e. C e ≡ (first_share before.0.shares).number) grown.0 grown.2) counted
+          (omega arith)),
     )
 
 pub returns : goal.returns
 returns g c =
     let M : Type 0 = Me (Option g.row.V.Denot) (View g.row.V-Entry.Denot) in
     let before : M = c.args.place.now.me in
-    let shares : before.0.shares ≡ first_share before.0.shares ∷ [] = ap (λ (v : View g.row.V-Entry.Denot). v.shares) c.requires.served.0 in
+    let shares : before.0.shares ≡ first_share before.0.shares ∷ [] =
+    ap (λ (v : View g.row.V-Entry.Denot). v.shares) c.requires.served.0 in
     record {
       seat = search rules;
       left = c.store.ensures.2.1 (first_share before.0.shares) shares
-          ∙ (λ i. (record before.0 { shares = share_left (first_share before.0.shares) (sym c.requires.left i) ∷ [] }, c.requires.served.1 i));
+          ∙ (λ i. (
+            record before.0 { shares = share_left (first_share before.0.shares) (sym c.requires.left i) ∷ [] },
+            c.requires.served.1 i,
+          ));
     }

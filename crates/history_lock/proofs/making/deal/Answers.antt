@@ -4,14 +4,24 @@ use Rattle.history_lock.proofs.Dealing.{none_there, fresh_push, gives, left_over
 use Rattle.history_lock.proofs.making.deal.Goals as goal
 
 pub loop-number-init : goal.loop-number-init
-loop-number-init g c = (refl, c.requires.all.1, (c.args.n, omega arith, c.requires.all.0), search rules, c.requires.room.1, λ k pass e. absurd (none_there k pass (ap (λ l. slice_get l k) (sym c.requires.room.0) ∙ e)))
+loop-number-init g c = (
+  refl,
+  c.requires.all.1,
+  (c.args.n, omega arith, c.requires.all.0),
+  search rules,
+  c.requires.room.1,
+  λ k pass e.
+      absurd (none_there k pass (ap (λ l. slice_get l k) (sym c.requires.room.0) ∙ e)),
+)
 
 pub split_seat-given-requires : goal.split_seat-given-requires
 split_seat-given-requires g c =
     let left = c.loop-number.invariant.2 in (
       search rules,
       search rules,
-      gives g.V.Grows.history g.V.Grows.caller_of c.args.steps.now.key.passes c.loop-number.place.id c.loop-number.number left.0 c.args.n (first_share c.args.place.me.0.shares).seen c.loop-number.place.me.0 left.2 left.1
+      gives g.V.Grows.history g.V.Grows.caller_of c.args.steps.now.key.passes c.loop-number.place.id
+          c.loop-number.number left.0 c.args.n (first_share c.args.place.me.0.shares).seen c.loop-number.place.me.0
+          left.2 left.1
           c.loop-number-test.true,
     )
 
@@ -24,7 +34,8 @@ invariant_of-push_reserved g c =
     record {
       empty_handed = ap (λ m. m.1) given;
       at_rest = giving_rests c.loop-number.number seen c.split_seat-given.result.me.0
-          (ap (λ m. m.0) given ∙ given_one c.loop-number.number left.0 c.args.n seen c.loop-number.place.me.0 left.2 left.1 below);
+          (ap (λ m. m.0) given ∙ given_one c.loop-number.number left.0 c.args.n seen c.loop-number.place.me.0 left.2
+          left.1 below);
     }
 
 pub loop-number-preserved : goal.loop-number-preserved
@@ -34,16 +45,21 @@ loop-number-preserved g c =
     let kept = c.split_seat-given.ensures.2 in
     let seen : List g.row.V-Entry.Denot = (first_share c.args.place.me.0.shares).seen in
     let below : c.loop-number.number < c.args.n = let lt = c.loop-number-test.true in omega arith in
-    let over = left_over c.loop-number.number left.0 c.args.n seen c.loop-number.place.me.0 left.2 left.1 c.loop-number-test.true in
-    let one : c.split_seat-given.result.me.0 ≡ giving c.loop-number.number 1 seen = ap (λ m. m.0) given ∙ given_one c.loop-number.number left.0 c.args.n seen c.loop-number.place.me.0 left.2 left.1 below in
+    let over = left_over c.loop-number.number left.0 c.args.n seen c.loop-number.place.me.0 left.2 left.1
+    c.loop-number-test.true in
+    let one : c.split_seat-given.result.me.0 ≡ giving c.loop-number.number 1 seen = ap (λ m. m.0) given
+    ∙ given_one c.loop-number.number left.0 c.args.n seen c.loop-number.place.me.0 left.2 left.1 below in
     let len : length c.loop-number.passes.items ≡ c.loop-number.number = omega (arith, c.loop-number.passes.ok.0) in (
       search rules,
       ap (λ m. m.1) kept ∙ c.loop-number.invariant.1,
       (over.0, over.1, ap (λ m. m.0) kept ∙ over.2),
       omega arith,
       omega arith,
-      rw c.push_reserved.ensures.items (fresh_push c.args.place.table_id seen c.loop-number.passes.items _ c.loop-number.number len c.loop-number.invariant.5
-          (giving_is_fresh c.args.place.table_id c.loop-number.number seen _ (c.split_seat-given.ensures.3 ∙ c.loop-number.invariant.0) refl refl one)),
+      rw c.push_reserved.ensures.items
+          (fresh_push c.args.place.table_id seen c.loop-number.passes.items _ c.loop-number.number len
+          c.loop-number.invariant.5
+          (giving_is_fresh c.args.place.table_id c.loop-number.number seen _ (c.split_seat-given.ensures.3
+          ∙ c.loop-number.invariant.0) refl refl one)),
     )
 
 pub returns-clause-fresh : goal.returns-clause-fresh
@@ -52,8 +68,13 @@ returns-clause-fresh g c =
     let seen : List g.row.V-Entry.Denot = (first_share c.args.place.me.0.shares).seen in
     let some : 0 < c.args.n = c.requires.all.2 in
     let below : c.loop-number.number < c.args.n = let le = c.loop-number.auto.number-end in omega arith in
-    let last : c.args.n - 1 ≡ c.loop-number.number = let le = c.loop-number.auto.number-end in let ge = c.loop-number-test.false in omega arith in
+    let last : c.args.n - 1 ≡ c.loop-number.number = let le = c.loop-number.auto.number-end in let ge =
+    c.loop-number-test.false in omega arith in
     let len : length c.loop-number.passes.items ≡ c.loop-number.number = omega (arith, c.loop-number.passes.ok.0) in
-    let one : c.loop-number.place.me.0 ≡ giving c.loop-number.number 1 seen = last_one c.loop-number.number left.0 c.args.n seen c.loop-number.place.me.0 left.2 left.1 c.loop-number-test.false below in
-    rw c.push_reserved-2.ensures.items (fresh_push c.args.place.table_id seen c.loop-number.passes.items _ c.loop-number.number len c.loop-number.invariant.5
+    let one : c.loop-number.place.me.0 ≡ giving c.loop-number.number 1 seen =
+    last_one c.loop-number.number left.0 c.args.n seen c.loop-number.place.me.0 left.2 left.1
+    c.loop-number-test.false below in
+    rw c.push_reserved-2.ensures.items
+    (fresh_push c.args.place.table_id seen c.loop-number.passes.items _ c.loop-number.number len
+    c.loop-number.invariant.5
     (giving_is_fresh c.args.place.table_id c.loop-number.number seen _ c.loop-number.invariant.0 last refl one))

@@ -12,11 +12,17 @@ loop-pair-init c = sym best_low_of-none
 pub loop-pair-preserved : goal.loop-pair-preserved
 loop-pair-preserved c =
     c.better-best.ensures
-    ∙ best_low_of-pair (λ pair. map (λ three. pair ++ three) (choices 3 c.args.board)) c.pairs-pairs.result c.loop-pair.pair-index c.pair-item.result c.loop-pair.best c.best_of_pair.result
+    ∙ best_low_of-pair (λ pair. map (λ three. pair ++ three) (choices 3 c.args.board)) c.pairs-pairs.result
+    c.loop-pair.pair-index c.pair-item.result c.loop-pair.best c.best_of_pair.result
     (omega (arith, c.type_inv.pair-items, c.loop-pair-test.true)) c.pair-item.is c.loop-pair.invariant
-    (c.best_of_pair.ensures ∙ ap (λ pair. best_low_of (map (λ three. pair ++ three) (choices 3 c.args.board))) (sym c.pair-item.is))
+    (c.best_of_pair.ensures
+    ∙ ap (λ pair. best_low_of (map (λ three. pair ++ three) (choices 3 c.args.board))) (sym c.pair-item.is))
 
 pub returns : goal.returns
 returns c =
     let six : length c.pairs-pairs.result ≡ 6 = search rules in
-    record { best = best_low_of-all (flat_map (λ pair. map (λ three. pair ++ three) (choices 3 c.args.board))) c.pairs-pairs.result _ c.loop-pair.pair-index c.loop-pair.best (omega (arith, six, c.loop-pair-test.false)) c.pairs-pairs.ensures c.loop-pair.invariant }
+    record {
+      best = best_low_of-all (flat_map (λ pair. map (λ three. pair ++ three) (choices 3 c.args.board)))
+          c.pairs-pairs.result _ c.loop-pair.pair-index c.loop-pair.best
+          (omega (arith, six, c.loop-pair-test.false)) c.pairs-pairs.ensures c.loop-pair.invariant;
+    }

@@ -6,14 +6,20 @@ use Rattle.pot_layers.proofs.standing.grow.Goals as goal
 
 pub grown-requires-clause-fits : goal.grown-requires-clause-fits
 grown-requires-clause-fits c =
-    let same : get_or c.loop-index.standings c.loop-index.index no_standing ≡ get_or c.args.standings.now c.loop-index.index no_standing =
-    ap (λ s. get_or s c.loop-index.index no_standing) c.loop-index.invariant ∙ at-turn (grown c.args.before c.args.after) c.args.standings.now c.loop-index.index no_standing (omega arith) in
+    let same : get_or c.loop-index.standings c.loop-index.index no_standing
+    ≡ get_or c.args.standings.now c.loop-index.index no_standing =
+    ap (λ s. get_or s c.loop-index.index no_standing) c.loop-index.invariant
+    ∙ at-turn (grown c.args.before c.args.after) c.args.standings.now c.loop-index.index no_standing
+    (omega arith) in
     let within = total-within c.args.standings.now c.loop-index.index c.requires.right in
     rw same (omega (arith, within, c.requires.fits))
 
 pub loop-index-preserved : goal.loop-index-preserved
 loop-index-preserved c =
-    let same : length c.loop-index.standings ≡ length c.args.standings.now = ap length c.loop-index.invariant ∙ length-at_turn (grown c.args.before c.args.after) c.args.standings.now c.loop-index.index in
+    let same : length c.loop-index.standings ≡ length c.args.standings.now = ap length c.loop-index.invariant
+    ∙ length-at_turn (grown c.args.before c.args.after) c.args.standings.now c.loop-index.index in
     rw c.grown.ensures
-    (map_over_more (grown c.args.before c.args.after) c.args.standings.now c.loop-index.standings c.loop-index.index (get_or c.loop-index.standings c.loop-index.index no_standing) (omega arith) c.loop-index.invariant
-    (same-item c.loop-index.standings c.loop-index.index no_standing (get_or c.loop-index.standings c.loop-index.index no_standing) (omega (arith, same))))
+    (map_over_more (grown c.args.before c.args.after) c.args.standings.now c.loop-index.standings c.loop-index.index
+    (get_or c.loop-index.standings c.loop-index.index no_standing) (omega arith) c.loop-index.invariant
+    (same-item c.loop-index.standings c.loop-index.index no_standing
+    (get_or c.loop-index.standings c.loop-index.index no_standing) (omega (arith, same))))

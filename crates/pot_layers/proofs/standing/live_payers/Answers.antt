@@ -10,8 +10,12 @@ pub loop-index-preserved : goal.loop-index-preserved
 loop-index-preserved c = elim c.if-is_eligible.branch [
   | then-is_eligible w ↦
       w.payers-is ∙ w.with-payers.ensures.same
-      ∙ so_far-yes (λ (s : Standing). is_eligible c.args.height s.put) c.args.standings.now c.loop-index.index c.loop-index.payers no_standing (omega arith) c.told-standings c.loop-index.invariant (sym c.is_eligible.ensures ∙ w.if-is_eligible.true)
+      ∙ so_far-yes (λ (s : Standing). is_eligible c.args.height s.put) c.args.standings.now c.loop-index.index
+      c.loop-index.payers no_standing (omega arith) c.told-standings c.loop-index.invariant
+      (sym c.is_eligible.ensures ∙ w.if-is_eligible.true)
   | else-is_eligible w ↦
       w.payers-is
-      ∙ so_far-no (λ (s : Standing). is_eligible c.args.height s.put) c.args.standings.now c.loop-index.index c.loop-index.payers no_standing (omega arith) c.told-standings c.loop-index.invariant (sym c.is_eligible.ensures ∙ w.if-is_eligible.false)
+      ∙ so_far-no (λ (s : Standing). is_eligible c.args.height s.put) c.args.standings.now c.loop-index.index
+      c.loop-index.payers no_standing (omega arith) c.told-standings c.loop-index.invariant
+      (sym c.is_eligible.ensures ∙ w.if-is_eligible.false)
 ]

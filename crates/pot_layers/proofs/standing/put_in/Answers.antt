@@ -7,25 +7,39 @@ use Rattle.pot_layers.proofs.Heights.{total_to-le}
 use Rattle.pot_layers.proofs.Raised.{no_standing, amount-within, get_or-puts_of, puts_of-put_in, AreRight-put_in}
 use Rattle.pot_layers.proofs.standing.put_in.Goals as goal
 
-own-within : (standings : List Standing) (index : ℕ) → index < 10 → length standings ≡ 10 → (get_or standings index no_standing).put.amount ≤ total_put (puts_of standings)
+own-within : (standings : List Standing) (index : ℕ) → index < 10 → length standings ≡ 10
+    → (get_or standings index no_standing).put.amount ≤ total_put (puts_of standings)
 own-within standings index within seats =
     let reaches : index < length (puts_of standings) = rw length-map (omega arith) in
     rw (← get_or-puts_of standings index) (amount-within (puts_of standings) index reaches)
 
 pub overflow_add-after : goal.overflow_add-after
-overflow_add-after c = omega (arith, own-within c.args.standings.now c.args.index c.requires.within c.requires.right.seats, c.requires.fits)
+overflow_add-after c =
+    omega (
+      arith,
+      own-within c.args.standings.now c.args.index c.requires.within c.requires.right.seats,
+      c.requires.fits,
+    )
 
 pub overflow_add-total : goal.overflow_add-total
 overflow_add-total c =
     let own = own-within c.args.standings.now c.args.index c.requires.within c.requires.right.seats in
-    let within = total_to-le (puts_of c.args.standings.now) ((get_or c.args.standings.now c.args.index no_standing).put.amount + c.args.amount) in
+    let within = total_to-le (puts_of c.args.standings.now)
+    ((get_or c.args.standings.now c.args.index no_standing).put.amount + c.args.amount) in
     omega (arith, own, within, c.total_to.ensures, c.requires.fits)
 
 pub grow-requires-clause-fits : goal.grow-requires-clause-fits
-grow-requires-clause-fits c = omega (arith, own-within c.args.standings.now c.args.index c.requires.within c.requires.right.seats, c.requires.fits)
+grow-requires-clause-fits c =
+    omega (
+      arith,
+      own-within c.args.standings.now c.args.index c.requires.within c.requires.right.seats,
+      c.requires.fits,
+    )
 
 pub returns-clause-puts : goal.returns-clause-puts
 returns-clause-puts c = rw c.grow.ensures (puts_of-put_in c.args.standings.now _ _ c.args.index c.args.amount _)
 
 pub returns-clause-right : goal.returns-clause-right
-returns-clause-right c = rw c.grow.ensures (AreRight-put_in c.args.standings.now c.args.index c.args.amount _ c.requires.right c.requires.within (ap (λ n. n + c.args.amount) c.total_to.ensures))
+returns-clause-right c =
+    rw c.grow.ensures (AreRight-put_in c.args.standings.now c.args.index c.args.amount _ c.requires.right
+    c.requires.within (ap (λ n. n + c.args.amount) c.total_to.ensures))

@@ -8,6 +8,7 @@ use Rattle.showdown.proofs.awarding.split.Given as goal
 abbrev pub invariant-loop-index : goal.invariant-loop-index
 invariant-loop-index l = record {
   ten : length l.awards ≡ 10;
-  left : pay_in_turn l.amount l.unit (length l.order) l.awards l.index (drop l.index l.order) ≡ pay_in_turn l.amount l.unit (length l.order) l.initial.awards 0 l.order;
+  left : pay_in_turn l.amount l.unit (length l.order) l.awards l.index (drop l.index l.order)
+      ≡ pay_in_turn l.amount l.unit (length l.order) l.initial.awards 0 l.order;
   paid : sum l.awards ≡ sum l.initial.awards + sum_below (share_of l.amount l.unit (length l.order)) l.index;
 }

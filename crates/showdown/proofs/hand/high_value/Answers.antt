@@ -9,6 +9,7 @@ use Rattle.showdown.proofs.hand.high_value.Goals as goal
 pub best_holdem-requires : goal.best_holdem-requires
 best_holdem-requires c = record {
   distinct =
-      subst (λ (two : List Card). AreDistinct (two ++ c.args.board)) (sym (first-two c.args.player.hole c.index-player-0.result c.index-player-1.result c.args.player.four))
+      subst (λ (two : List Card). AreDistinct (two ++ c.args.board))
+      (sym (first-two c.args.player.hole c.index-player-0.result c.index-player-1.result c.args.player.four))
       (subst (λ (game : Game). AreDistinct (hole_cards game c.args.player ++ c.args.board)) c.in-Holdem.is c.requires);
 }

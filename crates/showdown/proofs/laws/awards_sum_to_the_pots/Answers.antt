@@ -9,4 +9,6 @@ use Rattle.showdown.proofs.laws.awards_sum_to_the_pots.Goals as goal
 pub returns : goal.returns
 returns c = λ game board live unit button seats pots most low high table own somebody units.
     let same = sym (seats-hands_of game board live) in
-    sum-awards_of (hands_of game board live) unit button seats pots most (low, high) (subst (λ (set : List Bool). AreSeatsOf seats set) same table) (subst (λ (set : List Bool). are_for set pots ≡ true) same own) somebody units
+    sum-awards_of (hands_of game board live) unit button seats pots most (low, high)
+    (subst (λ (set : List Bool). AreSeatsOf seats set) same table)
+    (subst (λ (set : List Bool). are_for set pots ≡ true) same own) somebody units

@@ -7,12 +7,14 @@ pub invariant_of-self-2 : goal.invariant_of-self-2
 invariant_of-self-2 c =
     let old = c.self.inside.names.keys in
     let unknown : is_known old c.args.name ≡ false = sym c.contains.ensures ∙ c.if-contains.false in
-    let keys : c.insert_full.new.self.keys ≡ old ++ c.args.name ∷ [] = c.in_ok-insert_full.ensures.keys ∙ rw unknown refl in
+    let keys : c.insert_full.new.self.keys ≡ old ++ c.args.name ∷ [] = c.in_ok-insert_full.ensures.keys
+    ∙ rw unknown refl in
     rw keys (entries-added old c.args.name c.self.invariant unknown (omega arith))
 
 pub returns-clause-lawful : goal.returns-clause-lawful
 returns-clause-lawful c =
     let old = c.self.inside.names.keys in
     let unknown : is_known old c.args.name ≡ false = sym c.contains.ensures ∙ c.if-contains.false in
-    let keys : c.insert_full.new.self.keys ≡ old ++ c.args.name ∷ [] = c.in_ok-insert_full.ensures.keys ∙ rw unknown refl in
+    let keys : c.insert_full.new.self.keys ≡ old ++ c.args.name ∷ [] = c.in_ok-insert_full.ensures.keys
+    ∙ rw unknown refl in
     rw keys (entries-added old c.args.name c.self.invariant unknown (omega arith))

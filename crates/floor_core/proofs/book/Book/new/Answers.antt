@@ -12,4 +12,5 @@ invariant_of-result c =
     let out : c.in_ok-out.out.items ≡ no_hands c.args.plan.tables = c.in_ok-out.ensures
     ∙ ap (λ (plan : PlanTerms). no_hands plan.tables) c.plan.view_is in
     subst IsValid (sym (first_state_of c.args.plan c.new-2.result c.in_ok-seats.seats c.in_ok-out.out.items
-    c.in_ok-busts.busts c.new-2.ensures c.in_ok-seats.ensures out c.in_ok-busts.ensures)) (valid_first c.args.plan right)
+    c.in_ok-busts.busts c.new-2.ensures c.in_ok-seats.ensures out c.in_ok-busts.ensures))
+    (valid_first c.args.plan right)

@@ -14,6 +14,11 @@ returns-clause-found c =
     elim c.if-self.branch [ then-self w ↦ grind (arith, nat_tests) | else-self w ↦ grind (arith, nat_tests) ] in
     let held = ap (λ (r : Reading). r.held) c.self.view_is in
     let within : held_within c.args.self.now ≤ length c.args.self.now.held = grind (arith, nat_tests) in
-    let P : List ℕ → Type 0 = λ xs. MatchOption c.feed_between.result (HasNoFeed (slice_range xs c.args.searched c.if-self.to)) (λ at. IsFirstFeed (slice_range xs c.args.searched c.if-self.to) (at - c.args.searched) × (c.args.searched ≤ at)) in
-    let Q : ℕ → Type 0 = λ n. MatchOption c.feed_between.result (HasNoFeed (take n c.args.self.now.held)) (λ at. (at < n) × IsFirstFeed c.args.self.now.held at) in
-    subst Q to (feed_from_found c.args.self.now.held c.args.searched c.if-self.to c.feed_between.result (omega arith) (omega arith) c.requires.before (subst P held c.feed_between.ensures))
+    let P : List ℕ → Type 0 =
+    λ xs. MatchOption c.feed_between.result (HasNoFeed (slice_range xs c.args.searched c.if-self.to))
+    (λ at. IsFirstFeed (slice_range xs c.args.searched c.if-self.to) (at - c.args.searched)
+    × (c.args.searched ≤ at)) in
+    let Q : ℕ → Type 0 = λ n. MatchOption c.feed_between.result (HasNoFeed (take n c.args.self.now.held))
+    (λ at. (at < n) × IsFirstFeed c.args.self.now.held at) in
+    subst Q to (feed_from_found c.args.self.now.held c.args.searched c.if-self.to c.feed_between.result (omega arith)
+    (omega arith) c.requires.before (subst P held c.feed_between.ensures))

@@ -13,4 +13,5 @@ returns-then-line-eq0-clause-line c =
 pub returns-clause-line : goal.returns-clause-line
 returns-clause-line c =
     let held = ap (λ (r : Reading). length r.held) c.self.view_is in
-    sym (handed_at_end c.args.self.now.held _ c.requires.no_feed (omega arith) (c.hand_out.ensures.line ∙ ap (λ (xs : List ℕ). cut_line xs ∷ []) (take_all c.len-line.result c.args.self.now.held (omega arith))))
+    sym (handed_at_end c.args.self.now.held _ c.requires.no_feed (omega arith) (c.hand_out.ensures.line
+    ∙ ap (λ (xs : List ℕ). cut_line xs ∷ []) (take_all c.len-line.result c.args.self.now.held (omega arith))))

@@ -4,7 +4,8 @@ use Rattle.floor_text.proofs.line_reader.LineReader.next_line.Given as goal
 
 abbrev pub invariant-search : goal.invariant-search
 invariant-search g l =
-    IsSearching l.initial.self l.self (g.S.Source.left l.initial.source) (g.S.Source.left l.source) (g.S.Source.faults l.initial.source) (g.S.Source.faults l.source) l.searched
+    IsSearching l.initial.self l.self (g.S.Source.left l.initial.source) (g.S.Source.left l.source)
+    (g.S.Source.faults l.initial.source) (g.S.Source.faults l.source) l.searched
     (l.source ≡ l.initial.source)
 
 -- the bytes that may still be taken

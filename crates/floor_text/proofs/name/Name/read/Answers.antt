@@ -4,4 +4,5 @@ use Rattle.floor_text.proofs.name.Name.read.Goals as goal
 
 pub invariant_of-result : goal.invariant_of-result
 invariant_of-result c =
-    kept_in_front c.args.bytes.now c.copy_from_slice.new.self (sym c.is_name.ensures ∙ c.if-not-is_name.false) c.copy_from_slice.ensures.after
+    kept_in_front c.args.bytes.now c.copy_from_slice.new.self (sym c.is_name.ensures
+    ∙ c.if-not-is_name.false) c.copy_from_slice.ensures.after

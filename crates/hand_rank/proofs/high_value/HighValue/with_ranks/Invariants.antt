@@ -4,4 +4,5 @@ use Rattle.hand_rank.specs.Shown.{falling, ranks_of}
 use Rattle.hand_rank.proofs.high_value.HighValue.with_ranks.Given as goal
 
 abbrev pub invariant-loop-passed : goal.invariant-loop-passed
-invariant-loop-passed l = l.numbers ++ falling (has_rank l.ranks.bits) (16 - l.passed) ≡ l.fn.self ++ ranks_of l.ranks.bits
+invariant-loop-passed l = l.numbers ++ falling (has_rank l.ranks.bits) (16 - l.passed)
+    ≡ l.fn.self ++ ranks_of l.ranks.bits

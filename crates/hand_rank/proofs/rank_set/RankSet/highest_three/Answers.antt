@@ -12,23 +12,29 @@ pub returns-in_err-second : goal.returns-in_err-second
 returns-in_err-second c count has =
     let first = c.in_ok-first.first in
     let count1 = without first count in
-    let has1 = without-has c.args.self.bits c.without-below_first.result.bits 1 first count has c.without-below_first.ensures in
+    let has1 = without-has c.args.self.bits c.without-below_first.result.bits 1 first count has
+    c.without-below_first.ensures in
     c.from_residual-in_err-second.ensures
     ∙ behind-none c.args.self.bits 1 first (1 ∷ 1 ∷ []) count has (sym c.in_ok-first.was ∙ c.highest.ensures.rank)
-    (picks-none c.without-below_first.result.bits 1 (1 ∷ []) count1 has1 (sym c.in_err-second.was ∙ c.highest-2.ensures.rank))
+    (picks-none c.without-below_first.result.bits 1 (1 ∷ []) count1 has1 (sym c.in_err-second.was
+    ∙ c.highest-2.ensures.rank))
 
 pub returns-in_err-third : goal.returns-in_err-third
 returns-in_err-third c count has =
     let first = c.in_ok-first.first in
     let second = c.in_ok-second.second in
     let count1 = without first count in
-    let has1 = without-has c.args.self.bits c.without-below_first.result.bits 1 first count has c.without-below_first.ensures in
+    let has1 = without-has c.args.self.bits c.without-below_first.result.bits 1 first count has
+    c.without-below_first.ensures in
     let count2 = without second count1 in
-    let has2 = without-has c.without-below_first.result.bits c.without-below_second.result.bits 1 second count1 has1 c.without-below_second.ensures in
+    let has2 = without-has c.without-below_first.result.bits c.without-below_second.result.bits 1 second count1 has1
+    c.without-below_second.ensures in
     c.from_residual-in_err-third.ensures
     ∙ behind-none c.args.self.bits 1 first (1 ∷ 1 ∷ []) count has (sym c.in_ok-first.was ∙ c.highest.ensures.rank)
-    (behind-none c.without-below_first.result.bits 1 second (1 ∷ []) count1 has1 (sym c.in_ok-second.was ∙ c.highest-2.ensures.rank)
-    (picks-none c.without-below_second.result.bits 1 [] count2 has2 (sym c.in_err-third.was ∙ c.highest-3.ensures.rank)))
+    (behind-none c.without-below_first.result.bits 1 second (1 ∷ []) count1 has1 (sym c.in_ok-second.was
+    ∙ c.highest-2.ensures.rank)
+    (picks-none c.without-below_second.result.bits 1 [] count2 has2 (sym c.in_err-third.was
+    ∙ c.highest-3.ensures.rank)))
 
 pub returns : goal.returns
 returns c count has =
@@ -36,10 +42,15 @@ returns c count has =
     let second = c.in_ok-second.second in
     let third = c.in_ok-third.third in
     let count1 = without first count in
-    let has1 = without-has c.args.self.bits c.without-below_first.result.bits 1 first count has c.without-below_first.ensures in
+    let has1 = without-has c.args.self.bits c.without-below_first.result.bits 1 first count has
+    c.without-below_first.ensures in
     let count2 = without second count1 in
-    let has2 = without-has c.without-below_first.result.bits c.without-below_second.result.bits 1 second count1 has1 c.without-below_second.ensures in
-    behind-some c.args.self.bits 1 first (1 ∷ 1 ∷ []) (second ∷ third ∷ []) count has (sym c.in_ok-first.was ∙ c.highest.ensures.rank)
-    (behind-some c.without-below_first.result.bits 1 second (1 ∷ []) (third ∷ []) count1 has1 (sym c.in_ok-second.was ∙ c.highest-2.ensures.rank)
-    (behind-some c.without-below_second.result.bits 1 third [] [] count2 has2 (sym c.in_ok-third.was ∙ c.highest-3.ensures.rank)
+    let has2 = without-has c.without-below_first.result.bits c.without-below_second.result.bits 1 second count1 has1
+    c.without-below_second.ensures in
+    behind-some c.args.self.bits 1 first (1 ∷ 1 ∷ []) (second ∷ third ∷ []) count has (sym c.in_ok-first.was
+    ∙ c.highest.ensures.rank)
+    (behind-some c.without-below_first.result.bits 1 second (1 ∷ []) (third ∷ []) count1 has1 (sym c.in_ok-second.was
+    ∙ c.highest-2.ensures.rank)
+    (behind-some c.without-below_second.result.bits 1 third [] [] count2 has2 (sym c.in_ok-third.was
+    ∙ c.highest-3.ensures.rank)
     (picked-nothing (without third count2))))

@@ -12,7 +12,8 @@ pub returns-in_err-second : goal.returns-in_err-second
 returns-in_err-second c count has =
     let first = c.in_ok-first.first in
     let count1 = without first count in
-    let has1 = without-has c.args.self.bits c.without-below_first.result.bits 1 first count has c.without-below_first.ensures in
+    let has1 = without-has c.args.self.bits c.without-below_first.result.bits 1 first count has
+    c.without-below_first.ensures in
     c.from_residual-in_err-second.ensures
     ∙ behind-none c.args.self.bits 1 first (1 ∷ []) count has (sym c.in_ok-first.was ∙ c.highest.ensures.rank)
     (picks-none c.without-below_first.result.bits 1 [] count1 has1 (sym c.in_err-second.was ∙ c.highest-2.ensures.rank))
@@ -22,7 +23,10 @@ returns c count has =
     let first = c.in_ok-first.first in
     let second = c.in_ok-second.second in
     let count1 = without first count in
-    let has1 = without-has c.args.self.bits c.without-below_first.result.bits 1 first count has c.without-below_first.ensures in
-    behind-some c.args.self.bits 1 first (1 ∷ []) (second ∷ []) count has (sym c.in_ok-first.was ∙ c.highest.ensures.rank)
-    (behind-some c.without-below_first.result.bits 1 second [] [] count1 has1 (sym c.in_ok-second.was ∙ c.highest-2.ensures.rank)
+    let has1 = without-has c.args.self.bits c.without-below_first.result.bits 1 first count has
+    c.without-below_first.ensures in
+    behind-some c.args.self.bits 1 first (1 ∷ []) (second ∷ []) count has (sym c.in_ok-first.was
+    ∙ c.highest.ensures.rank)
+    (behind-some c.without-below_first.result.bits 1 second [] [] count1 has1 (sym c.in_ok-second.was
+    ∙ c.highest-2.ensures.rank)
     (picked-nothing (without second count1)))

@@ -4,7 +4,8 @@ use Rattle.hand_rank.proofs.shown.Shown.least.Goals as goal
 
 pub returns-clause-value : goal.returns-clause-value
 returns-clause-value c =
-    ap₂ (λ x y. 0 ∷ (x ++ y)) (ranks-empty c.empty.result.bits c.empty.ensures) (ranks-empty c.empty-2.result.bits c.empty-2.ensures)
+    ap₂ (λ x y. 0 ∷ (x ++ y)) (ranks-empty c.empty.result.bits c.empty.ensures)
+    (ranks-empty c.empty-2.result.bits c.empty-2.ensures)
 
 pub returns-clause-sized : goal.returns-clause-sized
 returns-clause-sized c =

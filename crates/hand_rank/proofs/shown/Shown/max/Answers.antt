@@ -9,11 +9,13 @@ returns-then-is_less-clause-value c is also =
     let one = c.args.self in
     let other = c.args.other in
     sym (max_upper (shown_value one) (shown_value other)
-    (less-upto one other (record { most = omega arith; others = omega arith }) (record { most = omega arith; others = omega arith }) is also (sym c.is_less.ensures ∙ c.if-is_less.true)))
+    (less-upto one other (record { most = omega arith; others = omega arith })
+    (record { most = omega arith; others = omega arith }) is also (sym c.is_less.ensures ∙ c.if-is_less.true)))
 
 pub returns-else-is_less-clause-value : goal.returns-else-is_less-clause-value
 returns-else-is_less-clause-value c is also =
     let one = c.args.self in
     let other = c.args.other in
     sym (max_lower (shown_value one) (shown_value other)
-    (not_less-back one other (record { most = omega arith; others = omega arith }) (record { most = omega arith; others = omega arith }) is also (sym c.is_less.ensures ∙ c.if-is_less.false)))
+    (not_less-back one other (record { most = omega arith; others = omega arith })
+    (record { most = omega arith; others = omega arith }) is also (sym c.is_less.ensures ∙ c.if-is_less.false)))

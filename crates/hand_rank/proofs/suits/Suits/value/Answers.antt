@@ -6,7 +6,8 @@ use Rattle.hand_rank.proofs.suits.Suits.value.Goals as goal
 
 pub returns : goal.returns
 returns c cards are apart =
-    value-from cards c.value-best.result c.with_suit-best.result c.with_suit-best-2.result c.with_suit-best-3.result c.with_suit.result
+    value-from cards c.value-best.result c.with_suit-best.result c.with_suit-best-2.result c.with_suit-best-3.result
+    c.with_suit.result
     (c.value-best.ensures (count_of_rank cards) (c.tally.ensures cards are apart))
     (c.with_suit-best.ensures (count_of_suit cards 0) (suit-has c.args.self.ranks cards 0 _ are (lit≤ tt)))
     (c.with_suit-best-2.ensures (count_of_suit cards 1) (suit-has c.args.self.ranks cards 1 _ are (lit≤ tt)))

@@ -16,5 +16,11 @@ fetch_add-ticket-requires g c =
     let before : M = c.args.pass.place.me in
     let share = record (first_share before.0.shares) { number = c.args.pass.number } in
     let v : View g.row.V-Entry.Denot = resting_view c.args.pass.number c.args.pass.known before.0 in
-    let is : c.into_parts-number.result.2.me ≡ (v, []) = ap (λ p. p.me) c.into_parts-number.ensures.2 ∙ (λ i. (c.args.pass.at_rest i, c.args.pass.empty_handed i)) in
-    (search rules, search rules, subst (λ (m : M). Allows (IsKept H C n) slots id m 0 (λ k. (k + 1) % 2 ^ 64) (drew (step slots 0 1 0 none) m)) (sym is) (draws H C n slots id v [] share refl refl refl))
+    let is : c.into_parts-number.result.2.me ≡ (v, []) = ap (λ p. p.me) c.into_parts-number.ensures.2
+    ∙ (λ i. (c.args.pass.at_rest i, c.args.pass.empty_handed i)) in (
+      search rules,
+      search rules,
+      subst
+          (λ (m : M). Allows (IsKept H C n) slots id m 0 (λ k. (k + 1) % 2 ^ 64) (drew (step slots 0 1 0 none) m))
+          (sym is) (draws H C n slots id v [] share refl refl refl),
+    )

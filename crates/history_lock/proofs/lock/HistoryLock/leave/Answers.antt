@@ -17,10 +17,15 @@ fetch_add-requires g c =
     let val : g.row.V.Denot = c.args.inside.value in
     let share = share_left (first_share before.0.shares) (H val) in
     let v : View g.row.V-Entry.Denot = record before.0 { shares = share ∷ [] } in
-    let told : g.row.V.Denot → M = λ x. (record before.0 { shares = share_left (first_share before.0.shares) (H x) ∷ [] }, (0, None) ∷ []) in
-    let is : c.exchange-taken.new.seat.me ≡ (v, (0, Some val) ∷ []) = c.exchange-taken.ensures.3 ∙ ap (λ (m : M). let z : M = (m.0, (0, Some val) ∷ rest m.1) in z) (c.publish.ensures.left ∙ ap told c.of-left.ensures) in (
+    let told : g.row.V.Denot
+    → M = λ x. (record before.0 { shares = share_left (first_share before.0.shares) (H x) ∷ [] }, (0, None) ∷ []) in
+    let is : c.exchange-taken.new.seat.me ≡ (v, (0, Some val) ∷ []) = c.exchange-taken.ensures.3
+    ∙ ap (λ (m : M). let z : M = (m.0, (0, Some val) ∷ rest m.1) in z) (c.publish.ensures.left
+    ∙ ap told c.of-left.ensures) in (
       search rules,
       search rules,
-      subst (λ (m : M). Allows (IsKept H C n) slots id m 1 (λ k. (k + 1) % 2 ^ 64) (passed_on (step slots 1 1 0 none) m)) (sym is)
-          (passes_on H C n slots id v share val refl (ap (λ (z : View g.row.V-Entry.Denot). z.served) c.args.inside.turn.let_in) refl),
+      subst (λ (m : M). Allows (IsKept H C n) slots id m 1 (λ k. (k + 1) % 2 ^ 64)
+          (passed_on (step slots 1 1 0 none) m)) (sym is)
+          (passes_on H C n slots id v share val refl
+          (ap (λ (z : View g.row.V-Entry.Denot). z.served) c.args.inside.turn.let_in) refl),
     )

@@ -18,5 +18,7 @@ load-count-requires g c =
     let is : before ≡ (v, []) = λ i. (c.args.pass.now.at_rest i, c.args.pass.now.empty_handed i) in (
       search rules,
       search rules,
-      subst (λ (m : M). Allows (IsKept H C n) slots id m 2 (λ k. k) (counted (step slots 2 0 0 none) m)) (sym is) (counts H C n slots id v [] (record (first_share before.0.shares) { number = c.args.pass.now.number }) refl refl),
+      subst (λ (m : M). Allows (IsKept H C n) slots id m 2 (λ k. k) (counted (step slots 2 0 0 none) m)) (sym is)
+          (counts H C n slots id v [] (record (first_share before.0.shares) { number = c.args.pass.now.number }) refl
+          refl),
     )

@@ -5,11 +5,18 @@ use Rattle.history_lock.proofs.lock.HistoryLock.wake.Goals as goal
 
 pub load_new_seat-place-requires : goal.load_new_seat-place-requires
 load_new_seat-place-requires g c =
-    let t = c.args.self.now.table.shared in
-    (search rules, arrives g.V.Grows.history g.V.Grows.caller_of t.key.passes t.table_id.slots (opening_view t.key.passes (g.V.Grows.history t.key.opening.value)))
+    let t = c.args.self.now.table.shared in (
+      search rules,
+      arrives g.V.Grows.history g.V.Grows.caller_of t.key.passes t.table_id.slots
+          (opening_view t.key.passes (g.V.Grows.history t.key.opening.value)),
+    )
 
 pub fetch_add-requires : goal.fetch_add-requires
 fetch_add-requires g c =
     let t = c.args.self.now.table.shared in
-    let seat = c.load_new_seat-place.result.1 in
-    (search rules, search rules, calls g.V.Grows.history g.V.Grows.caller_of t.key.passes t.table_id.slots seat.id seat.me.0 seat.me.1)
+    let seat = c.load_new_seat-place.result.1 in (
+      search rules,
+      search rules,
+      calls g.V.Grows.history g.V.Grows.caller_of t.key.passes t.table_id.slots seat.id
+          seat.me.0 seat.me.1,
+    )

@@ -14,7 +14,8 @@ invariant_of-self-2 c =
       stack = c.self.invariant.stack;
       buyin = c.self.invariant.buyin;
       late = c.self.invariant.late;
-      levels = are_levels_more c.self.inside.blinds c.args.blind c.self.invariant.levels c.requires.lawful (rw same_levels c.requires.follows);
+      levels = are_levels_more c.self.inside.blinds c.args.blind c.self.invariant.levels c.requires.lawful
+          (rw same_levels c.requires.follows);
       level_count = level_count_more c.self.inside.blinds c.args.blind (rw same_levels c.requires.room);
       shares = c.self.invariant.shares;
     })

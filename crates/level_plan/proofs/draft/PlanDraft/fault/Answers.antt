@@ -4,4 +4,5 @@ use Rattle.level_plan.proofs.draft.PlanDraft.fault.Goals as goal
 
 pub nonzero_rem-stack : goal.nonzero_rem-stack
 nonzero_rem-stack c =
-    rw (c.unit_of_level.ensures, c.items-blinds.ensures) (unit_of_level_above c.self.inside.blinds c.in-Some-late.late c.self.invariant.levels)
+    rw (c.unit_of_level.ensures, c.items-blinds.ensures)
+    (unit_of_level_above c.self.inside.blinds c.in-Some-late.late c.self.invariant.levels)

@@ -7,12 +7,14 @@ use Rattle.pot_layers.proofs.pot_tally.PotTally.add.Goals as goal
 
 pub invariant_of-self : goal.invariant_of-self
 invariant_of-self c =
-    let reaches : c.args.seat - 1 < length (puts_of c.self.inside.standings) = rw length-map (omega (arith, c.self.invariant.right.seats)) in
+    let reaches : c.args.seat - 1 < length (puts_of c.self.inside.standings) =
+    rw length-map (omega (arith, c.self.invariant.right.seats)) in
     record {
       right = c.put_in.ensures.right;
       whole =
           ap (λ n. n + c.args.amount) c.self.invariant.whole
           ∙ sym (total_put-put_in_at (puts_of c.self.inside.standings) (c.args.seat - 1) c.args.amount reaches)
           ∙ sym (ap total_put c.put_in.ensures.puts);
-      fits = let seen : total_put (puts_of c.self.inside.standings) ≡ total_put c.args.self.now = ap total_put c.self.view_is in omega (arith, seen, c.self.invariant.whole, c.requires.fits);
+      fits = let seen : total_put (puts_of c.self.inside.standings) ≡ total_put c.args.self.now =
+          ap total_put c.self.view_is in omega (arith, seen, c.self.invariant.whole, c.requires.fits);
     }

@@ -7,6 +7,8 @@ use Rattle.pot_layers.proofs.pot_tally.PotTally.fold.Goals as goal
 pub invariant_of-self : goal.invariant_of-self
 invariant_of-self c = record {
   right = c.fold.ensures.right;
-  whole = c.self.invariant.whole ∙ sym (ap total_put c.fold.ensures.puts ∙ total_put-folded_at (puts_of c.self.inside.standings) (c.args.seat - 1));
+  whole = c.self.invariant.whole
+      ∙ sym (ap total_put c.fold.ensures.puts
+      ∙ total_put-folded_at (puts_of c.self.inside.standings) (c.args.seat - 1));
   fits = c.self.invariant.fits;
 }

@@ -9,11 +9,17 @@ use Rattle.pot_layers.proofs.pot_tally.PotTally.of.Goals as goal
 pub loop-index-preserved : goal.loop-index-preserved
 loop-index-preserved c =
     let back : c.loop-index.index + 1 - 1 ≡ c.loop-index.index = omega arith in
-    let added = c.add.ensures ∙ ap (λ n. put_in_at c.loop-index.tally n (get_or c.args.puts.now c.loop-index.index no_put).amount) back in
+    let added = c.add.ensures
+    ∙ ap (λ n. put_in_at c.loop-index.tally n (get_or c.args.puts.now c.loop-index.index no_put).amount) back in
     elim c.if-not-put.branch [
       | then-not-put w ↦
-          w.tally-is ∙ w.fold.ensures ∙ ap (λ n. folded_at c.add.new.self n) back ∙ ap (λ puts. folded_at puts c.loop-index.index) added
-          ∙ folded-told c.args.puts.now c.loop-index.tally c.loop-index.index (omega arith) c.told-puts c.loop-index.invariant (not-true (get_or c.args.puts.now c.loop-index.index no_put).live w.if-not-put.true)
+          w.tally-is ∙ w.fold.ensures ∙ ap (λ n. folded_at c.add.new.self n) back
+          ∙ ap (λ puts. folded_at puts c.loop-index.index) added
+          ∙ folded-told c.args.puts.now c.loop-index.tally c.loop-index.index
+          (omega arith) c.told-puts c.loop-index.invariant
+          (not-true (get_or c.args.puts.now c.loop-index.index no_put).live w.if-not-put.true)
       | else-not-put w ↦
-          w.tally-is ∙ added ∙ live-told c.args.puts.now c.loop-index.tally c.loop-index.index (omega arith) c.told-puts c.loop-index.invariant (not-false (get_or c.args.puts.now c.loop-index.index no_put).live w.if-not-put.false)
+          w.tally-is ∙ added ∙ live-told c.args.puts.now c.loop-index.tally c.loop-index.index
+          (omega arith) c.told-puts c.loop-index.invariant
+          (not-false (get_or c.args.puts.now c.loop-index.index no_put).live w.if-not-put.false)
     ]

@@ -17,43 +17,56 @@ loop-next-init c = record {
   paid = sym (total_to-zero (puts_of c.self.inside.standings));
   top = inl refl;
   units = λ unit whole. (rw c.empty-pots.ensures, zero-mod unit);
-  room = rw c.empty-pots.ensures (omega (arith, count_by-le-length (is_above 0) c.self.inside.standings, c.self.invariant.right.seats));
+  room = rw c.empty-pots.ensures
+      (omega (arith, count_by-le-length (is_above 0) c.self.inside.standings, c.self.invariant.right.seats));
 }
 
 pub overflow_sub-next : goal.overflow_sub-next
-overflow_sub-next c = (cuts-next c.self.inside.standings c.loop-next.pots c.loop-next.below c.loop-next.paid c.in-Some.next c.self.invariant.right.each c.loop-next.invariant (sym c.in-Some.ensures)).more
+overflow_sub-next c =
+    (cuts-next c.self.inside.standings c.loop-next.pots c.loop-next.below c.loop-next.paid c.in-Some.next
+    c.self.invariant.right.each c.loop-next.invariant (sym c.in-Some.ensures)).more
 
 pub push-requires : goal.push-requires
 push-requires c =
-    let next = cuts-next c.self.inside.standings c.loop-next.pots c.loop-next.below c.loop-next.paid c.in-Some.next c.self.invariant.right.each c.loop-next.invariant (sym c.in-Some.ensures) in
+    let next = cuts-next c.self.inside.standings c.loop-next.pots c.loop-next.below c.loop-next.paid c.in-Some.next
+    c.self.invariant.right.each c.loop-next.invariant (sym c.in-Some.ensures) in
     omega (arith, next.fewer, c.loop-next.invariant.room)
 
 pub loop-next-smaller : goal.loop-next-smaller
-loop-next-smaller c = (cuts-next c.self.inside.standings c.loop-next.pots c.loop-next.below c.loop-next.paid c.in-Some.next c.self.invariant.right.each c.loop-next.invariant (sym c.in-Some.ensures)).fewer
+loop-next-smaller c =
+    (cuts-next c.self.inside.standings c.loop-next.pots c.loop-next.below c.loop-next.paid c.in-Some.next
+    c.self.invariant.right.each c.loop-next.invariant (sym c.in-Some.ensures)).fewer
 
 pub loop-next-preserved : goal.loop-next-preserved
 loop-next-preserved c =
-    let next = cuts-next c.self.inside.standings c.loop-next.pots c.loop-next.below c.loop-next.paid c.in-Some.next c.self.invariant.right.each c.loop-next.invariant (sym c.in-Some.ensures) in
+    let next = cuts-next c.self.inside.standings c.loop-next.pots c.loop-next.below c.loop-next.paid c.in-Some.next
+    c.self.invariant.right.each c.loop-next.invariant (sym c.in-Some.ensures) in
     rw (c.push.ensures, c.live_payers.ensures) next.cut
 
 pub overflow_sub-self-inside : goal.overflow_sub-self-inside
-overflow_sub-self-inside c = (is-whole c.self.inside.standings c.loop-next.pots c.loop-next.below c.loop-next.paid c.self.inside.total c.loop-next.invariant (sym c.in_default.ensures) (rw c.self.view_is c.requires) c.self.invariant.whole).least
+overflow_sub-self-inside c =
+    (is-whole c.self.inside.standings c.loop-next.pots c.loop-next.below c.loop-next.paid c.self.inside.total
+    c.loop-next.invariant (sym c.in_default.ensures) (rw c.self.view_is c.requires) c.self.invariant.whole).least
 
 pub add_to_last-requires-clause-some : goal.add_to_last-requires-clause-some
 add_to_last-requires-clause-some c =
-    let whole = is-whole c.self.inside.standings c.loop-next.pots c.loop-next.below c.loop-next.paid c.self.inside.total c.loop-next.invariant (sym c.in_default.ensures) (rw c.self.view_is c.requires) c.self.invariant.whole in
+    let whole = is-whole c.self.inside.standings c.loop-next.pots c.loop-next.below c.loop-next.paid c.self.inside.total
+    c.loop-next.invariant (sym c.in_default.ensures) (rw c.self.view_is c.requires) c.self.invariant.whole in
     rw (whole.ends, length-append) (omega arith)
 
 pub add_to_last-requires-clause-fits : goal.add_to_last-requires-clause-fits
 add_to_last-requires-clause-fits c = λ below last is.
-    let whole = is-whole c.self.inside.standings c.loop-next.pots c.loop-next.below c.loop-next.paid c.self.inside.total c.loop-next.invariant (sym c.in_default.ensures) (rw c.self.view_is c.requires) c.self.invariant.whole in
+    let whole = is-whole c.self.inside.standings c.loop-next.pots c.loop-next.below c.loop-next.paid c.self.inside.total
+    c.loop-next.invariant (sym c.in_default.ensures) (rw c.self.view_is c.requires) c.self.invariant.whole in
     let same : last ≡ whole.last = same-last below whole.below last whole.last (sym is ∙ whole.ends) in
     rw same (omega (arith, whole.within, whole.least, c.self.invariant.fits))
 
 pub returns : goal.returns
 returns c =
-    let whole = is-whole c.self.inside.standings c.loop-next.pots c.loop-next.below c.loop-next.paid c.self.inside.total c.loop-next.invariant (sym c.in_default.ensures) (rw c.self.view_is c.requires) c.self.invariant.whole in
-    let cut : c.add_to_last.new.self ≡ layers c.args.self.now = c.add_to_last.ensures whole.below whole.last whole.ends ∙ whole.all ∙ ap layers c.self.view_is in
+    let whole = is-whole c.self.inside.standings c.loop-next.pots c.loop-next.below c.loop-next.paid c.self.inside.total
+    c.loop-next.invariant (sym c.in_default.ensures) (rw c.self.view_is c.requires) c.self.invariant.whole in
+    let cut : c.add_to_last.new.self ≡ layers c.args.self.now = c.add_to_last.ensures whole.below whole.last whole.ends
+    ∙ whole.all ∙ ap layers c.self.view_is in
     record {
       pots = cut;
       sum = rw cut (total_of-layers c.args.self.now);

@@ -8,6 +8,7 @@ use Rattle.showdown.proofs.in_turn.InTurn.of.Given as goal
 -- The seats so far, with those that are left of the walk, are all in turn.
 abbrev pub invariant-loop-step : goal.invariant-loop-step
 invariant-loop-step l = record {
-  all : l.order ++ filter (has_seat l.set) (walk (seat_after l.seats) (l.seats - l._step) l.seat) ≡ in_turn l.seats l.button l.set;
+  all : l.order ++ filter (has_seat l.set) (walk (seat_after l.seats) (l.seats - l._step) l.seat)
+      ≡ in_turn l.seats l.button l.set;
   few : length l.order ≤ l._step;
 }
