@@ -1,3 +1,4 @@
+use Rattle.std.proofs.lemmas.Grind.{common_steps}
 use Rattle.std.proofs.Common.{◌≡◌, ◌≢◌, ◌∙◌, sym, subst, ◌<◌, ℕ, true, false, ◌==◌, List, length, get_or, arith}
 use Rattle.std.proofs.lemmas.Bool.{eq-eqb}
 use Rattle.std.proofs.lemmas.Bool.Decides.{nat_tests}
@@ -11,38 +12,16 @@ pub loop-index-init : goal.loop-index-init
 loop-index-init c = bust_first c.args.done.now.start.seats (is_broke (hand_of c.args.done.now)) c.args.group
     c.args.seats.now c.args.busts.now c.requires.may
 
-pub bust-requires-clause-sits : goal.bust-requires-clause-sits
-bust-requires-clause-sits c =
+pub bust-requires : goal.bust-requires
+bust-requires c =
     let within = subst (λ (players : List StartSeat). c.loop-index.index < length players) c.items-players.ensures
     c.loop-index-test.true in
     let here = subst (λ (players : List StartSeat). c.index-players-index.result ≡ get_or players c.loop-index.index
     c.index-players-index.result) c.items-players.ensures c.index-players-index.is in
-    (next_leaves c.args.done.now.start.seats (is_broke (hand_of c.args.done.now)) c.args.group c.args.seats.now
-    c.loop-index.seats c.args.busts.now c.loop-index.busts c.loop-index.index c.index-players-index.result
-    c.requires.may
-    c.loop-index.invariant within here).sits
-
-pub bust-requires-clause-room : goal.bust-requires-clause-room
-bust-requires-clause-room c =
-    let within = subst (λ (players : List StartSeat). c.loop-index.index < length players) c.items-players.ensures
-    c.loop-index-test.true in
-    let here = subst (λ (players : List StartSeat). c.index-players-index.result ≡ get_or players c.loop-index.index
-    c.index-players-index.result) c.items-players.ensures c.index-players-index.is in
-    (next_leaves c.args.done.now.start.seats (is_broke (hand_of c.args.done.now)) c.args.group c.args.seats.now
-    c.loop-index.seats c.args.busts.now c.loop-index.busts c.loop-index.index c.index-players-index.result
-    c.requires.may
-    c.loop-index.invariant within here).room
-
-pub bust-requires-clause-once : goal.bust-requires-clause-once
-bust-requires-clause-once c =
-    let within = subst (λ (players : List StartSeat). c.loop-index.index < length players) c.items-players.ensures
-    c.loop-index-test.true in
-    let here = subst (λ (players : List StartSeat). c.index-players-index.result ≡ get_or players c.loop-index.index
-    c.index-players-index.result) c.items-players.ensures c.index-players-index.is in
-    (next_leaves c.args.done.now.start.seats (is_broke (hand_of c.args.done.now)) c.args.group c.args.seats.now
-    c.loop-index.seats c.args.busts.now c.loop-index.busts c.loop-index.index c.index-players-index.result
-    c.requires.may
-    c.loop-index.invariant within here).new
+    let leaves = next_leaves c.args.done.now.start.seats (is_broke (hand_of c.args.done.now)) c.args.group
+    c.args.seats.now c.loop-index.seats c.args.busts.now c.loop-index.busts c.loop-index.index
+    c.index-players-index.result c.requires.may c.loop-index.invariant within here in
+    record { entry = grind (arith, common_steps); sits = leaves.sits; room = leaves.room; once = leaves.new }
 
 is_nothing : (stack after : ℕ) → stack ≡ after → stack ≡ 0 → (after == 0) ≡ true
 is_nothing stack after same none = eq-eqb after 0 (sym same ∙ none)
