@@ -63,8 +63,12 @@ fn event(alloc: Global, line: &str) -> Result<Event, Fail> {
     Ok(event)
 }
 
-fn row_of(bytes: &[u8]) -> Result<CardRow, Fail> {
-    Ok(read_row(bytes).ok_or("a row")?)
+fn sorted() -> Result<CardRow, Fail> {
+    Ok(read_row(SORTED).ok_or("a row")?)
+}
+
+fn aces() -> Result<CardRow, Fail> {
+    Ok(read_row(ACES).ok_or("a row")?)
 }
 
 /// Reads the plan of the lines.
@@ -218,10 +222,9 @@ fn play_both(
     rt: &impl Abort,
     alloc: Global,
     both: &mut Beside,
-    row: &[u8],
+    row: CardRow,
     lines: &[&str],
 ) -> Result<(), Fail> {
-    let row = row_of(row)?;
     play(rt, alloc, &mut both.book, &row, lines)?;
     play_beside(rt, alloc, &mut both.tournament, row, lines)?;
     alike(rt, alloc, both)
@@ -229,7 +232,7 @@ fn play_both(
 
 /// Begins a hand on both sides.
 fn begin_both(rt: &impl Abort, both: &mut Beside) -> Result<Hand, Fail> {
-    let row = row_of(SORTED)?;
+    let row = sorted()?;
     let hand = begin(rt, &mut both.book, &row)?;
     begin_beside(rt, &mut both.tournament, row)?;
     Ok(hand)
@@ -246,26 +249,47 @@ fn is_over(rt: &impl Abort, both: &Beside, over: bool) {
     assert_eq!(rt; (both.book.over(), both.tournament.over()), (over, over));
 }
 
+/// Plays the hands of folds on both sides.
+fn fold_all(rt: &impl Abort, alloc: Global, both: &mut Beside) -> Result<(), Fail> {
+    for lines in FOLDS {
+        play_both(rt, alloc, both, sorted()?, lines)?;
+    }
+    Ok(())
+}
+
+/// Bob goes broke, and two are in.
+fn break_bob(rt: &impl Abort, alloc: Global, both: &mut Beside) -> Result<(), Fail> {
+    play_both(rt, alloc, both, sorted()?, BREAKS_BOB)?;
+    is_over(rt, both, false);
+    Ok(())
+}
+
+/// Cat goes broke, and ann alone is in.
+fn break_cat(rt: &impl Abort, alloc: Global, both: &mut Beside) -> Result<(), Fail> {
+    play_both(rt, alloc, both, aces()?, BREAKS_CAT)?;
+    is_over(rt, both, true);
+    Ok(())
+}
+
+/// Nobody enters after the end.
+fn enter_late(rt: &impl Abort, alloc: Global, both: &mut Beside) -> Result<(), Fail> {
+    let late = event(alloc, "enter dan 1 4")?;
+    assert_eq!(rt; order(rt, both, &late)?, Answer::No(Refusal::Over));
+    Ok(())
+}
+
 #[test]
 fn a_book_by_hand_tells_what_a_tournament_tells(rt: HostRuntime) -> Result<(), Fail> {
     let mut both = entered(&rt, rt.alloc())?;
-    for lines in FOLDS {
-        play_both(&rt, rt.alloc(), &mut both, SORTED, lines)?;
-    }
-    Ok(())
+    fold_all(&rt, rt.alloc(), &mut both)
 }
 
 #[test]
 fn a_book_by_hand_settles_hands_that_break_players(rt: HostRuntime) -> Result<(), Fail> {
     let mut both = entered(&rt, rt.alloc())?;
-    play_both(&rt, rt.alloc(), &mut both, SORTED, BREAKS_BOB)?;
-    is_over(&rt, &both, false);
-    play_both(&rt, rt.alloc(), &mut both, ACES, BREAKS_CAT)?;
-    is_over(&rt, &both, true);
-    let late = event(rt.alloc(), "enter dan 1 4")?;
-    assert_eq!(rt; order(&rt, &mut both, &late)?, Answer::No(Refusal::Over));
-    assert_eq!(rt; both.book.report()?.rest, 3000);
-    Ok(())
+    break_bob(&rt, rt.alloc(), &mut both)?;
+    break_cat(&rt, rt.alloc(), &mut both)?;
+    enter_late(&rt, rt.alloc(), &mut both)
 }
 
 #[test]
