@@ -2,7 +2,7 @@
 use Rattle.std.proofs.Common.{◌≡◌, ℕ, ◌+◌, ◌<◌, ◌≤◌, List, [], ◌∷◌, ◌++◌, length, take, get_or, refl, sym, ap, ap₂, ◌∙◌, append-nil}
 use Rattle.std.specs.Prelude.{map}
 use Rattle.std.specs.List.{flat_map}
-use Rattle.std.proofs.lemmas.List.{map_more, take_more, take_all}
+use Rattle.std.proofs.lemmas.List.{take_more, take_all}
 use Rattle.std.proofs.lemmas.Grind.{flat_map-append}
 use Rattle.card_set.specs.declared.card.Card.{Card}
 use Rattle.card_choices.proofs.ListOrder.{max_assoc, max_lower}
@@ -30,16 +30,6 @@ pub best_high-none : best_high [] ≡ []
 unfolding best_high
 best_high-none = refl
 
--- one more choice
-pub best_high-more : {A : Type 0} (hand : A → List Card) (xs : List A) (i : ℕ) (x : A) (best : List ℕ) → i < length xs
-    → x ≡ get_or xs i x → best ≡ best_high (map hand (take i xs))
-    → greater best (five_card_value (hand x)) ≡ best_high (map hand (take (i + 1) xs))
-best_high-more hand xs i x best within at is =
-    ap₂ greater is (sym (best_high-one (hand x)))
-    ∙ sym (best_high-append (map hand (take i xs)) (hand x ∷ []))
-    ∙ ap (λ y. best_high (map hand (take i xs) ++ hand y ∷ [])) at
-    ∙ ap best_high (sym (map_more hand xs i x within))
-
 -- the choices with one more pair
 pub best_high-pair : {A : Type 0} (hands : A → List (List Card)) (xs : List A) (i : ℕ) (x : A) (best more : List ℕ)
     → i < length xs → x ≡ get_or xs i x → best ≡ best_high (flat_map hands (take i xs)) → more ≡ best_high (hands x)
@@ -57,13 +47,3 @@ pub best_high-all : {A : Type 0} (chosen : List A → List (List Card)) (xs ys :
     → length xs ≤ i → xs ≡ ys → best ≡ best_high (chosen (take i xs)) → best ≡ best_high (chosen ys)
 best_high-all chosen xs ys i best end same is =
     is ∙ ap (λ zs. best_high (chosen zs)) (take_all i xs end ∙ same)
-
--- one more choice of a list
-pub best_high-next : (hands : List (List Card)) (i : ℕ) (cards : List Card) (best : List ℕ) → i < length hands
-    → cards ≡ get_or hands i cards → best ≡ best_high (take i hands)
-    → greater best (five_card_value cards) ≡ best_high (take (i + 1) hands)
-best_high-next hands i cards best within at is =
-    ap₂ greater is (sym (best_high-one cards))
-    ∙ sym (best_high-append (take i hands) (cards ∷ []))
-    ∙ ap (λ hand. best_high (take i hands ++ hand ∷ [])) at
-    ∙ ap best_high (sym (take_more hands i cards within))

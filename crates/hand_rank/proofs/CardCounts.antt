@@ -65,7 +65,7 @@ distinct_ranks-sections cards =
     joined : (a b c d : List ℕ) → ((a ++ b) ++ c) ++ d ≡ a ++ (b ++ (c ++ (d ++ [])))
     joined a b c d = simp (append_assoc, append-nil)
 
-total-add : (f g : ℕ → ℕ) (n : ℕ) → total (λ r. f r + g r) n ≡ total f n + total g n
+pub total-add : (f g : ℕ → ℕ) (n : ℕ) → total (λ r. f r + g r) n ≡ total f n + total g n
 unfolding total
 total-add f g zero = refl
 total-add f g (suc n) = let later = total-add f g n in omega arith
@@ -83,7 +83,7 @@ total-above rank (suc n) high =
     let other : eqb rank n ≡ false = grind (arith, nat_tests) in
     rw other (omega (arith, later))
 
-total-one : (rank n : ℕ) → rank < n → total (λ r. cond (eqb rank r) 1 0) n ≡ 1
+pub total-one : (rank n : ℕ) → rank < n → total (λ r. cond (eqb rank r) 1 0) n ≡ 1
 unfolding total
 total-one rank zero below = absurd (omega arith)
 total-one rank (suc n) below =

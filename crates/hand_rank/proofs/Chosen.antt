@@ -77,7 +77,7 @@ abbrev pub occurs : List ℕ → ℕ → ℕ
 occurs needs r = count_by (λ s. eqb s r) needs
 
 -- a number is not in a list, or it is, beside some others
-taken_out : (r : ℕ) (needs : List ℕ)
+pub taken_out : (r : ℕ) (needs : List ℕ)
     → (occurs needs r ≡ 0) ⊎ ((others : List ℕ) × (length needs ≡ suc (length others)) × ((s : ℕ)
     → occurs needs s ≡ cond (eqb r s) 1 0 + occurs others s))
 taken_out r [] = inl refl

@@ -25,7 +25,7 @@ use Rattle.hand_rank.proofs.ShownValues.{often_of, AreShown, shown-shape, shown-
 abbrev pub exactly : List Card → ℕ → List ℕ
 exactly cards k = falling (λ r. eqb (count_of_rank cards r) k) 15
 
-distinct-exactly : (cards : List Card)
+pub distinct-exactly : (cards : List Card)
     → distinct_ranks cards ≡ exactly cards 4 ++ (exactly cards 3 ++ (exactly cards 2 ++ (exactly cards 1 ++ [])))
 unfolding sections
 distinct-exactly cards = distinct_ranks-sections cards
@@ -88,13 +88,13 @@ often-parts cards k =
         ∙ occurs-append (map count xs) (map count ys) k
 
 -- how many ranks occur four times, three times, twice and once
-record Lengths (cards : List Card) (often : List ℕ) : Type 0 where
-  four : length (exactly cards 4) ≡ occurs often 4
-  three : length (exactly cards 3) ≡ occurs often 3
-  two : length (exactly cards 2) ≡ occurs often 2
-  one : length (exactly cards 1) ≡ occurs often 1
+pub record Lengths (cards : List Card) (often : List ℕ) : Type 0 where
+  pub four : length (exactly cards 4) ≡ occurs often 4
+  pub three : length (exactly cards 3) ≡ occurs often 3
+  pub two : length (exactly cards 2) ≡ occurs often 2
+  pub one : length (exactly cards 1) ≡ occurs often 1
 
-lengths : (cards : List Card) (often : List ℕ) → often_of cards ≡ often → Lengths cards often
+pub lengths : (cards : List Card) (often : List ℕ) → often_of cards ≡ often → Lengths cards often
 lengths cards often is = record {
   four = let all = often-parts cards 4 in let same = ap (λ o. occurs o 4) is in omega arith;
   three = let all = often-parts cards 3 in let same = ap (λ o. occurs o 3) is in omega arith;
@@ -401,7 +401,7 @@ ranks-one bits top within is = falling-same (has_rank bits) (λ r. eqb r top) 16
     ∙ falling-one 16 top within
 
 -- five distinct ranks run to the top that the highest run has
-run-top_same : (five : List Card) → AreShown five → often_of five ≡ ones
+pub run-top_same : (five : List Card) → AreShown five → often_of five ≡ ones
     → highest_run (occurring (count_of_rank five)) ≡ run_top (distinct_ranks five)
 run-top_same five shown singles =
     let count = count_of_rank five in

@@ -1,8 +1,10 @@
 pub mod BestLaws
+pub mod BoardLaws
 pub mod CardCounts
 pub mod ChangeLaws
 pub mod Chosen
 pub mod CountLaws
+pub mod ExchangeLaws
 pub mod FiveLaws
 pub mod MadeLaws
 pub mod Needs
@@ -16,3 +18,5 @@ pub mod SetLaws
 pub mod SetOrder
 pub mod ShownValues
 pub mod SuitLaws
+pub mod SurpassLaws
+pub mod WalkLaws

@@ -1,22 +1,19 @@
 -- Parts of five cards.
-use Rattle.std.proofs.Common.{◌≡◌, ℕ, zero, suc, ◌+◌, ◌<◌, ◌≤◌, ◌⊎◌, inl, inr, Bool, true, false, ◌&&◌, ◌||◌, eqb, leb, cond, List, [], ◌∷◌, ◌++◌, length, take, get_or, Some, None, lit≤, refl, sym, ap, ap₂, ◌∙◌, subst, eqb-true, eq-eqb, arith}
+use Rattle.std.proofs.Common.{◌≡◌, ℕ, zero, suc, ◌+◌, ◌<◌, ◌≤◌, ◌⊎◌, inl, inr, Bool, true, false, ◌&&◌, ◌||◌, eqb, leb, cond, List, [], ◌∷◌, ◌++◌, length, get_or, Some, None, lit≤, refl, sym, ap, ◌∙◌, eqb-true, eq-eqb, arith}
 use Rattle.std.specs.Prelude.{Option, is_some, map}
 use Rattle.std.specs.List.{list_all}
 use Rattle.std.proofs.lemmas.Bool.Decides.{nat_tests}
-use Rattle.std.proofs.lemmas.List.{take_all}
 use Rattle.std.proofs.lemmas.List.Folds.{list_all-append}
 use Rattle.std.proofs.lemmas.List.Sums.{sum_by-append}
 use Rattle.card_set.specs.declared.card.Card.{Card}
 use Rattle.hand_rank.specs.declared.shown.Part.{Part}
-use Rattle.hand_rank.specs.declared.shown.Shown.{Shown}
-use Rattle.card_choices.proofs.ListOrder.{Upto, upto_through, max_assoc, max_lower, max_upper, max-above_left}
+use Rattle.card_choices.proofs.ListOrder.{Upto, upto_through, max_upper, max-above_left}
 use Rattle.card_choices.specs.Choices.{omaha_choices}
 use Rattle.hand_rank.specs.declared.category.Category.{Category}
 use Rattle.hand_rank.specs.BestHigh.{greater, best_high}
 use Rattle.hand_rank.specs.Sets.{has_rank, IsTallyOf}
-use Rattle.hand_rank.specs.Shown.{shown_value, suit_of, common, IsSized, IsShownBy, IsPartOf, AreParts, IsBetter}
+use Rattle.hand_rank.specs.Shown.{suit_of, common, IsPartOf}
 use Rattle.hand_rank.specs.Values.{category_number, category_of, count_of_rank, distinct_ranks, run_top, are_of_one_suit, value_by, five_card_value}
-use Rattle.hand_rank.proofs.BestLaws.{best_high-none, best_high-more}
 
 -- how often ranks occur in some cards and in others
 pub tally-joined : (a1 a2 a3 a4 b1 b2 b3 b4 c1 c2 c3 c4 : ℕ) (one other both : ℕ → ℕ) → IsTallyOf a1 a2 a3 a4 one
@@ -133,21 +130,6 @@ part-joined result one other both [] more some others is also = absurd (omega ar
 part-joined result one other both (card ∷ cards) [] some others is also = absurd (omega arith)
 part-joined result one other both (card ∷ cards) (next ∷ more) some others is also = both card next cards more is also
 
--- a part among others
-pub part-at : (parts : List Part) (hands : List (List Card)) (i : ℕ) (default : Part) → AreParts parts hands
-    → i < length hands → (cards : List Card) × (cards ≡ get_or hands i cards) × IsPartOf (get_or parts i default) cards
-part-at [] [] i default are within = absurd (omega arith)
-part-at [] (cards ∷ hands) i default are within = absurd are
-part-at (part ∷ parts) [] i default are within = absurd are
-part-at (part ∷ parts) (cards ∷ hands) zero default are within = (cards, refl, are.0)
-part-at (part ∷ parts) (cards ∷ hands) (suc i) default are within = part-at parts hands i default are.1 (omega arith)
-
-pub parts-length : (parts : List Part) (hands : List (List Card)) → AreParts parts hands → length parts ≡ length hands
-parts-length [] [] are = refl
-parts-length [] (cards ∷ hands) are = absurd are
-parts-length (part ∷ parts) [] are = absurd are
-parts-length (part ∷ parts) (cards ∷ hands) are = ap suc (parts-length parts hands are.1)
-
 -- the cards of lists of five, of four and of two
 pub five-are : (cards : List Card) (a b c d e : Card) → length cards ≡ 5
     → get_or cards 0 a ∷ get_or cards 1 b ∷ get_or cards 2 c ∷ get_or cards 3 d ∷ get_or cards 4 e ∷ [] ≡ cards
@@ -209,31 +191,3 @@ pub best-above : (hole board : List Card) → length hole ≡ 4 → length board
 best-above hole board four five =
     max_upper (0 ∷ []) (best_high (omaha_choices hole board))
     (greatest-above (omaha_choices hole board) (some-choice hole board four five))
-
--- nothing is better than no choice
-pub better-none : (best : Shown) → IsSized best → IsBetter best [] best
-better-none best sized =
-    record {
-      value = sym (ap (greater (shown_value best)) best_high-none ∙ max_lower (shown_value best) [] tt);
-      sized =
-          sized;
-    }
-
--- one more choice
-pub better-more : (best so_far next better : Shown) (hand : List Card → List Card) (hands : List (List Card)) (i : ℕ)
-    (cards : List Card) → i < length hands → cards ≡ get_or hands i cards
-    → IsBetter best (map hand (take i hands)) so_far → IsShownBy next (hand cards)
-    → shown_value better ≡ greater (shown_value so_far) (shown_value next) → IsSized better
-    → IsBetter best (map hand (take (i + 1) hands)) better
-better-more best so_far next better hand hands i cards within at before shown is sized = record {
-  value = is ∙ ap₂ greater before.value shown.value
-      ∙ max_assoc (shown_value best) (best_high (map hand (take i hands))) (five_card_value (hand cards))
-      ∙ ap (greater (shown_value best))
-      (best_high-more hand hands i cards (best_high (map hand (take i hands))) within at refl);
-  sized = sized;
-}
-
--- when all choices have been looked at
-pub better-all : (best better : Shown) (hand : List Card → List Card) (hands : List (List Card)) (i : ℕ)
-    → length hands ≤ i → IsBetter best (map hand (take i hands)) better → IsBetter best (map hand hands) better
-better-all best better hand hands i end is = subst (λ hs. IsBetter best (map hand hs) better) (take_all i hands end) is

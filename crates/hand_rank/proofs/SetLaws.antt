@@ -1,11 +1,12 @@
 -- What steps on sets of ranks do to their ranks.
-use Rattle.std.proofs.Common.{◌≡◌, ℕ, zero, suc, ◌+◌, ◌-◌, ◌*◌, ◌/◌, ◌%◌, ◌^◌, ◌<◌, ◌≤◌, ◌≢◌, inl, inr, Bool, true, false, ◌&&◌, ◌||◌, not, eqb, leb, cond, List, [], ◌∷◌, length, Some, None, refl, lit≤, zero-le, sym, ap, ap₂, ◌∙◌, subst, eqb-true, leb-true, le-leb, pow-suc, arith}
+use Rattle.std.proofs.Common.{◌≡◌, ℕ, zero, suc, ◌+◌, ◌-◌, ◌*◌, ◌/◌, ◌%◌, ◌^◌, ◌<◌, ◌≤◌, ◌≢◌, inl, inr, Bool, true, false, ◌&&◌, ◌||◌, not, eqb, leb, ltb, cond, List, [], ◌∷◌, length, Some, None, refl, lit≤, zero-le, sym, ap, ap₂, ◌∙◌, subst, eqb-true, leb-true, le-leb, pow-suc, arith}
 use Rattle.std.specs.Prelude.{Option, option_map, bit_and, bit_or, count_ones}
 use Rattle.std.specs.Int.{bit_not, w16}
 use Rattle.std.specs.Int.Count.{count_leading_zeros, ones_step, ones-le}
-use Rattle.std.proofs.Math.Pow.{pow_mono}
+use Rattle.std.proofs.Math.Nat.{mod-eq_of_lt}
+use Rattle.std.proofs.Math.Pow.{pow_mono, pow-lt}
 use Rattle.std.proofs.lemmas.Nat.{leading_top}
-use Rattle.std.proofs.lemmas.Nat.Bits.{bit_at_lowest, bit_at-suc, bit_at_and, bit_at_or, bit_at_set_same, bit_at_set_other, bit_at_clear_same, bit_at_clear_other, bit_at_above, bit_at-lt, bit_at-zero}
+use Rattle.std.proofs.lemmas.Nat.Bits.{bit_at_lowest, bit_at-suc, bit_at_and, bit_at_or, bit_at_set_same, bit_at_set_other, bit_at_clear_same, bit_at_clear_other, bit_at_above, bit_at-lt, bit_at-zero, bit_at_ones, bit_at_ones_above}
 use Rattle.std.proofs.lemmas.Bool.Decides.{nat_tests}
 use Rattle.hand_rank.specs.Picks.{highest_below, without, then, picked}
 use Rattle.hand_rank.specs.Made.{first_made, value_of_suit}
@@ -54,6 +55,21 @@ has_rank_with mask rank r within =
       | false ↦ λ other. rw (bit_at_set_other w16 mask rank within r (grind (arith, nat_tests)))
           (sym (or_false (has_rank mask r)))
     ] refl
+
+pub has_rank_below : (rank r : ℕ) → rank < 16 → has_rank (1 * 2 ^ rank % 2 ^ 16 - 1) r ≡ ltb r rank
+has_rank_below rank r within =
+    let small : 2 ^ rank < 2 ^ 16 = pow-lt {i = rank} {j = 16} within in
+    let same : 1 * 2 ^ rank % 2 ^ 16 - 1 ≡ 2 ^ rank - 1 = ap (λ n. n - 1)
+    (ap (λ n. n % 2 ^ 16) (one_times (2 ^ rank)) ∙ mod-eq_of_lt {n = 2 ^ rank} {m = 2 ^ 16} small) in
+    elim (ltb r rank) as (λ b. ltb r rank ≡ b → has_rank (1 * 2 ^ rank % 2 ^ 16 - 1) r ≡ b) [
+      | true ↦ λ less. ap (λ n. has_rank n r) same
+          ∙ ap (λ bit. eqb bit 1) (bit_at_ones rank r (grind (arith, nat_tests)))
+      | false ↦ λ more. ap (λ n. has_rank n r) same
+          ∙ ap (λ bit. eqb bit 1) (bit_at_ones_above rank r (grind (arith, nat_tests)))
+    ] refl
+  where
+    one_times : (n : ℕ) → 1 * n ≡ n
+    one_times n = omega arith
 
 pub has_rank_without : (mask rank r : ℕ) → rank < 16 → r < 16
     → has_rank (bit_and mask (bit_not w16 (1 * 2 ^ rank % 2 ^ 16))) r ≡ (has_rank mask r && not (eqb r rank))

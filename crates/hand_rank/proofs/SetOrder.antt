@@ -43,7 +43,7 @@ upto-behind [] us vs up = up
 upto-behind (x ∷ xs) us vs up = inr (refl, upto-behind xs us vs up)
 
 -- lower ranks come before a higher one
-falling-before : (test : ℕ → Bool) (n m : ℕ) (ys : List ℕ) → n ≤ m → Before (falling test n) (m ∷ ys)
+pub falling-before : (test : ℕ → Bool) (n m : ℕ) (ys : List ℕ) → n ≤ m → Before (falling test n) (m ∷ ys)
 unfolding falling
 falling-before test zero m ys low = tt
 falling-before test (suc n) m ys low =

@@ -1,4 +1,5 @@
 pub mod BestHigh
+pub mod Boards
 pub mod Counts
 pub mod Made
 pub mod Padded

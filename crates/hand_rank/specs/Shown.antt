@@ -67,13 +67,6 @@ pub record IsPartOf (part : Part) (cards : List Card) : Type 0 where
       part.tally.once.bits part.tally.twice.bits part.tally.thrice.bits part.tally.four.bits (count_of_rank cards)
   pub suit : part.suit ≡ suit_of cards
 
--- parts of so many lists of cards, in their order
-abbrev pub AreParts : List Part → List (List Card) → Type 0
-AreParts [] [] = Unit {0}
-AreParts [] (cards ∷ others) = ⊥
-AreParts (part ∷ parts) [] = ⊥
-AreParts (part ∷ parts) (cards ∷ others) = IsPartOf part cards × AreParts parts others
-
 -- the greater of what was shown best and of the greatest value of some choices
 pub record IsBetter (best : Shown) (hands : List (List Card)) (better : Shown) : Type 0 where
   pub value : shown_value better ≡ greater (shown_value best) (best_high hands)

@@ -6,6 +6,7 @@
 #![tactic(auto)]
 
 mod best;
+mod board;
 mod category;
 mod five_cards;
 mod high_value;

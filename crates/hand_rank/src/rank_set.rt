@@ -1,6 +1,6 @@
 //! Sets of ranks.
 
-ghost use Rattle.std.specs.Prelude.{◌≡◌, ◌<◌, ◌≤◌, ℕ, ◌&&◌, ◌||◌, ◌==◌, ◌∷◌, [], length, not, nat_le, true, false, IfSome};
+ghost use Rattle.std.specs.Prelude.{◌≡◌, ◌<◌, ◌≤◌, ℕ, ◌&&◌, ◌||◌, ◌==◌, ◌∷◌, [], length, not, nat_le, nat_lt, true, false, IfSome};
 ghost use Rattle.hand_rank.specs.Picks.{highest_below, picked};
 ghost use Rattle.hand_rank.specs.Made.{value_of_suit};
 ghost use Rattle.hand_rank.specs.Runs.{highest_run};
@@ -27,6 +27,23 @@ impl RankSet {
         ensures ranks { (r : ℕ) → has_rank result.bits r ≡ (r == rank) }
     {
         RankSet::empty().with(rank)
+    }
+
+    /// The set of all ranks.
+    pub const fn all() -> RankSet
+        ensures { (r : ℕ) → r < 16 → has_rank result.bits r ≡ true }
+    {
+        RankSet { bits: u16::MAX }
+    }
+
+    /// The set of the ranks below one.
+    pub fn below(rank: u8) -> RankSet
+        requires { rank < 16 }
+        ensures { (r : ℕ) → has_rank result.bits r ≡ nat_lt r rank }
+    {
+        RankSet {
+            bits: (1 << rank) - 1,
+        }
     }
 
     /// The set with a rank in it.

@@ -41,7 +41,7 @@ loop-pair-preserved c =
     (distinct-once (hole ++ board) c.requires.distinct) in
     let part = subst (λ cards. IsPartOf c.part_of_pair.result cards) (sym c.pair-item.is) c.part_of_pair.ensures in
     let better = c.best_with_pair-best.ensures pair board c.loop-pair.invariant.sized part
-    c.parts_of_board-threes.ensures is.1 once in
+    c.of-prepared.ensures is.1 once in
     let before = best_high (flat_map hands (take c.loop-pair.pair-index c.pairs-pairs.result)) in
     record {
       value = better.value ∙ ap (λ value. greater value (best_high (hands pair))) c.loop-pair.invariant.value
