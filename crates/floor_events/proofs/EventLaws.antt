@@ -19,7 +19,7 @@ use Rattle.floor_events.specs.Grammar.{Reader, grammar, event_by, event_of_words
 use Rattle.floor_events.specs.Spelling.{event_words, event_text, item_text, HasLineParts, IsWritable}
 use Rattle.floor_events.proofs.FieldLaws.{map_found, test_found, number_field, name_field, game_field, row_field, act_rest, shares_rest}
 use Rattle.floor_events.proofs.RowLaws.{Spells, Reads, row0, row1, row2, row3, row0_rest, row2_rest, fields0_again, fields1_again, fields2_again, fields3_again, rest0_again, rest2_again}
-use Rattle.floor_events.proofs.Spaces.{words_again}
+use Rattle.floor_events.proofs.Spaces.{pieces_again}
 
 abbrev IsOwnRow : List ℕ × Reader → Type 0
 IsOwnRow row = Reads (λ words. row.0 ∷ words) row.1
@@ -83,37 +83,37 @@ again events.Stop parts = fields0_again events.Stop
 -- no word of an event has a space
 words_of_text : (event : Event) → HasLineParts event → words_of_line (event_text event) ≡ event_words event
 words_of_text (events.Plan (lines.Game game)) parts =
-    words_again (codes "game") _ (rw (game_field.spaceless game parts) refl)
+    pieces_again 32 (codes "game") _ (rw (game_field.spaceless game parts) refl)
 words_of_text (events.Plan (lines.Tables n)) parts =
-    words_again (codes "tables") _ (rw (number_field.spaceless n parts) refl)
+    pieces_again 32 (codes "tables") _ (rw (number_field.spaceless n parts) refl)
 words_of_text (events.Plan (lines.Seats n)) parts =
-    words_again (codes "seats") _ (rw (number_field.spaceless n parts) refl)
+    pieces_again 32 (codes "seats") _ (rw (number_field.spaceless n parts) refl)
 words_of_text (events.Plan (lines.Stack n)) parts =
-    words_again (codes "stack") _ (rw (number_field.spaceless n parts) refl)
+    pieces_again 32 (codes "stack") _ (rw (number_field.spaceless n parts) refl)
 words_of_text (events.Plan (lines.Buyin n)) parts =
-    words_again (codes "buyin") _ (rw (number_field.spaceless n parts) refl)
+    pieces_again 32 (codes "buyin") _ (rw (number_field.spaceless n parts) refl)
 words_of_text (events.Plan (lines.Late n)) parts =
-    words_again (codes "late") _ (rw (number_field.spaceless n parts) refl)
+    pieces_again 32 (codes "late") _ (rw (number_field.spaceless n parts) refl)
 words_of_text (events.Plan (lines.Blinds s b u)) parts =
-    words_again (codes "blinds") _ (rw
+    pieces_again 32 (codes "blinds") _ (rw
     (number_field.spaceless s parts.0, number_field.spaceless b parts.1, number_field.spaceless u parts.2) refl)
 words_of_text (events.Plan (lines.Shares shares)) parts =
-    words_again (codes "shares") _ (shares_rest.spaceless shares parts)
-words_of_text events.Go parts = words_again (codes "go") [] refl
+    pieces_again 32 (codes "shares") _ (shares_rest.spaceless shares parts)
+words_of_text events.Go parts = pieces_again 32 (codes "go") [] refl
 words_of_text (events.Enter name table seat) parts =
-    words_again (codes "enter") _ (rw
+    pieces_again 32 (codes "enter") _ (rw
     (name_field.spaceless name parts.0, number_field.spaceless table parts.1, number_field.spaceless seat parts.2)
     refl)
 words_of_text (events.Begin table row) parts =
-    words_again (codes "begin") _ (rw (number_field.spaceless table parts, row_field.spaceless row tt) refl)
+    pieces_again 32 (codes "begin") _ (rw (number_field.spaceless table parts, row_field.spaceless row tt) refl)
 words_of_text (events.Act table name act) parts =
-    words_again (codes "act") _ (rw
+    pieces_again 32 (codes "act") _ (rw
     (number_field.spaceless table parts.1, name_field.spaceless name parts.0, act_rest.spaceless act parts.2) refl)
 words_of_text (events.Time table) parts =
-    words_again (codes "time") _ (rw (number_field.spaceless table parts) refl)
+    pieces_again 32 (codes "time") _ (rw (number_field.spaceless table parts) refl)
 words_of_text (events.Settle table) parts =
-    words_again (codes "settle") _ (rw (number_field.spaceless table parts) refl)
-words_of_text events.Stop parts = words_again (codes "stop") [] refl
+    pieces_again 32 (codes "settle") _ (rw (number_field.spaceless table parts) refl)
+words_of_text events.Stop parts = pieces_again 32 (codes "stop") [] refl
 
 row_or_later : (b : Bool) (row : List ℕ × Reader) (later : Option Event) (word : List ℕ) (words : List (List ℕ))
     (event : Event) → (b ≡ true → word ≡ row.0) → IsOwnRow row → (later ≡ Some event → Spells (word ∷ words) event)

@@ -19,7 +19,7 @@ use Rattle.betting_round.specs.declared.act.Act.{Act}
 use Rattle.betting_round.specs.declared.act.Act.TheVariants.{Fold, Check, Call, AllIn, Bet, Raise}
 use Rattle.floor_events.specs.Spelling.{game_word, act_words, HasLineAmount, AreLineShares}
 use Rattle.floor_events.specs.Fields.{◌>>=◌, meaning, game_list, game_of, act_list, amount_list, act_of, name_of, numbers_of, shares_of, next_by}
-use Rattle.floor_events.proofs.Spaces.{and_parts, has_no_space, decimal_spaceless, decimals_spaceless, name_spaceless, row_spaceless}
+use Rattle.floor_events.proofs.Spaces.{and_parts, lacks, decimal_spaceless, decimals_spaceless, name_spaceless, row_spaceless}
 
 -- the value of a step that found something
 pub bind_found : {A B : Type 0} (o : Option A) (f : A → Option B) (y : B) → (o >>= f) ≡ Some y → (x : A)
@@ -42,14 +42,14 @@ test_found false o x h = absurd cc
 pub record IsField {A : Type 0} (read : List ℕ → Option A) (write : A → List ℕ) (Fits : A → Type 0) : Type 0 where
   pub found : (word : List ℕ) (value : A) → read word ≡ Some value → (word ≡ write value) × Fits value
   pub again : (value : A) → Fits value → read (write value) ≡ Some value
-  pub spaceless : (value : A) → Fits value → has_no_space (write value) ≡ true
+  pub spaceless : (value : A) → Fits value → lacks 32 (write value) ≡ true
 
 -- a field of all words that are left reads exactly what it writes
 pub record IsRest {A : Type 0} (read : List (List ℕ) → Option A) (write : A → List (List ℕ)) (Fits : A → Type 0)
     : Type 0 where
   pub found : (words : List (List ℕ)) (value : A) → read words ≡ Some value → (words ≡ write value) × Fits value
   pub again : (value : A) → Fits value → read (write value) ≡ Some value
-  pub spaceless : (value : A) → Fits value → list_all has_no_space (write value) ≡ true
+  pub spaceless : (value : A) → Fits value → list_all (lacks 32) (write value) ≡ true
 
 -- a number
 pub number_field : IsField number_of decimal IsLineNumber
@@ -92,7 +92,7 @@ game_again Holdem fits = refl
 game_again Omaha fits = refl
 game_again Hilo fits = refl
 
-game_spaceless : (game : Game) → Unit {0} → has_no_space (game_word game) ≡ true
+game_spaceless : (game : Game) → Unit {0} → lacks 32 (game_word game) ≡ true
 game_spaceless Holdem fits = refl
 game_spaceless Omaha fits = refl
 game_spaceless Hilo fits = refl
@@ -146,7 +146,7 @@ act_again AllIn fits = refl
 act_again (Bet n) fits = rw (number_of-decimal n fits) refl
 act_again (Raise n) fits = rw (number_of-decimal n fits) refl
 
-act_spaceless : (act : Act) → HasLineAmount act → list_all has_no_space (act_words act) ≡ true
+act_spaceless : (act : Act) → HasLineAmount act → list_all (lacks 32) (act_words act) ≡ true
 act_spaceless Fold fits = refl
 act_spaceless Check fits = refl
 act_spaceless Call fits = refl

@@ -1,5 +1,5 @@
--- The words of a line that is spelled from words without a space are those words.
-use Rattle.std.proofs.Common.{◌≡◌, ℕ, ◌-◌, Bool, true, false, ◌&&◌, not, All, List, [], ◌∷◌, map, IsTrue, refl, ap, ◌∙◌, arith}
+-- What lacks the byte between pieces is one piece, so what is joined of such pieces is cut into them again.
+use Rattle.std.proofs.Common.{◌≡◌, ℕ, ◌-◌, ◌<◌, Bool, true, false, ◌&&◌, not, All, List, [], ◌∷◌, map, IsTrue, refl, ap, ◌∙◌, arith}
 use Rattle.std.specs.Char.{is_ascii_digit}
 use Rattle.std.specs.Prelude.{zero, suc, slice_index, codes}
 use Rattle.std.specs.Fmt.{decimal}
@@ -15,74 +15,90 @@ use Rattle.floor_text.specs.Names.{is_name, is_name_byte}
 use Rattle.floor_text.specs.Numbers.{IsLineNumber}
 use Rattle.card_set.specs.declared.card.Card.{Card}
 use Rattle.card_set.specs.Cards.{rank_letters, row_text}
-use Rattle.floor_events.specs.Words.{words_of_line}
-use Rattle.floor_events.proofs.WordSplits.{is_space}
+use Rattle.floor_events.specs.Words.{pieces_of}
+use Rattle.floor_events.proofs.WordSplits.{is_byte}
 
--- no byte is a space
-abbrev pub has_no_space : List ℕ → Bool
-has_no_space bytes = list_all (λ byte. not (is_space byte)) bytes
+-- no byte is this one
+abbrev pub lacks : ℕ → List ℕ → Bool
+lacks between bytes = list_all (λ byte. not (is_byte between byte)) bytes
 
-spaceless_bytes : (bytes : List ℕ) → has_no_space bytes ≡ true → AllByRecursion (λ byte. is_space byte ≡ false) bytes
-spaceless_bytes [] h = tt
-spaceless_bytes (byte ∷ bytes) h = (grind (arith, nat_tests), spaceless_bytes bytes (grind (arith, nat_tests)))
+other_bytes : (between : ℕ) (bytes : List ℕ) → lacks between bytes ≡ true
+    → AllByRecursion (λ byte. is_byte between byte ≡ false) bytes
+other_bytes between [] h = tt
+other_bytes between (byte ∷ bytes) h =
+    (grind (arith, nat_tests), other_bytes between bytes (grind (arith, nat_tests)))
 
-no_part : (bytes : List ℕ) → has_no_space bytes ≡ true → All (λ byte. is_space byte ≡ false) bytes
-no_part bytes h = All-from_recursion (λ byte. is_space byte ≡ false) bytes (spaceless_bytes bytes h)
+no_part : (between : ℕ) (bytes : List ℕ) → lacks between bytes ≡ true
+    → All (λ byte. is_byte between byte ≡ false) bytes
+no_part between bytes h =
+    All-from_recursion (λ byte. is_byte between byte ≡ false) bytes (other_bytes between bytes h)
 
 -- two tests that hold together
 pub and_parts : (a b : Bool) → (a && b) ≡ true → (a ≡ true) × (b ≡ true)
 and_parts true b h = (refl, h)
 and_parts false b h = absurd cc
 
--- words without a space are the words of their line
-pub words_again : (word : List ℕ) (words : List (List ℕ)) → list_all has_no_space (word ∷ words) ≡ true
-    → words_of_line (join_with_byte 32 (word ∷ words)) ≡ word ∷ words
-words_again word [] h = slice_split_none is_space word (no_part word (and_parts (has_no_space word) true h).0)
-words_again word (next ∷ words) h =
-    slice_split_at is_space word 32 (join_with_byte 32 (next ∷ words))
-    (no_part word (and_parts (has_no_space word) (list_all has_no_space (next ∷ words)) h).0) refl
-    ∙ ap (λ (ws : List (List ℕ)). word ∷ ws) (words_again next words
-    (and_parts (has_no_space word) (list_all has_no_space (next ∷ words)) h).1)
+-- pieces that lack the byte between them are the pieces of what they are joined to
+pub pieces_again : (between : ℕ) (piece : List ℕ) (pieces : List (List ℕ))
+    → list_all (lacks between) (piece ∷ pieces) ≡ true
+    → pieces_of between (join_with_byte between (piece ∷ pieces)) ≡ piece ∷ pieces
+pieces_again between piece [] h =
+    slice_split_none (is_byte between) piece (no_part between piece (and_parts (lacks between piece) true h).0)
+pieces_again between piece (next ∷ pieces) h =
+    let both = and_parts (lacks between piece) (list_all (lacks between) (next ∷ pieces)) h in
+    let here : is_byte between between ≡ true = grind (arith, nat_tests) in
+    slice_split_at (is_byte between) piece between (join_with_byte between (next ∷ pieces))
+    (no_part between piece both.0) here
+    ∙ ap (λ (ps : List (List ℕ)). piece ∷ ps) (pieces_again between next pieces both.1)
 
-digits_spaceless : (digits : List ℕ) → all_ascii_digits digits ≡ true → has_no_space digits ≡ true
-digits_spaceless [] h = refl
-digits_spaceless (digit ∷ digits) h =
-    let others = digits_spaceless digits (and_parts (is_ascii_digit digit) (all_ascii_digits digits) h).1 in
+-- digits lack each byte below the digit 0, as a space, a comma and a point are
+digits_lack : (between : ℕ) (digits : List ℕ) → between < 48 → all_ascii_digits digits ≡ true
+    → lacks between digits ≡ true
+digits_lack between [] low h = refl
+digits_lack between (digit ∷ digits) low h =
+    let others = digits_lack between digits low (and_parts (is_ascii_digit digit) (all_ascii_digits digits) h).1 in
     grind (arith, nat_tests)
 
 own : IsNumeralModel (λ ds. all_ascii_digits ds ≡ true) (digits_value 10)
 own = numerals_by_value (λ ds. all_ascii_digits ds ≡ true) tells_all_ascii_digits
 
-pub decimal_spaceless : (n : ℕ) → IsLineNumber n → has_no_space (decimal n) ≡ true
-decimal_spaceless n small = digits_spaceless (decimal n) (digits_decimal own n (omega arith))
+pub decimal_lacks : (between : ℕ) → between < 48 → (n : ℕ) → IsLineNumber n → lacks between (decimal n) ≡ true
+decimal_lacks between low n small = digits_lack between (decimal n) low (digits_decimal own n (omega arith))
+
+pub decimal_spaceless : (n : ℕ) → IsLineNumber n → lacks 32 (decimal n) ≡ true
+decimal_spaceless = decimal_lacks 32 (omega arith)
 
 pub decimals_spaceless : (numbers : List ℕ) → AllByRecursion IsLineNumber numbers
-    → list_all has_no_space (map decimal numbers) ≡ true
+    → list_all (lacks 32) (map decimal numbers) ≡ true
 decimals_spaceless [] small = refl
 decimals_spaceless (number ∷ numbers) small =
     rw (decimal_spaceless number small.0, decimals_spaceless numbers small.1) refl
 
-name_bytes_spaceless : (bytes : List ℕ) → list_all is_name_byte bytes ≡ true → has_no_space bytes ≡ true
-name_bytes_spaceless [] h = refl
-name_bytes_spaceless (byte ∷ bytes) h =
-    let others = name_bytes_spaceless bytes (and_parts (is_name_byte byte) (list_all is_name_byte bytes) h).1 in
+name_bytes_lack : (between : ℕ) (bytes : List ℕ) → between < 48 → list_all is_name_byte bytes ≡ true
+    → lacks between bytes ≡ true
+name_bytes_lack between [] low h = refl
+name_bytes_lack between (byte ∷ bytes) low h =
+    let others = name_bytes_lack between bytes low (and_parts (is_name_byte byte) (list_all is_name_byte bytes) h).1 in
     grind (arith, nat_tests)
 
-pub name_spaceless : (name : List ℕ) → IsTrue (is_name name) → has_no_space name ≡ true
-name_spaceless name right = name_bytes_spaceless name (grind (arith, nat_tests))
+pub name_lacks : (between : ℕ) → between < 48 → (name : List ℕ) → IsTrue (is_name name) → lacks between name ≡ true
+name_lacks between low name right = name_bytes_lack between name low (grind (arith, nat_tests))
 
-letter_spaceless : (letters : List ℕ) (place : ℕ) → has_no_space letters ≡ true
-    → not (is_space (slice_index letters place)) ≡ true
+pub name_spaceless : (name : List ℕ) → IsTrue (is_name name) → lacks 32 name ≡ true
+name_spaceless = name_lacks 32 (omega arith)
+
+letter_spaceless : (letters : List ℕ) (place : ℕ) → lacks 32 letters ≡ true
+    → not (is_byte 32 (slice_index letters place)) ≡ true
 letter_spaceless [] place h = refl
-letter_spaceless (letter ∷ letters) zero h = (and_parts (not (is_space letter)) (has_no_space letters) h).0
+letter_spaceless (letter ∷ letters) zero h = (and_parts (not (is_byte 32 letter)) (lacks 32 letters) h).0
 letter_spaceless (letter ∷ letters) (suc place) h =
-    letter_spaceless letters place (and_parts (not (is_space letter)) (has_no_space letters) h).1
+    letter_spaceless letters place (and_parts (not (is_byte 32 letter)) (lacks 32 letters) h).1
 
 both_spaceless : (a b c : Bool) → a ≡ true → b ≡ true → c ≡ true → (a && (b && c)) ≡ true
 both_spaceless a b c first second others = rw (first, second) others
 
-pub row_spaceless : (cards : List Card) → has_no_space (row_text cards) ≡ true
+pub row_spaceless : (cards : List Card) → lacks 32 (row_text cards) ≡ true
 row_spaceless [] = refl
-row_spaceless (card ∷ cards) = both_spaceless _ _ (has_no_space (row_text cards))
+row_spaceless (card ∷ cards) = both_spaceless _ _ (lacks 32 (row_text cards))
     (letter_spaceless rank_letters (card.rank - 2) refl) (letter_spaceless (codes "cdhs") card.suit refl)
     (row_spaceless cards)

@@ -14,14 +14,18 @@ word_text (Number n) = decimal n
 abbrev pub line_of_words : List (List ℕ) → List ℕ
 line_of_words words = join_with_byte 32 words ++ 10 ∷ []
 
+-- the pieces of bytes are what stands before, between and behind those that are this one
+abbrev pub pieces_of : ℕ → List ℕ → List (List ℕ)
+pieces_of between bytes = slice_split (λ byte. byte == between) bytes
+
 -- the words of a line are the pieces between its spaces
 abbrev pub words_of_line : List ℕ → List (List ℕ)
-words_of_line line = slice_split (λ byte. byte == 32) line
+words_of_line line = pieces_of 32 line
 
--- the words of what is left of a line, and none where nothing is left
-abbrev pub words_of_rest : Option (List ℕ) → List (List ℕ)
-words_of_rest None = []
-words_of_rest (Some rest) = words_of_line rest
+-- the pieces of what is left, and none where nothing is left
+abbrev pub pieces_of_rest : ℕ → Option (List ℕ) → List (List ℕ)
+pieces_of_rest between None = []
+pieces_of_rest between (Some rest) = pieces_of between rest
 
 -- whether no word is left
 abbrev pub no_word : List (List ℕ) → Bool

@@ -4,7 +4,7 @@ ghost use Rattle.std.specs.Prelude.{◌≡◌, ◌==◌, Some, None, [], ◌∷�
 ghost use Rattle.std.specs.List.{position};
 ghost use Rattle.floor_text.specs.Numbers.{number_of};
 ghost use Rattle.card_set.specs.Cards.{row_of};
-ghost use Rattle.floor_events.specs.Words.{words_of_line, no_word};
+ghost use Rattle.floor_events.specs.Words.{pieces_of, words_of_line, no_word};
 ghost use Rattle.floor_events.specs.Fields.{name_of, game_of, act_of, next_by};
 
 use crate::fields::{read_act, read_act_with, read_game, read_name};
@@ -13,37 +13,48 @@ use card_set::{CardRow, Game, read_row};
 use floor_text::{Name, read_number};
 use std::marker::Model;
 
-/// The byte between two words.
+/// The byte between two words of a line.
 const SPACE: u8 = b' ';
 
-fn first_space(bytes: &[u8]) -> Option<usize>
-    ensures { result ≡ position (λ byte. byte == 32) bytes.now }
+fn first_of(between: u8, bytes: &[u8]) -> Option<usize>
+    ensures { result ≡ position (λ byte. byte == between) bytes.now }
 {
-    bytes.iter().position(|byte| *byte == SPACE)
+    bytes.iter().position(|byte| *byte == between)
 }
 
-/// The words of a line that are still to be read. Contracts see it as their list.
+/// The words of a line that are still to be read, or the pieces of a word. Contracts see it as their list.
 #[derive(Debug, Drop)]
 pub struct Words<'a> {
+    between: u8,
     rest: Option<&'a [u8]>,
 }
 
 impl<'a> Model for Words<'a> {
     ghost use Rattle.std.specs.Prelude.{ℕ, List};
     ghost use Rattle.std.specs.Option.{option_copied};
-    ghost use Rattle.floor_events.specs.Words.{words_of_rest};
+    ghost use Rattle.floor_events.specs.Words.{pieces_of_rest};
 
     ghost Value = { List (List ℕ) };
 
-    ghost view = { λ words. words_of_rest (option_copied words.rest) };
+    ghost view = { λ words. pieces_of_rest words.between (option_copied words.rest) };
 }
 
 impl<'a> Words<'a> {
-    /// Gives all words of a line: the pieces between its spaces, empty ones too.
+    /// Gives all pieces of bytes between those that are this one, empty pieces too.
+    pub fn between(between: u8, bytes: &'a [u8]) -> Words<'a>
+        ensures { result ≡ pieces_of between bytes.now }
+    {
+        Words {
+            between,
+            rest: Some(bytes),
+        }
+    }
+
+    /// Gives all words of a line: the pieces between its spaces.
     pub fn of_line(line: &'a [u8]) -> Words<'a>
         ensures { result ≡ words_of_line line.now }
     {
-        Words { rest: Some(line) }
+        Words::between(SPACE, line)
     }
 
     /// Whether no word is left.
@@ -58,10 +69,10 @@ impl<'a> Words<'a> {
         ensures { MatchOption result ((self.old ≡ []) × (self.new ≡ [])) (λ word. self.old ≡ word.now ∷ self.new) }
     {
         let rest = self.rest?;
-        match first_space(rest) {
-            Some(space) => {
-                self.rest = Some(&rest[space + 1..]);
-                Some(&rest[..space])
+        match first_of(self.between, rest) {
+            Some(end) => {
+                self.rest = Some(&rest[end + 1..]);
+                Some(&rest[..end])
             }
             None => {
                 self.rest = None;

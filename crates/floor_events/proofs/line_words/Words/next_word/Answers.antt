@@ -1,13 +1,13 @@
 use Rattle.std.proofs.Common.{sym, ap, ◌∙◌}
 use Rattle.std.specs.Option.{option_copied}
-use Rattle.floor_events.specs.Words.{words_of_rest}
+use Rattle.floor_events.specs.Words.{pieces_of_rest}
 use Rattle.floor_events.proofs.WordSplits.{first_word, last_word}
 use Rattle.floor_events.proofs.line_words.Words.next_word.Goals as goal
 
 pub returns-in-Some : goal.returns-in-Some
-returns-in-Some c = sym c.self.view_is ∙ ap (λ r. words_of_rest (option_copied r)) c.in_ok-rest.was
-    ∙ first_word c.in_ok-rest.rest.now c.in-Some.space c.in-Some.ensures
+returns-in-Some c = sym c.self.view_is ∙ ap (λ r. pieces_of_rest c.self.inside.between (option_copied r)) c.in_ok-rest.was
+    ∙ first_word c.self.inside.between c.in_ok-rest.rest.now c.in-Some.end c.in-Some.ensures
 
 pub returns-in-None : goal.returns-in-None
-returns-in-None c = sym c.self.view_is ∙ ap (λ r. words_of_rest (option_copied r)) c.in_ok-rest.was
-    ∙ last_word c.in_ok-rest.rest.now c.in-None.ensures
+returns-in-None c = sym c.self.view_is ∙ ap (λ r. pieces_of_rest c.self.inside.between (option_copied r)) c.in_ok-rest.was
+    ∙ last_word c.self.inside.between c.in_ok-rest.rest.now c.in-None.ensures
