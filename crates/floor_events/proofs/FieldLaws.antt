@@ -18,7 +18,7 @@ use Rattle.level_plan.specs.declared.bounds.TheConstants.{MOST_SHARES}
 use Rattle.betting_round.specs.declared.act.Act.{Act}
 use Rattle.betting_round.specs.declared.act.Act.TheVariants.{Fold, Check, Call, AllIn, Bet, Raise}
 use Rattle.floor_events.specs.Spelling.{game_word, act_words, HasLineAmount, AreLineShares}
-use Rattle.floor_events.specs.Fields.{◌>>=◌, meaning, game_list, game_of, act_list, amount_list, act_of, name_of, numbers_of, shares_of, next_by}
+use Rattle.floor_events.specs.Fields.{◌>>=◌, meaning, game_list, game_of, act_list, amount_list, act_of, name_of, each_of, shares_of, next_by}
 use Rattle.floor_events.proofs.Spaces.{and_parts, lacks, decimal_spaceless, decimals_spaceless, name_spaceless, row_spaceless}
 
 -- the value of a step that found something
@@ -158,13 +158,13 @@ act_spaceless (Raise n) fits = rw (decimal_spaceless n fits) refl
 pub act_rest : IsRest act_of act_words HasLineAmount
 act_rest = record { found = act_found; again = act_again; spaceless = act_spaceless }
 
-numbers_found : (fields : List (List ℕ)) (numbers : List ℕ) → numbers_of fields ≡ Some numbers
+numbers_found : (fields : List (List ℕ)) (numbers : List ℕ) → each_of number_of fields ≡ Some numbers
     → (fields ≡ map decimal numbers) × AllByRecursion IsLineNumber numbers
 numbers_found [] numbers h =
     subst (λ (ns : List ℕ). ([] ≡ map decimal ns) × AllByRecursion IsLineNumber ns) (same_Some [] numbers h) (refl, tt)
 numbers_found (word ∷ words) numbers h =
-    let first = bind_found (number_of word) (λ n. numbers_of words >>= λ ns. Some (n ∷ ns)) numbers h in
-    let others = bind_found (numbers_of words) (λ ns. Some (first.0 ∷ ns)) numbers first.2 in
+    let first = bind_found (number_of word) (λ n. each_of number_of words >>= λ ns. Some (n ∷ ns)) numbers h in
+    let others = bind_found (each_of number_of words) (λ ns. Some (first.0 ∷ ns)) numbers first.2 in
     let number = number_found word first.0 first.1 in
     let rest = numbers_found words others.0 others.1 in
     let whole : word ∷ words ≡ map decimal (first.0 ∷ others.0) = ap (λ (w : List ℕ). w ∷ words) number.1
@@ -172,7 +172,7 @@ numbers_found (word ∷ words) numbers h =
     subst (λ (ns : List ℕ). (word ∷ words ≡ map decimal ns) × AllByRecursion IsLineNumber ns)
     (same_Some (first.0 ∷ others.0) numbers others.2) (whole, (number.0, rest.1))
 
-numbers_again : (numbers : List ℕ) → AllByRecursion IsLineNumber numbers → numbers_of (map decimal numbers)
+numbers_again : (numbers : List ℕ) → AllByRecursion IsLineNumber numbers → each_of number_of (map decimal numbers)
     ≡ Some numbers
 numbers_again [] small = refl
 numbers_again (number ∷ numbers) small = rw (number_of-decimal number small.0, numbers_again numbers small.1) refl
@@ -181,7 +181,7 @@ shares_found : (words : List (List ℕ)) (shares : List ℕ) → shares_of words
     → (words ≡ map decimal shares) × AreLineShares shares
 unfolding shares_of
 shares_found words shares h =
-    let read = bind_found (numbers_of words) (λ ns. cond (leb 1 (length ns) && leb (length ns) MOST_SHARES) (Some ns)
+    let read = bind_found (each_of number_of words) (λ ns. cond (leb 1 (length ns) && leb (length ns) MOST_SHARES) (Some ns)
     None) shares h in
     let test = test_found (leb 1 (length read.0) && leb (length read.0) MOST_SHARES) (Some read.0) shares read.2 in
     let both = and_parts (leb 1 (length read.0)) (leb (length read.0) MOST_SHARES) test.0 in

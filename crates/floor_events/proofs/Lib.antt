@@ -2,6 +2,5 @@ pub mod EventLaws
 pub mod FieldLaws
 pub mod Growth
 pub mod RowLaws
-pub mod Shares
 pub mod Spaces
 pub mod WordSplits

@@ -52,16 +52,20 @@ act_of (word ∷ []) = meaning act_list word
 act_of (word ∷ amount ∷ []) = option_and_then (λ n. meaning (amount_list n) word) (number_of amount)
 act_of (word ∷ amount ∷ more ∷ words) = None
 
--- the numbers of all words that are left, where each is a number
-abbrev pub numbers_of : List (List ℕ) → Option (List ℕ)
-numbers_of [] = Some []
-numbers_of (word ∷ words) = do
-  first ← number_of word
-  others ← numbers_of words
+-- what all words are, where each is something
+abbrev pub each_of : {A : Type 0} → (List ℕ → Option A) → List (List ℕ) → Option (List A)
+each_of read [] = Some []
+each_of read (word ∷ words) = do
+  first ← read word
+  others ← each_of read words
   Some (first ∷ others)
+
+-- what all words are, where they are at least one and at most so many, and each is something
+abbrev pub few_of : {A : Type 0} → ℕ → (List ℕ → Option A) → List (List ℕ) → Option (List A)
+few_of most read words = do
+  items ← each_of read words
+  if nat_le 1 (length items) && nat_le (length items) most then Some items else None
 
 -- the shares that the words left are: 1 to 64 numbers
 unfoldable pub shares_of : List (List ℕ) → Option (List ℕ)
-shares_of words = do
-  shares ← numbers_of words
-  if nat_le 1 (length shares) && nat_le (length shares) MOST_SHARES then Some shares else None
+shares_of words = few_of MOST_SHARES number_of words

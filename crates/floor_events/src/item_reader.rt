@@ -10,7 +10,7 @@ ghost use Rattle.floor_events.specs.Spelling.{IsWritable, item_text};
 
 use crate::event::{Event, Item};
 use crate::line_words::Words;
-use crate::share_list::read_shares;
+use crate::list_reader::read_shares;
 use floor_text::LONGEST_LINE;
 use level_plan::PlanLine;
 use std::alloc::{AllocError, Global};

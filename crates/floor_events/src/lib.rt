@@ -8,13 +8,14 @@
 mod answer;
 mod answer_writer;
 mod event;
+mod few;
 mod fields;
 mod item_reader;
 mod line_words;
 mod line_writer;
+mod list_reader;
 mod report;
 mod report_writer;
-mod share_list;
 
 pub use answer::Answer;
 pub use answer_writer::write_answer;
