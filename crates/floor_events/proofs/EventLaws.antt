@@ -17,7 +17,8 @@ use Rattle.floor_events.specs.declared.event.Item.TheVariants as found
 use Rattle.floor_events.specs.Words.{words_of_line}
 use Rattle.floor_events.specs.Grammar.{Reader, grammar, event_by, event_of_words, item_of_words, item_of_bytes}
 use Rattle.floor_events.specs.Spelling.{event_words, event_text, item_text, HasLineParts, IsWritable}
-use Rattle.floor_events.proofs.FieldLaws.{map_found, test_found, number_field, name_field, game_field, row_field, act_rest, shares_rest}
+use Rattle.floor_events.proofs.FieldLaws.{map_found, test_found, number_field, name_field, game_field, row_field, act_rest}
+use Rattle.floor_events.proofs.PieceLaws.{shares_rest, places_field, names_field}
 use Rattle.floor_events.proofs.RowLaws.{Spells, Reads, row0, row1, row2, row3, row0_rest, row2_rest, fields0_again, fields1_again, fields2_again, fields3_again, rest0_again, rest2_again}
 use Rattle.floor_events.proofs.Spaces.{pieces_again}
 
@@ -34,6 +35,8 @@ own_rows : AllByRecursion IsOwnRow grammar
 own_rows =
     row0_rest (codes "shares") shares_rest (λ shares. events.Plan (lines.Shares shares))
     (λ a p. record { spelling = refl; parts = p }) ▸
+    row3 (codes "break") number_field places_field names_field events.Break
+    (λ a b c p q r. record { spelling = refl; parts = (p, q, r) }) ▸
     row1 (codes "game") game_field (λ game. events.Plan (lines.Game game))
     (λ a p. record { spelling = refl; parts = p }) ▸
     row1 (codes "tables") number_field (λ n. events.Plan (lines.Tables n))
@@ -55,6 +58,8 @@ own_rows =
     (λ a b c p q r. record { spelling = refl; parts = (q, p, r) }) ▸
     row1 (codes "time") number_field events.Time (λ a p. record { spelling = refl; parts = p }) ▸
     row1 (codes "settle") number_field events.Settle (λ a p. record { spelling = refl; parts = p }) ▸
+    row2 (codes "balance") number_field number_field events.Balance
+    (λ a b p q. record { spelling = refl; parts = (p, q) }) ▸
     row0 (codes "stop") events.Stop (record { spelling = refl; parts = tt }) ▸
     tt
 
@@ -78,6 +83,10 @@ again (events.Act table name act) parts =
     rest2_again number_field name_field act_rest events.Act table name act parts.1 parts.0 parts.2
 again (events.Time table) parts = fields1_again number_field events.Time table parts
 again (events.Settle table) parts = fields1_again number_field events.Settle table parts
+again (events.Balance from to) parts =
+    fields2_again number_field number_field events.Balance from to parts.0 parts.1
+again (events.Break table seats names) parts =
+    fields3_again number_field places_field names_field events.Break table seats names parts.0 parts.1 parts.2
 again events.Stop parts = fields0_again events.Stop
 
 -- no word of an event has a space
@@ -113,6 +122,13 @@ words_of_text (events.Time table) parts =
     pieces_again 32 (codes "time") _ (rw (number_field.spaceless table parts) refl)
 words_of_text (events.Settle table) parts =
     pieces_again 32 (codes "settle") _ (rw (number_field.spaceless table parts) refl)
+words_of_text (events.Balance from to) parts =
+    pieces_again 32 (codes "balance") _ (rw
+    (number_field.spaceless from parts.0, number_field.spaceless to parts.1) refl)
+words_of_text (events.Break table seats names) parts =
+    pieces_again 32 (codes "break") _ (rw
+    (number_field.spaceless table parts.0, places_field.spaceless seats parts.1, names_field.spaceless names parts.2)
+    refl)
 words_of_text events.Stop parts = pieces_again 32 (codes "stop") [] refl
 
 row_or_later : (b : Bool) (row : List ℕ × Reader) (later : Option Event) (word : List ℕ) (words : List (List ℕ))

@@ -1,9 +1,8 @@
 -- A field that is read is spelled so, and a field that is spelled so is read.
-use Rattle.std.proofs.Common.{◌≡◌, ℕ, ◌≤◌, Bool, true, false, ◌&&◌, cond, leb, List, [], ◌∷◌, map, length, Option, Some, None, option_map, IsTrue, refl, sym, ap, ◌∙◌, subst, arith}
+use Rattle.std.proofs.Common.{◌≡◌, ℕ, Bool, true, false, cond, List, [], ◌∷◌, Option, Some, None, option_map, IsTrue, refl, sym, ap, ◌∙◌, subst}
 use Rattle.std.specs.Fmt.{decimal}
 use Rattle.std.specs.List.{list_all, AllByRecursion}
 use Rattle.std.specs.Str.{bytes_eq}
-use Rattle.std.proofs.lemmas.Bool.Decides.{nat_tests}
 use Rattle.std.proofs.lemmas.Option.{same_Some, cond_some}
 use Rattle.std.proofs.lemmas.Slice.Eq.{bytes_eq-Decides}
 use Rattle.floor_text.specs.Names.{is_name}
@@ -14,12 +13,11 @@ use Rattle.card_set.specs.declared.game.Game.{Game}
 use Rattle.card_set.specs.declared.game.Game.TheVariants.{Holdem, Omaha, Hilo}
 use Rattle.card_set.specs.Cards.{row_text, row_of}
 use Rattle.card_set.proofs.RowReading.{row_found, row_again}
-use Rattle.level_plan.specs.declared.bounds.TheConstants.{MOST_SHARES}
 use Rattle.betting_round.specs.declared.act.Act.{Act}
 use Rattle.betting_round.specs.declared.act.Act.TheVariants.{Fold, Check, Call, AllIn, Bet, Raise}
-use Rattle.floor_events.specs.Spelling.{game_word, act_words, HasLineAmount, AreLineShares}
-use Rattle.floor_events.specs.Fields.{◌>>=◌, meaning, game_list, game_of, act_list, amount_list, act_of, name_of, each_of, shares_of, next_by}
-use Rattle.floor_events.proofs.Spaces.{and_parts, lacks, decimal_spaceless, decimals_spaceless, name_spaceless, row_spaceless}
+use Rattle.floor_events.specs.Spelling.{game_word, act_words, HasLineAmount}
+use Rattle.floor_events.specs.Fields.{◌>>=◌, meaning, game_list, game_of, act_list, amount_list, act_of, name_of, next_by}
+use Rattle.floor_events.proofs.Spaces.{lacks, decimal_spaceless, name_spaceless, row_spaceless}
 
 -- the value of a step that found something
 pub bind_found : {A B : Type 0} (o : Option A) (f : A → Option B) (y : B) → (o >>= f) ≡ Some y → (x : A)
@@ -157,55 +155,6 @@ act_spaceless (Raise n) fits = rw (decimal_spaceless n fits) refl
 -- an act
 pub act_rest : IsRest act_of act_words HasLineAmount
 act_rest = record { found = act_found; again = act_again; spaceless = act_spaceless }
-
-numbers_found : (fields : List (List ℕ)) (numbers : List ℕ) → each_of number_of fields ≡ Some numbers
-    → (fields ≡ map decimal numbers) × AllByRecursion IsLineNumber numbers
-numbers_found [] numbers h =
-    subst (λ (ns : List ℕ). ([] ≡ map decimal ns) × AllByRecursion IsLineNumber ns) (same_Some [] numbers h) (refl, tt)
-numbers_found (word ∷ words) numbers h =
-    let first = bind_found (number_of word) (λ n. each_of number_of words >>= λ ns. Some (n ∷ ns)) numbers h in
-    let others = bind_found (each_of number_of words) (λ ns. Some (first.0 ∷ ns)) numbers first.2 in
-    let number = number_found word first.0 first.1 in
-    let rest = numbers_found words others.0 others.1 in
-    let whole : word ∷ words ≡ map decimal (first.0 ∷ others.0) = ap (λ (w : List ℕ). w ∷ words) number.1
-    ∙ ap (λ (ws : List (List ℕ)). decimal first.0 ∷ ws) rest.0 in
-    subst (λ (ns : List ℕ). (word ∷ words ≡ map decimal ns) × AllByRecursion IsLineNumber ns)
-    (same_Some (first.0 ∷ others.0) numbers others.2) (whole, (number.0, rest.1))
-
-numbers_again : (numbers : List ℕ) → AllByRecursion IsLineNumber numbers → each_of number_of (map decimal numbers)
-    ≡ Some numbers
-numbers_again [] small = refl
-numbers_again (number ∷ numbers) small = rw (number_of-decimal number small.0, numbers_again numbers small.1) refl
-
-shares_found : (words : List (List ℕ)) (shares : List ℕ) → shares_of words ≡ Some shares
-    → (words ≡ map decimal shares) × AreLineShares shares
-unfolding shares_of
-shares_found words shares h =
-    let read = bind_found (each_of number_of words) (λ ns. cond (leb 1 (length ns) && leb (length ns) MOST_SHARES) (Some ns)
-    None) shares h in
-    let test = test_found (leb 1 (length read.0) && leb (length read.0) MOST_SHARES) (Some read.0) shares read.2 in
-    let both = and_parts (leb 1 (length read.0)) (leb (length read.0) MOST_SHARES) test.0 in
-    let numbers = numbers_found words read.0 read.1 in
-    let least : 1 ≤ length read.0 = grind (arith, nat_tests, both.0) in
-    let most : length read.0 ≤ MOST_SHARES = grind (arith, nat_tests, both.1) in
-    subst (λ (ns : List ℕ). (words ≡ map decimal ns) × AreLineShares ns) (same_Some read.0 shares test.1)
-    (numbers.0, (least, most, numbers.1))
-
-shares_again : (shares : List ℕ) → AreLineShares shares → shares_of (map decimal shares) ≡ Some shares
-unfolding shares_of
-shares_again shares fits =
-    let least : leb 1 (length shares) ≡ true = grind (arith, nat_tests, fits.0) in
-    let most : leb (length shares) MOST_SHARES ≡ true = grind (arith, nat_tests, fits.1) in
-    rw (numbers_again shares fits.2, least, most) refl
-
--- the shares of the prizes
-pub shares_rest : IsRest shares_of (map decimal) AreLineShares
-shares_rest = record {
-  found = shares_found;
-  again = shares_again;
-  spaceless = λ shares fits. decimals_spaceless
-      shares fits.2;
-}
 
 -- the first word is the spelling of the field that is read, and the others are left
 pub record IsNext {A : Type 0} (write : A → List ℕ) (Fits : A → Type 0) (words : List (List ℕ))

@@ -1,5 +1,5 @@
 -- What lacks the byte between pieces is one piece, so what is joined of such pieces is cut into them again.
-use Rattle.std.proofs.Common.{◌≡◌, ℕ, ◌-◌, ◌<◌, Bool, true, false, ◌&&◌, not, All, List, [], ◌∷◌, map, IsTrue, refl, ap, ◌∙◌, arith}
+use Rattle.std.proofs.Common.{◌≡◌, ℕ, ◌-◌, ◌<◌, Bool, true, false, ◌&&◌, not, All, List, [], ◌∷◌, IsTrue, refl, ap, ◌∙◌, arith}
 use Rattle.std.specs.Char.{is_ascii_digit}
 use Rattle.std.specs.Prelude.{zero, suc, slice_index, codes}
 use Rattle.std.specs.Fmt.{decimal}
@@ -67,12 +67,6 @@ decimal_lacks between low n small = digits_lack between (decimal n) low (digits_
 
 pub decimal_spaceless : (n : ℕ) → IsLineNumber n → lacks 32 (decimal n) ≡ true
 decimal_spaceless = decimal_lacks 32 (omega arith)
-
-pub decimals_spaceless : (numbers : List ℕ) → AllByRecursion IsLineNumber numbers
-    → list_all (lacks 32) (map decimal numbers) ≡ true
-decimals_spaceless [] small = refl
-decimals_spaceless (number ∷ numbers) small =
-    rw (decimal_spaceless number small.0, decimals_spaceless numbers small.1) refl
 
 name_bytes_lack : (between : ℕ) (bytes : List ℕ) → between < 48 → list_all is_name_byte bytes ≡ true
     → lacks between bytes ≡ true

@@ -6,9 +6,12 @@ use Rattle.floor_text.specs.Names.{is_name}
 use Rattle.floor_text.specs.Numbers.{number_of}
 use Rattle.card_set.specs.declared.game.Game.{Game}
 use Rattle.card_set.specs.declared.game.Game.TheVariants.{Holdem, Omaha, Hilo}
-use Rattle.level_plan.specs.declared.bounds.TheConstants.{MOST_SHARES}
+use Rattle.level_plan.specs.declared.bounds.TheConstants.{MOST_TABLES, MOST_SEATS, MOST_SHARES}
 use Rattle.betting_round.specs.declared.act.Act.{Act}
 use Rattle.betting_round.specs.declared.act.Act.TheVariants.{Fold, Check, Call, AllIn, Bet, Raise}
+use Rattle.seat_book.specs.declared.place.Place.{Place}
+use Rattle.seat_book.specs.Places.{is_place_of}
+use Rattle.floor_events.specs.Words.{pieces_of, no_word}
 
 -- a step, and what follows where it found something
 infixl 10 ◌>>=◌
@@ -69,3 +72,20 @@ few_of most read words = do
 -- the shares that the words left are: 1 to 64 numbers
 unfoldable pub shares_of : List (List ℕ) → Option (List ℕ)
 shares_of words = few_of MOST_SHARES number_of words
+
+-- the place of these numbers, where there is one
+abbrev pub place_at : ℕ → ℕ → Option Place
+place_at table seat =
+    let place : Place = record { table = table; seat = seat } in
+    if is_place_of MOST_TABLES MOST_SEATS place then Some place else None
+
+-- the place that a word is: the number of a table and that of a seat, with a point between them
+unfoldable pub place_of : List ℕ → Option Place
+place_of word = do
+  table ← next_by number_of (pieces_of 46 word)
+  seat ← next_by number_of table.1
+  if no_word seat.1 then place_at table.0 seat.0 else None
+
+-- the members of the list that a word is, with a comma between each two: 1 to 10
+unfoldable pub members_of : {A : Type 0} → (List ℕ → Option A) → List ℕ → Option (List A)
+members_of read word = few_of MOST_SEATS read (pieces_of 44 word)

@@ -11,7 +11,7 @@ use Rattle.floor_events.specs.declared.event.Event.TheVariants as events
 use Rattle.floor_events.specs.declared.event.Item.{Item}
 use Rattle.floor_events.specs.declared.event.Item.TheVariants as found
 use Rattle.floor_events.specs.Words.{words_of_line, no_word}
-use Rattle.floor_events.specs.Fields.{game_of, name_of, next_by, act_of, shares_of}
+use Rattle.floor_events.specs.Fields.{game_of, name_of, next_by, act_of, shares_of, place_of, members_of}
 
 -- what reads the words behind the first
 abbrev pub Reader : Type 0
@@ -52,7 +52,8 @@ rest2 first second last make words =
 -- the rows of the events that hold a list, for which memory is wanted
 abbrev pub list_rows : List (List ℕ × Reader)
 list_rows =
-    (codes "shares", rest0 shares_of (λ shares. events.Plan (lines.Shares shares))) ∷ []
+    (codes "shares", rest0 shares_of (λ shares. events.Plan (lines.Shares shares))) ∷
+    (codes "break", fields3 number_of (members_of place_of) (members_of name_of) events.Break) ∷ []
 
 -- the rows of all other events
 abbrev pub plain_rows : List (List ℕ × Reader)
@@ -73,6 +74,7 @@ plain_rows =
     (codes "act", rest2 number_of name_of act_of events.Act) ∷
     (codes "time", fields1 number_of events.Time) ∷
     (codes "settle", fields1 number_of events.Settle) ∷
+    (codes "balance", fields2 number_of number_of events.Balance) ∷
     (codes "stop", fields0 events.Stop) ∷ []
 
 -- the grammar: the rows of all events

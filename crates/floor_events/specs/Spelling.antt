@@ -9,13 +9,15 @@ use Rattle.floor_text.specs.Refusals.{refusal_number, refusal_name}
 use Rattle.card_set.specs.declared.game.Game.{Game}
 use Rattle.card_set.specs.declared.game.Game.TheVariants.{Holdem, Omaha, Hilo}
 use Rattle.card_set.specs.Cards.{row_text}
-use Rattle.level_plan.specs.declared.bounds.TheConstants.{MOST_SHARES}
+use Rattle.level_plan.specs.declared.bounds.TheConstants.{MOST_TABLES, MOST_SEATS, MOST_SHARES}
 use Rattle.level_plan.specs.declared.line.PlanItem.{PlanItem}
 use Rattle.level_plan.specs.declared.line.PlanItem.TheVariants as items
 use Rattle.level_plan.specs.declared.line.PlanLine.{PlanLine}
 use Rattle.level_plan.specs.declared.line.PlanLine.TheVariants as lines
 use Rattle.betting_round.specs.declared.act.Act.{Act}
 use Rattle.betting_round.specs.declared.act.Act.TheVariants as acts
+use Rattle.seat_book.specs.declared.place.Place.{Place}
+use Rattle.seat_book.specs.Places.{IsPlaceOf}
 use Rattle.floor_events.specs.declared.event.Event.{Event}
 use Rattle.floor_events.specs.declared.event.Event.TheVariants as events
 use Rattle.floor_events.specs.declared.event.Item.{Item}
@@ -67,6 +69,14 @@ act_words acts.AllIn = codes "allin" ∷ []
 act_words (acts.Bet n) = codes "bet" ∷ decimal n ∷ []
 act_words (acts.Raise n) = codes "raise" ∷ decimal n ∷ []
 
+-- the text of a place: the number of the table and that of the seat, with a point between them
+abbrev pub place_text : Place → List ℕ
+place_text place = join_with_byte 46 (decimal place.table ∷ decimal place.seat ∷ [])
+
+-- the text of a list: its members with a comma between each two
+abbrev pub list_text : {A : Type 0} → (A → List ℕ) → List A → List ℕ
+list_text write items = join_with_byte 44 (map write items)
+
 -- the words of an event
 abbrev pub event_words : Event → List (List ℕ)
 event_words (events.Plan line) = plan_words line
@@ -76,6 +86,9 @@ event_words (events.Begin table row) = codes "begin" ∷ decimal table ∷ row_t
 event_words (events.Act table name act) = codes "act" ∷ decimal table ∷ name ∷ act_words act
 event_words (events.Time table) = codes "time" ∷ decimal table ∷ []
 event_words (events.Settle table) = codes "settle" ∷ decimal table ∷ []
+event_words (events.Balance from to) = codes "balance" ∷ decimal from ∷ decimal to ∷ []
+event_words (events.Break table seats names) =
+    codes "break" ∷ decimal table ∷ list_text place_text seats ∷ list_text (λ name. name) names ∷ []
 event_words events.Stop = codes "stop" ∷ []
 
 -- an event's text: its words with one space between each two
@@ -86,9 +99,21 @@ event_text event = join_with_byte 32 (event_words event)
 abbrev pub item_text : Item → List ℕ
 item_text (found.Event event) = event_text event
 
+-- at least one item stands in a line and at most so many, and each fits
+abbrev pub AreFew : {A : Type 0} → ℕ → (A → Type 0) → List A → Type 0
+AreFew most Fits items = (1 ≤ length items) × (length items ≤ most) × AllByRecursion Fits items
+
 -- 1 to 64 numbers stand in a line of shares
 abbrev pub AreLineShares : List ℕ → Type 0
-AreLineShares shares = (1 ≤ length shares) × (length shares ≤ MOST_SHARES) × AllByRecursion IsLineNumber shares
+AreLineShares shares = AreFew MOST_SHARES IsLineNumber shares
+
+-- 1 to 10 places stand in a list, each with the number of one of 64 tables and of one of 10 seats
+abbrev pub AreLinePlaces : List Place → Type 0
+AreLinePlaces places = AreFew MOST_SEATS (IsPlaceOf MOST_TABLES MOST_SEATS) places
+
+-- 1 to 10 names stand in a list
+abbrev pub AreLineNames : List (List ℕ) → Type 0
+AreLineNames names = AreFew MOST_SEATS (λ name. IsTrue (is_name name)) names
 
 -- the numbers of a plan line are those of a line
 abbrev pub HasLineNumbers : PlanLine → Type 0
@@ -119,6 +144,8 @@ HasLineParts (events.Begin table row) = IsLineNumber table
 HasLineParts (events.Act table name act) = IsTrue (is_name name) × IsLineNumber table × HasLineAmount act
 HasLineParts (events.Time table) = IsLineNumber table
 HasLineParts (events.Settle table) = IsLineNumber table
+HasLineParts (events.Balance from to) = IsLineNumber from × IsLineNumber to
+HasLineParts (events.Break table seats names) = IsLineNumber table × AreLinePlaces seats × AreLineNames names
 HasLineParts events.Stop = Unit {0}
 
 -- An event is writable where its parts are such as a line may hold and its text has at most 400 bytes.

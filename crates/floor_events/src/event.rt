@@ -2,8 +2,9 @@
 
 use betting_round::Act;
 use card_set::CardRow;
-use floor_text::Name;
+use floor_text::{List, Name};
 use level_plan::PlanLine;
+use seat_book::Place;
 
 /// An event of the tournament.
 #[derive(Debug, Drop)]
@@ -46,6 +47,22 @@ pub enum Event {
     Settle {
         /// The number of the table. Any number of the grammar may stand here.
         table: u64,
+    },
+    /// Two tables are balanced: the next big blind of the one moves to the other.
+    Balance {
+        /// The number of the table that he leaves. Any number of the grammar may stand here.
+        from: u64,
+        /// The number of the table where he sits down. Any number of the grammar may stand here.
+        to: u64,
+    },
+    /// A table breaks: its players take seats at other tables.
+    Break {
+        /// The number of the table. Any number of the grammar may stand here.
+        table: u64,
+        /// The seats that are filled, in the order drawn.
+        seats: List<Place>,
+        /// Who takes them, in turn. There may be more or fewer names than seats here.
+        names: List<Name>,
     },
     /// The end of the tournament.
     Stop,

@@ -2,10 +2,12 @@
 
 ghost use Rattle.std.specs.Prelude.{◌≡◌, ◌≤◌, ◌<◌, ◌==◌, ℕ, List, [], ◌∷◌, ◌++◌, length, Option, IfOk};
 ghost use Rattle.floor_text.specs.Numbers.{number_of};
-ghost use Rattle.floor_events.specs.Fields.{few_of};
+ghost use Rattle.floor_events.specs.Fields.{name_of, place_of, few_of};
 
+use crate::fields::{read_name, read_place};
 use crate::line_words::Words;
-use floor_text::{List, read_number};
+use floor_text::{List, Name, read_number};
+use seat_book::Place;
 use std::alloc::{AllocError, Global};
 use std::marker::Model;
 
@@ -24,6 +26,22 @@ impl Spelled for u64 {
 
     fn read(word: &[u8]) -> Option<u64> {
         read_number(word)
+    }
+}
+
+impl Spelled for Name {
+    ghost spelled = { name_of };
+
+    fn read(word: &[u8]) -> Option<Name> {
+        read_name(word)
+    }
+}
+
+impl Spelled for Place {
+    ghost spelled = { place_of };
+
+    fn read(word: &[u8]) -> Option<Place> {
+        read_place(word)
     }
 }
 

@@ -1,11 +1,17 @@
 //! Words of a line are read as fields.
 
 ghost use Rattle.std.specs.Prelude.{◌≡◌};
-ghost use Rattle.floor_events.specs.Fields.{name_of, game_of, meaning, act_list, amount_list};
+ghost use Rattle.floor_events.specs.Fields.{name_of, game_of, meaning, act_list, amount_list, place_at, place_of};
 
+use crate::line_words::Words;
 use betting_round::Act;
 use card_set::Game;
 use floor_text::Name;
+use level_plan::{MOST_SEATS, MOST_TABLES};
+use seat_book::Place;
+
+/// The byte between the numbers of a place.
+const POINT: u8 = b'.';
 
 /// Reads a player's name. `None` exactly where the word is none.
 pub fn read_name(word: &[u8]) -> Option<Name>
@@ -47,5 +53,33 @@ pub fn read_act_with(word: &[u8], amount: u64) -> Option<Act>
         b"bet" => Some(Act::Bet(amount)),
         b"raise" => Some(Act::Raise(amount)),
         _ => None,
+    }
+}
+
+fn place_at(table: u64, seat: u64) -> Option<Place>
+    ensures { result ≡ place_at table seat }
+{
+    if (1..=MOST_TABLES).contains(&table) && (1..=MOST_SEATS).contains(&seat) {
+        Some(Place {
+            table: table as u8,
+            seat: seat as u8,
+        })
+    } else {
+        None
+    }
+}
+
+/// Reads a place. `None` exactly where the word is none.
+#[tactic(auto, unfolding(crate::specs::Fields::place_of))]
+pub fn read_place(word: &[u8]) -> Option<Place>
+    ensures { result ≡ place_of word.now }
+{
+    let mut numbers = Words::between(POINT, word);
+    let table = numbers.number()?;
+    let seat = numbers.number()?;
+    if numbers.is_done() {
+        place_at(table, seat)
+    } else {
+        None
     }
 }

@@ -10,7 +10,7 @@ ghost use Rattle.floor_events.specs.Spelling.{IsWritable, item_text};
 
 use crate::event::{Event, Item};
 use crate::line_words::Words;
-use crate::list_reader::read_shares;
+use crate::list_reader::{read_break, read_shares};
 use floor_text::LONGEST_LINE;
 use level_plan::PlanLine;
 use std::alloc::{AllocError, Global};
@@ -60,6 +60,10 @@ fn read_fields(word: &[u8], line: &mut Words<'_>) -> Option<Event>
         _ if is(word, b"settle") => Some(Event::Settle {
             table: line.number()?,
         }),
+        _ if is(word, b"balance") => Some(Event::Balance {
+            from: line.number()?,
+            to: line.number()?,
+        }),
         _ if is(word, b"stop") => Some(Event::Stop),
         _ => None,
     }
@@ -78,6 +82,9 @@ fn read_event(alloc: Global, word: &[u8], line: &mut Words<'_>) -> Result<Option
 {
     if is(word, b"shares") {
         return read_shares(alloc, line);
+    }
+    if is(word, b"break") {
+        return read_break(alloc, line);
     }
     Ok(read_plain(word, line))
 }

@@ -5,16 +5,24 @@ ghost use Rattle.std.specs.List.{position};
 ghost use Rattle.floor_text.specs.Numbers.{number_of};
 ghost use Rattle.card_set.specs.Cards.{row_of};
 ghost use Rattle.floor_events.specs.Words.{pieces_of, words_of_line, no_word};
-ghost use Rattle.floor_events.specs.Fields.{name_of, game_of, act_of, next_by};
+ghost use Rattle.floor_events.specs.Fields.{name_of, game_of, act_of, members_of, next_by};
 
+use crate::few::{Few, Spelled, read_few};
 use crate::fields::{read_act, read_act_with, read_game, read_name};
 use betting_round::Act;
 use card_set::{CardRow, Game, read_row};
 use floor_text::{Name, read_number};
+use level_plan::MOST_SEATS;
 use std::marker::Model;
 
 /// The byte between two words of a line.
 const SPACE: u8 = b' ';
+
+/// The byte between two members of a list.
+const COMMA: u8 = b',';
+
+/// How many members a list may have: one for each seat of a table.
+pub const MOST_MEMBERS: usize = MOST_SEATS as usize;
 
 fn first_of(between: u8, bytes: &[u8]) -> Option<usize>
     ensures { result ≡ position (λ byte. byte == between) bytes.now }
@@ -115,6 +123,15 @@ impl<'a> Words<'a> {
             (λ row. next_by row_of self.old ≡ Some (row, self.new)) }
     {
         read_row(self.next_word()?)
+    }
+
+    /// Takes the next word as the members of a list.
+    #[tactic(auto, unfolding(crate::specs::Fields::next_by, crate::specs::Fields::members_of))]
+    pub fn members<T: Spelled>(&mut self) -> Option<Few<T, MOST_MEMBERS>>
+        ensures { MatchOption result (next_by (members_of T.spelled) self.old ≡ None)
+            (λ items. next_by (members_of T.spelled) self.old ≡ Some (items, self.new)) }
+    {
+        read_few(&mut Words::between(COMMA, self.next_word()?))
     }
 
     /// Takes all words that are left as an act.

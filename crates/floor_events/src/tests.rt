@@ -74,6 +74,54 @@ static OUTSIDE: [&[u8]; 64] = [
     b"time 1 ann",
 ];
 
+/// Lines of balances and breaks that are not in the grammar.
+static OUTSIDE_MOVES: [&[u8]; 36] = [
+    b"balance",
+    b"balance 1",
+    b"balance 1 ",
+    b"balance 1 02",
+    b"balance 1 2 3",
+    b"balance 1,2",
+    b"balance 1.2",
+    b"balance 1 ann",
+    b"break",
+    b"break 2",
+    b"break 2 1.5",
+    b"break 2 1.5 ",
+    b"break 2  ann",
+    b"break 2 ann 1.5",
+    b"break 02 1.5 ann",
+    b"break 2 1.5 ann bob",
+    b"break 2 1.5, ann",
+    b"break 2 ,1.5 ann",
+    b"break 2 1.5,,1.6 ann",
+    b"break 2 1.5 ann,",
+    b"break 2 1.5 ,ann",
+    b"break 2 , ann",
+    b"break 2 1.5 floor",
+    b"break 2 1.5 ann,1bob",
+    b"break 2 1.5 ann.bob",
+    b"break 2 1 ann",
+    b"break 2 1. ann",
+    b"break 2 .5 ann",
+    b"break 2 1..5 ann",
+    b"break 2 1.5.6 ann",
+    b"break 2 1.0 ann",
+    b"break 2 0.1 ann",
+    b"break 2 65.1 ann",
+    b"break 2 1.11 ann",
+    b"break 2 01.1 ann",
+    b"break 2 1.01 ann",
+];
+
+#[test]
+fn moves_outside_the_grammar_hold_no_item(rt: HostRuntime) -> Result<(), Fail> {
+    for line in &OUTSIDE_MOVES {
+        assert!(rt; read_item(rt.alloc(), line)?.is_none(), "{line:?}");
+    }
+    Ok(())
+}
+
 #[test]
 fn lines_outside_the_grammar_hold_no_item(rt: HostRuntime) -> Result<(), Fail> {
     for line in &OUTSIDE {
@@ -204,6 +252,79 @@ fn called_times_and_settlements_are_read(rt: HostRuntime) -> Result<(), Fail> {
     assert!(rt; matches!(item, Some(Item::Event(Event::Time { table: 5 }))));
     let item = read_item(alloc, b"settle 3")?;
     assert!(rt; matches!(item, Some(Item::Event(Event::Settle { table: 3 }))));
+    Ok(())
+}
+
+#[test]
+fn balances_are_read(rt: HostRuntime) -> Result<(), Fail> {
+    let alloc = rt.alloc();
+    let item = read_item(alloc, b"balance 1 64")?;
+    assert!(rt; matches!(item, Some(Item::Event(Event::Balance { from: 1, to: 64 }))));
+    let item = read_item(alloc, b"balance 0 9007199254740991")?;
+    assert!(rt;
+        matches!(
+            item,
+            Some(Item::Event(Event::Balance {
+                from: 0,
+                to: 9_007_199_254_740_991
+            }))
+        )
+    );
+    Ok(())
+}
+
+/// The table of a line that breaks one, and how many places and names the line has, or `None` where it is no such line.
+fn broken(line: &[u8], alloc: std::alloc::Global) -> Result<Option<(u64, usize, usize)>, Fail> {
+    let item = read_item(alloc, line)?;
+    Ok(match &item {
+        Some(
+            Item::Event(
+                Event::Break {
+                    table,
+                    seats,
+                    names,
+                },
+            ),
+        ) => Some((*table, seats.items().len(), names.items().len())),
+        _ => None,
+    })
+}
+
+#[test]
+fn breaks_have_one_to_ten_places_and_names(rt: HostRuntime) -> Result<(), Fail> {
+    let alloc = rt.alloc();
+    assert_eq!(rt; broken(b"break 2 1.5 ann", alloc)?, Some((2, 1, 1)));
+    assert_eq!(rt; broken(b"break 0 1.1,64.10 Floor", alloc)?, Some((0, 2, 1)));
+    assert_eq!(rt; broken(b"break 7 2.1 a,b,a", alloc)?, Some((7, 1, 3)));
+    let ten: &[u8] = b"break 3 1.1,1.2,1.3,1.4,1.5,1.6,1.7,1.8,1.9,1.10 a,b,c,d,e,f,g,h,i,j";
+    assert_eq!(rt; broken(ten, alloc)?, Some((3, 10, 10)));
+    let places: &[u8] = b"break 3 1.1,1.2,1.3,1.4,1.5,1.6,1.7,1.8,1.9,1.10,2.1 a,b,c,d,e,f,g,h,i,j";
+    assert_eq!(rt; broken(places, alloc)?, None);
+    let names: &[u8] = b"break 3 1.1,1.2,1.3,1.4,1.5,1.6,1.7,1.8,1.9,1.10 a,b,c,d,e,f,g,h,i,j,k";
+    assert_eq!(rt; broken(names, alloc)?, None);
+    Ok(())
+}
+
+#[test]
+fn breaks_tell_places_and_names_in_turn(rt: HostRuntime) -> Result<(), Fail> {
+    let item = read_item(rt.alloc(), b"break 2 64.10,1.6 bob,Ann_01")?;
+    let right = match &item {
+        Some(Item::Event(Event::Break { seats, names, .. })) => {
+            let (places, names) = (seats.items(), names.items());
+            places.len() == 2
+                && places[0]
+                    == Place {
+                        table: 64,
+                        seat: 10,
+                    }
+                && places[1] == Place { table: 1, seat: 6 }
+                && names.len() == 2
+                && names[0].bytes() == b"bob".as_slice()
+                && names[1].bytes() == b"Ann_01".as_slice()
+        }
+        _ => false,
+    };
+    assert!(rt; right);
     Ok(())
 }
 

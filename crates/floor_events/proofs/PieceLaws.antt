@@ -1,0 +1,209 @@
+-- Items that stand in turn: all words that are left, the members of a list, and the numbers of a place.
+use Rattle.std.proofs.Common.{◌≡◌, ℕ, ◌≤◌, ◌<◌, true, false, ◌&&◌, not, cond, leb, List, [], ◌∷◌, map, length, Option, Some, None, IsTrue, refl, sym, ap, ◌∙◌, subst, arith}
+use Rattle.std.specs.Fmt.{decimal}
+use Rattle.std.specs.List.{list_all, join_with_byte, AllByRecursion}
+use Rattle.std.proofs.lemmas.Bool.Decides.{nat_tests}
+use Rattle.std.proofs.lemmas.List.Folds.{list_all-append}
+use Rattle.std.proofs.lemmas.List.Splits.{join_with_byte-slice_split}
+use Rattle.std.proofs.lemmas.Option.{same_Some}
+use Rattle.floor_text.specs.Names.{is_name}
+use Rattle.floor_text.specs.Numbers.{IsLineNumber, number_of}
+use Rattle.level_plan.specs.declared.bounds.TheConstants.{MOST_TABLES, MOST_SEATS, MOST_SHARES}
+use Rattle.seat_book.specs.declared.place.Place.{Place}
+use Rattle.seat_book.specs.Places.{IsPlaceOf, is_place_of}
+use Rattle.floor_events.specs.Words.{pieces_of, no_word}
+use Rattle.floor_events.specs.Spelling.{place_text, list_text, AreFew, AreLineShares, AreLinePlaces, AreLineNames}
+use Rattle.floor_events.specs.Fields.{◌>>=◌, each_of, few_of, shares_of, name_of, place_at, place_of, members_of, next_by}
+use Rattle.floor_events.proofs.FieldLaws.{IsField, IsRest, bind_found, test_found, number_field, name_field, next_found, next_again}
+use Rattle.floor_events.proofs.WordSplits.{is_byte}
+use Rattle.floor_events.proofs.Spaces.{and_parts, lacks, pieces_again, decimal_lacks, name_lacks}
+
+module _ {A : Type 0} {read : List ℕ → Option A} {write : A → List ℕ} {Fits : A → Type 0}
+    (field : IsField read write Fits) where
+  each_found : (words : List (List ℕ)) (items : List A) → each_of read words ≡ Some items
+      → (words ≡ map write items) × AllByRecursion Fits items
+  each_found [] items h =
+      subst (λ (xs : List A). ([] ≡ map write xs) × AllByRecursion Fits xs) (same_Some [] items h) (refl, tt)
+  each_found (word ∷ words) items h =
+      let first = bind_found (read word) (λ x. each_of read words >>= λ xs. Some (x ∷ xs)) items h in
+      let others = bind_found (each_of read words) (λ xs. Some (first.0 ∷ xs)) items first.2 in
+      let item = field.found word first.0 first.1 in
+      let rest = each_found words others.0 others.1 in
+      let whole : word ∷ words ≡ map write (first.0 ∷ others.0) = ap (λ (w : List ℕ). w ∷ words) item.0
+      ∙ ap (λ (ws : List (List ℕ)). write first.0 ∷ ws) rest.0 in
+      subst (λ (xs : List A). (word ∷ words ≡ map write xs) × AllByRecursion Fits xs)
+      (same_Some (first.0 ∷ others.0) items others.2) (whole, (item.1, rest.1))
+
+  each_again : (items : List A) → AllByRecursion Fits items → each_of read (map write items) ≡ Some items
+  each_again [] fits = refl
+  each_again (item ∷ items) fits = rw (field.again item fits.0, each_again items fits.1) refl
+
+  each_spaceless : (items : List A) → AllByRecursion Fits items → list_all (lacks 32) (map write items) ≡ true
+  each_spaceless [] fits = refl
+  each_spaceless (item ∷ items) fits = rw (field.spaceless item fits.0, each_spaceless items fits.1) refl
+
+  few_found : (most : ℕ) (words : List (List ℕ)) (items : List A) → few_of most read words ≡ Some items
+      → (words ≡ map write items) × AreFew most Fits items
+  few_found most words items h =
+      let found = bind_found (each_of read words) (λ xs. cond (leb 1 (length xs) && leb (length xs) most) (Some xs)
+      None) items h in
+      let test = test_found (leb 1 (length found.0) && leb (length found.0) most) (Some found.0) items found.2 in
+      let both = and_parts (leb 1 (length found.0)) (leb (length found.0) most) test.0 in
+      let each = each_found words found.0 found.1 in
+      let least : 1 ≤ length found.0 = grind (arith, nat_tests, both.0) in
+      let few : length found.0 ≤ most = grind (arith, nat_tests, both.1) in
+      subst (λ (xs : List A). (words ≡ map write xs) × AreFew most Fits xs) (same_Some found.0 items test.1)
+      (each.0, (least, few, each.1))
+
+  few_again : (most : ℕ) (items : List A) → AreFew most Fits items → few_of most read (map write items) ≡ Some items
+  few_again most items fits =
+      let least : leb 1 (length items) ≡ true = grind (arith, nat_tests, fits.0) in
+      let few : leb (length items) most ≡ true = grind (arith, nat_tests, fits.1) in
+      rw (each_again items fits.2, least, few) refl
+
+-- the shares of the prizes
+pub shares_rest : IsRest shares_of (map decimal) AreLineShares
+unfolding shares_of
+shares_rest = record {
+  found = few_found number_field MOST_SHARES;
+  again = few_again number_field MOST_SHARES;
+  spaceless = λ shares fits. each_spaceless number_field shares fits.2;
+}
+
+-- what is joined of pieces that lack a byte by a greater one lacks it too
+joined_lacks : (byte between : ℕ) → byte < between → (piece : List ℕ) (pieces : List (List ℕ))
+    → list_all (lacks byte) (piece ∷ pieces) ≡ true → lacks byte (join_with_byte between (piece ∷ pieces)) ≡ true
+joined_lacks byte between below piece [] h = (and_parts (lacks byte piece) true h).0
+joined_lacks byte between below piece (next ∷ pieces) h =
+    let both = and_parts (lacks byte piece) (list_all (lacks byte) (next ∷ pieces)) h in
+    let later = joined_lacks byte between below next pieces both.1 in
+    let other : is_byte byte between ≡ false = grind (arith, nat_tests) in
+    rw (
+      list_all-append (λ b. not (is_byte byte b)) piece (between ∷ join_with_byte between (next ∷ pieces)),
+      both.0,
+      other,
+      later,
+    ) refl
+
+-- a field that lacks commas too, so that a list may have it
+record IsMember {A : Type 0} (read : List ℕ → Option A) (write : A → List ℕ) (Fits : A → Type 0) : Type 0 where
+  field : IsField read write Fits
+  commaless : (value : A) → Fits value → lacks 44 (write value) ≡ true
+
+name_member : IsMember name_of (λ name. name) (λ name. IsTrue (is_name name))
+name_member = record { field = name_field; commaless = name_lacks 44 (omega arith) }
+
+table_number : (n : ℕ) → n ≤ MOST_TABLES → IsLineNumber n
+table_number n few = omega (arith, few)
+
+seat_number : (n : ℕ) → n ≤ MOST_SEATS → IsLineNumber n
+seat_number n few = omega (arith, few)
+
+place_lacks : (byte : ℕ) → byte < 46 → (place : Place) → IsPlaceOf MOST_TABLES MOST_SEATS place
+    → lacks byte (place_text place) ≡ true
+place_lacks byte low place fits =
+    joined_lacks byte 46 low (decimal place.table) (decimal place.seat ∷ []) (rw (
+      decimal_lacks byte (omega (arith, low)) place.table (table_number place.table fits.table.last),
+      decimal_lacks byte (omega (arith, low)) place.seat (seat_number place.seat fits.last),
+    ) refl)
+
+none_left : (words : List (List ℕ)) → no_word words ≡ true → words ≡ []
+none_left [] h = refl
+none_left (word ∷ words) h = absurd cc
+
+-- the test of a place, and what it tells
+fits_there : (place : Place) → is_place_of MOST_TABLES MOST_SEATS place ≡ true → IsPlaceOf MOST_TABLES MOST_SEATS place
+fits_there place h =
+    let both = and_parts (leb 1 place.table && leb place.table MOST_TABLES)
+    (leb 1 place.seat && leb place.seat MOST_SEATS) h in
+    let table = and_parts (leb 1 place.table) (leb place.table MOST_TABLES) both.0 in
+    let seat = and_parts (leb 1 place.seat) (leb place.seat MOST_SEATS) both.1 in
+    record {
+      table = record { first = grind (arith, nat_tests, table.0); last = grind (arith, nat_tests, table.1) };
+      first = grind (arith, nat_tests, seat.0);
+      last = grind (arith, nat_tests, seat.1);
+    }
+
+place_found : (word : List ℕ) (place : Place) → place_of word ≡ Some place → (word ≡ place_text place)
+    × IsPlaceOf MOST_TABLES MOST_SEATS place
+unfolding place_of
+place_found word place h =
+    let first = bind_found (next_by number_of (pieces_of 46 word)) (λ t. next_by number_of t.1 >>= λ s. cond
+    (no_word s.1) (place_at t.0 s.0) None) place h in
+    let second = bind_found (next_by number_of first.0.1) (λ s. cond (no_word s.1) (place_at first.0.0 s.0) None) place
+    first.2 in
+    let done = test_found (no_word second.0.1) (place_at first.0.0 second.0.0) place second.2 in
+    let here : Place = record { table = first.0.0; seat = second.0.0 } in
+    let test = test_found (is_place_of MOST_TABLES MOST_SEATS here) (Some here) place done.1 in
+    let table = next_found number_of decimal IsLineNumber number_field (pieces_of 46 word) first.0 first.1 in
+    let seat = next_found number_of decimal IsLineNumber number_field first.0.1 second.0 second.1 in
+    let pieces : pieces_of 46 word ≡ decimal first.0.0 ∷ decimal second.0.0 ∷ [] = table.spelling
+    ∙ ap (λ (ws : List (List ℕ)). decimal first.0.0 ∷ ws) seat.spelling
+    ∙ ap (λ (ws : List (List ℕ)). decimal first.0.0 ∷ decimal second.0.0 ∷ ws) (none_left second.0.1 done.0) in
+    let text : word ≡ place_text here = sym (join_with_byte-slice_split 46 word) ∙ ap (join_with_byte 46) pieces in
+    subst (λ (p : Place). (word ≡ place_text p) × IsPlaceOf MOST_TABLES MOST_SEATS p) (same_Some here place test.1)
+    (text, fits_there here test.0)
+
+place_test : (place : Place) → IsPlaceOf MOST_TABLES MOST_SEATS place → is_place_of MOST_TABLES MOST_SEATS place ≡ true
+place_test place fits = grind (arith, nat_tests, fits.table.first, fits.table.last, fits.first, fits.last)
+
+place_again : (place : Place) → IsPlaceOf MOST_TABLES MOST_SEATS place → place_of (place_text place) ≡ Some place
+unfolding place_of
+place_again place fits =
+    let table = table_number place.table fits.table.last in
+    let seat = seat_number place.seat fits.last in
+    let pieces : pieces_of 46 (place_text place) ≡ decimal place.table ∷ decimal place.seat ∷ [] =
+    pieces_again 46 (decimal place.table) (decimal place.seat ∷ []) (rw
+    (decimal_lacks 46 (omega arith) place.table table, decimal_lacks 46 (omega arith) place.seat seat) refl) in
+    rw (
+      pieces,
+      next_again number_of decimal IsLineNumber number_field place.table (decimal place.seat ∷ []) table,
+      next_again number_of decimal IsLineNumber number_field place.seat [] seat,
+      place_test place fits,
+    ) refl
+
+place_member : IsMember place_of place_text (IsPlaceOf MOST_TABLES MOST_SEATS)
+place_member = record {
+  field = record { found = place_found; again = place_again; spaceless = place_lacks 32 (omega arith) };
+  commaless = place_lacks 44 (omega arith);
+}
+
+module _ {A : Type 0} {read : List ℕ → Option A} {write : A → List ℕ} {Fits : A → Type 0}
+    (member : IsMember read write Fits) where
+  members_found : (word : List ℕ) (items : List A) → members_of read word ≡ Some items → (word ≡ list_text write items)
+      × AreFew MOST_SEATS Fits items
+  unfolding members_of
+  members_found word items h =
+      let found = few_found member.field MOST_SEATS (pieces_of 44 word) items h in
+      (sym (join_with_byte-slice_split 44 word) ∙ ap (join_with_byte 44) found.0, found.1)
+
+  each_commaless : (items : List A) → AllByRecursion Fits items → list_all (lacks 44) (map write items) ≡ true
+  each_commaless [] fits = refl
+  each_commaless (item ∷ items) fits = rw (member.commaless item fits.0, each_commaless items fits.1) refl
+
+  cut_again : (items : List A) → AreFew MOST_SEATS Fits items → pieces_of 44 (list_text write items) ≡ map write items
+  cut_again [] fits = absurd (omega (arith, fits.0))
+  cut_again (item ∷ items) fits =
+      pieces_again 44 (write item) (map write items) (each_commaless (item ∷ items) fits.2)
+
+  members_again : (items : List A) → AreFew MOST_SEATS Fits items → members_of read (list_text write items)
+      ≡ Some items
+  unfolding members_of
+  members_again items fits =
+      ap (few_of MOST_SEATS read) (cut_again items fits) ∙ few_again member.field MOST_SEATS items fits
+
+  members_spaceless : (items : List A) → AreFew MOST_SEATS Fits items → lacks 32 (list_text write items) ≡ true
+  members_spaceless [] fits = absurd (omega (arith, fits.0))
+  members_spaceless (item ∷ items) fits = joined_lacks 32 44 (omega arith) (write item) (map write items)
+      (each_spaceless member.field (item ∷ items) fits.2)
+
+  members_field : IsField (members_of read) (list_text write) (AreFew MOST_SEATS Fits)
+  members_field = record { found = members_found; again = members_again; spaceless = members_spaceless }
+
+-- the places of a list
+pub places_field : IsField (members_of place_of) (list_text place_text) AreLinePlaces
+places_field = members_field place_member
+
+-- the names of a list
+pub names_field : IsField (members_of name_of) (list_text (λ name. name)) AreLineNames
+names_field = members_field name_member
