@@ -58,7 +58,8 @@ other-table seating table other among =
     table_of : 1 ≤ other → other ≤ seating.table_count → IsTableOf seating.table_count other
     table_of first last = record { first = first; last = last }
 
-found-within : (test : ℕ → Bool) (seats steps seat found : ℕ) → 1 ≤ seats
+-- What a walk round the table finds is one of its seats.
+pub found-within : (test : ℕ → Bool) (seats steps seat found : ℕ) → 1 ≤ seats
     → find test (walk (seat_after seats) steps seat) ≡ Some found → (1 ≤ found) × (found ≤ seats)
 found-within test seats zero seat found some is = absurd cc
 found-within test seats (suc steps) seat found some is =
