@@ -155,6 +155,8 @@ alike apart (events.Time table) ties none =
 alike apart (events.Settle table) ties none =
     let free = (passed-parts (seen_of apart) (events.Settle table) none).0 in
     settle_alike apart table ties (settle_passed apart.book table free).playing
+alike apart (events.Balance from to) ties none = record { tied = ties.tied; acts = refl }
+alike apart (events.Break table places names) ties none = record { tied = ties.tied; acts = refl }
 alike apart events.Stop ties none = stop_alike apart ties
 
 -- a book and its hands, after an accepted event

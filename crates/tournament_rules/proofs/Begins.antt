@@ -21,9 +21,10 @@ use Rattle.button_blinds.specs.Marks.{AreMarksOf}
 use Rattle.button_blinds.proofs.NextMarksLaws.{marks-fit}
 use Rattle.seat_book.specs.declared.seated.Seated.{Seated}
 use Rattle.seat_book.specs.Counts.{count_at}
-use Rattle.seat_book.specs.Players.{taken_seats}
+use Rattle.seat_book.specs.Players.{sits_at, taken_seats}
 use Rattle.seat_book.specs.Tables.{status_at}
 use Rattle.seat_book.proofs.TakenSeats.{sits_in_seats, seats_of_places, taken_count}
+use Rattle.balance_rule.specs.Halting.{is_halted}
 use Rattle.table_engine.specs.declared.start.HandStart.{HandStart}
 use Rattle.table_engine.specs.declared.start.StartSeat.{StartSeat}
 use Rattle.table_engine.specs.Starts.{chips_of, have_playable_stacks, IsLawfulStart}
@@ -34,21 +35,23 @@ use Rattle.tournament_rules.specs.Checks.{book_checks, book_refusal, is_playing}
 use Rattle.tournament_rules.specs.Dealing.{next_at, next_start}
 use Rattle.tournament_rules.specs.Effects.{playing_from, begun_book}
 use Rattle.tournament_rules.specs.Valid.{IsValid, IsPlanned, IsStartAt, is_lent, without_stack}
-use Rattle.tournament_rules.proofs.Restacked.{entered_changed}
+use Rattle.tournament_rules.proofs.Restacked.{count_changed, entered_changed}
 use Rattle.tournament_rules.proofs.Names.{seated_names}
 use Rattle.tournament_rules.proofs.Passed.{none_holds, is_so, none_there}
 use Rattle.tournament_rules.proofs.Entries.{right_has}
-use Rattle.tournament_rules.proofs.Fitting.{table_range, each_status, fitting_changed, out_changed, play_changed, chips_out}
+use Rattle.tournament_rules.proofs.Fitting.{table_range, each_status, fitting_changed, out_changed, play_changed, chips_out, marked_more}
 use Rattle.tournament_rules.proofs.NextMarks.{marks-within}
 use Rattle.tournament_rules.proofs.DealtIn.{as_dealt, dealt-stacks, rest-dealt_in, lent-dealt_in, lent_elsewhere-dealt_in, whole-dealt_in, playable-dealt}
 use Rattle.tournament_rules.proofs.TakenSeats.{taken_within}
 use Rattle.tournament_rules.proofs.WhoIsDealt.{numbers_distinct, keys_dealt, rising_dealt, most_dealt, dealt_there}
 
--- A hand may begin at a table: it is one of the plan's, no hand is played there, and two or more sit there.
+-- A hand may begin at a table: it is one of the plan's, no hand is played there, two or more sit there, and it is not
+-- halted.
 pub record MayBegin (book : BookState) (table : ℕ) : Type 0 where
   pub there : is_between 1 book.plan.tables table ≡ true
   pub rests : is_playing book table ≡ false
   pub two : 2 ≤ count_at book.seating.players table
+  pub goes : is_halted book.seating table ≡ false
 
 two_sit : (count : ℕ) → nat_lt 0 count ≡ true → (count == 1) ≡ false → 2 ≤ count
 two_sit count some lone = grind (arith, nat_tests)
@@ -63,12 +66,14 @@ may_begin book table row free =
     let listed = and_parts _ _ going.1 in
     let rests = and_parts _ _ listed.1 in
     let many = and_parts _ _ rests.1 in
+    let goes = and_parts _ _ many.1 in
     let parts = and_parts (has_table book table) (nat_lt 0 (count_at book.seating.players table)) (is_so _ listed.0) in
     record {
       there = parts.0;
       rests = not-true _ rests.0;
       two =
           two_sit (count_at book.seating.players table) parts.1 (not-true _ many.0);
+      goes = not-true _ goes.0;
     }
 
 -- No start is out at a table where no hand is played.
@@ -206,6 +211,9 @@ valid_begun book table row valid free =
     let stands = valid.tables.lawful.statuses table in
     let rest = all_rest book table valid may.rests in
     let marks = subst (λ (seats : ℕ). AreMarksOf seats next.marks) (sym valid.tables.seats) lawful.marks in
+    let sits : (number : ℕ) → count_at (dealt_in table next.waiting players) number ≡ count_at players number =
+    λ number. count_changed (sits_at number) (as_dealt table next.waiting) (record { same = λ player stack. refl })
+    (dealt-stacks table next.waiting) players in
     record {
       plan = valid.plan;
       entries = entered_changed book.entries players book.busts (as_dealt table next.waiting)
@@ -240,6 +248,12 @@ valid_begun book table row valid free =
             (omega (arith, range.1, count, size))
             (valid.chips.units table) other (valid.chips.units other) listed;
       };
+      marked = λ other. each_status (λ number status. ForSome status.marks
+          (λ marks. 1 ≤ count_at (dealt_in table next.waiting players) number)) book.seating.tables table
+          (playing_from next.marks (status_at book.seating.tables table)) range.0 (omega (arith, range.1, count, size))
+          (λ marks is. let same = sits table in let two = may.two in omega (arith, same, two)) other
+          (marked_more book.seating.tables players (dealt_in table next.waiting players) valid.marked
+          (λ number. let same = sits number in omega (arith, same)) other);
       busts = valid.busts;
       counted = let counted = valid.counted in omega (arith, counted);
       raised = let raised = valid.raised in omega (arith, raised);

@@ -30,6 +30,8 @@ act-book play (events.Act there name act) table at =
     kept_after (λ play. play.book) play (events.Act there name act) refl
 act-book play (events.Time there) table at = kept_after (λ play. play.book) play (events.Time there) refl
 act-book play (events.Settle there) table at = absurd cc
+act-book play (events.Balance from to) table at = absurd cc
+act-book play (events.Break there places names) table at = absurd cc
 act-book play events.Stop table at = absurd cc
 
 -- The hand at another table stays where the acts at one table are others.
@@ -56,4 +58,6 @@ act-elsewhere play (events.Time there) table other at apart =
     kept_after (λ play. hand_at play other) play (events.Time there)
     (hand_elsewhere play there other _ (λ is. apart (is ∙ same)))
 act-elsewhere play (events.Settle there) table other at apart = absurd cc
+act-elsewhere play (events.Balance from to) table other at apart = absurd cc
+act-elsewhere play (events.Break there places names) table other at apart = absurd cc
 act-elsewhere play events.Stop table other at apart = absurd cc

@@ -1,14 +1,16 @@
 -- A book is valid once a hand has ended: it is settled, or it is void.
-use Rattle.std.proofs.Common.{◌≡◌, ◌∙◌, refl, sym, ap, subst, ℕ, zero, suc, ◌+◌, ◌%◌, ◌<◌, ◌≤◌, Bool, true, false, cond, ◌==◌, List, [], ◌∷◌, ◌++◌, map, length, set, inl, inr, arith}
+use Rattle.std.proofs.Common.{◌≡◌, ◌∙◌, refl, sym, ap, subst, ℕ, zero, suc, ◌+◌, ◌%◌, ◌<◌, ◌≤◌, Bool, true, false, cond, ◌==◌, List, [], ◌∷◌, ◌++◌, map, length, set, ◌⊎◌, inl, inr, arith}
 use Rattle.std.specs.Prelude.{nat_lt, filter, slice_set, Option, Some, None}
 use Rattle.std.specs.List.{list_all}
-use Rattle.std.specs.Option.{option_map_or}
-use Rattle.std.proofs.lemmas.Bool.{and_parts, and_from, cases_lt, eqb-true}
+use Rattle.std.specs.Option.{option_map_or, ForSome}
+use Rattle.std.proofs.lemmas.Bool.{and_parts, and_from, cases_Bool, cases_lt, eqb-true}
 use Rattle.std.proofs.lemmas.List.{get_or_past}
 use Rattle.level_plan.specs.Items.{is_between}
 use Rattle.level_plan.specs.Plans.{unit_of_level}
 use Rattle.place_list.specs.declared.bust.Bust.{Bust}
 use Rattle.seat_book.specs.declared.seated.Seated.{Seated}
+use Rattle.seat_book.specs.Players.{sits_at}
+use Rattle.seat_book.specs.Counts.{count_at}
 use Rattle.seat_book.specs.Tables.{status_at, with_status}
 use Rattle.table_engine.specs.declared.start.HandStart.{HandStart}
 use Rattle.table_engine.specs.declared.start.StartSeat.{StartSeat}
@@ -21,10 +23,11 @@ use Rattle.tournament_rules.specs.Books.{BookState, start_at, players_out}
 use Rattle.tournament_rules.specs.Players.{start_seat, paid, put_back}
 use Rattle.tournament_rules.specs.Effects.{with_table, at_rest, ended, broke_by, bust_of, settled, void_at, void_first, stopped_book}
 use Rattle.tournament_rules.specs.Valid.{IsValid, AreOnce, AreGrouped, is_lent, without_stack}
-use Rattle.tournament_rules.proofs.Restacked.{entered_changed, apart_changed}
+use Rattle.tournament_rules.proofs.Restacked.{count_changed, entered_changed, apart_changed}
 use Rattle.tournament_rules.proofs.Paying.{numbers_of, paid-stacks, picked_numbers, ArePayees, rest-put_back, none_lent, lent_elsewhere, all-put_back}
+use Rattle.tournament_rules.proofs.Remaining.{somebody_stays}
 use Rattle.tournament_rules.proofs.DealtIn.{none_first}
-use Rattle.tournament_rules.proofs.Stayed.{without, who_stay, all_stay, fitting_left, entered_left, none_lent-stay, lent_elsewhere-stay, rest-stay, stayed-lent, with_nothing, lent_after, once_left, grouped_left}
+use Rattle.tournament_rules.proofs.Stayed.{without, who_stay, all_stay, fitting_left, entered_left, none_lent-stay, lent_elsewhere-stay, count_elsewhere-stay, rest-stay, stayed-lent, with_nothing, lent_after, once_left, grouped_left}
 use Rattle.tournament_rules.proofs.Fitting.{table_range, each_status, fitting_changed, table_out, out_changed, play_changed, chips_out}
 
 -- The payees are a start's players with other stacks, of the same sum, that are multiples of the unit.
@@ -83,9 +86,10 @@ closed book table players busts group accepted = record book {
 -- have none have left.
 valid_closed : (book : BookState) (table : ℕ) (start : HandStart) (payees : List StartSeat) (busts : List Bust)
     (group accepted : ℕ) → IsValid book → start_at book.out table ≡ Some start → GoBackTo start payees
+    → ForSome (status_at book.seating.tables table).marks (λ marks. 1 ≤ count_at (left_with book table payees) table)
     → AreOnce book.entries (left_with book table payees) busts → AreGrouped busts group → book.begun ≤ accepted
     → group ≤ accepted → IsValid (closed book table (left_with book table payees) busts group accepted)
-valid_closed book table start payees busts group accepted valid is back once grouped counted raised =
+valid_closed book table start payees busts group accepted valid is back stays once grouped counted raised =
     let there = table_out book.plan book.seating book.out table start valid.tables is in
     let range = table_range 1 book.plan.tables table there in
     let count = valid.tables.tables in
@@ -136,9 +140,24 @@ valid_closed book table start payees busts group accepted valid is back once gro
             status.unit ≡ unit) book.seating.tables table status range.0 (omega (arith, range.1, count, size))
             (valid.chips.units table) other (valid.chips.units other) listed;
       };
+      marked = λ other. each_status (λ number status. ForSome status.marks
+          (λ marks. 1 ≤ count_at (who_stay table players) number)) book.seating.tables table status range.0
+          (omega (arith, range.1, count, size)) stays other (marked_before other (cases_Bool (table == other)));
       counted = counted;
       raised = raised;
     }
+  where
+    marked_before : (other : ℕ) → ((table == other) ≡ true) ⊎ ((table == other) ≡ false)
+        → ForSome (status_at book.seating.tables other).marks
+        (λ marks. 1 ≤ count_at (left_with book table payees) other)
+    marked_before other (inl same) = subst (λ (number : ℕ). ForSome (status_at book.seating.tables number).marks
+        (λ marks. 1 ≤ count_at (left_with book table payees) number)) (eqb-true table other same) stays
+    marked_before other (inr differ) = λ marks is.
+        let one = valid.marked other marks is in
+        let left = count_elsewhere-stay table other (put_back payees book.seating.players) differ in
+        let same = count_changed (sits_at other) (paid payees) (record { same = λ player stack. refl })
+        (paid-stacks payees) book.seating.players in
+        omega (arith, one, left, same)
 
 -- Where nobody passes a test, all stay.
 nobody_left : {A : Type 0} (gone : A → Bool) (items : List A) → filter gone items ≡ [] → without gone items ≡ items
@@ -161,8 +180,13 @@ valid_ended book table start payees valid is back above =
     valid.entries in
     let once = subst (λ (players : List Seated). AreOnce book.entries players book.busts) (sym all) entered.once in
     subst (λ (players : List Seated). IsValid (closed book table players book.busts book.group book.accepted)) all
-    (valid_closed book table start payees book.busts book.group book.accepted valid is back once valid.busts
-    valid.counted valid.raised)
+    (valid_closed book table start payees book.busts book.group book.accepted valid is back
+    (λ marks marked.
+    let one = valid.marked table marks marked in
+    let same = count_changed (sits_at table) (paid payees) (record { same = λ player stack. refl })
+    (paid-stacks payees) book.seating.players in
+    let here = ap (λ (players : List Seated). count_at players table) all in
+    omega (arith, one, same, here)) once valid.busts valid.counted valid.raised)
 
 -- A book is valid with another count of accepted events, if it is no lower, whether it is stopped or not.
 pub valid_counted : (book : BookState) (accepted : ℕ) (stopped : Bool) → IsValid book → book.begun ≤ accepted
@@ -174,6 +198,7 @@ valid_counted book accepted stopped valid enough raised = record {
   hands = valid.hands;
   chips = record { kept = valid.chips.kept; whole = valid.chips.whole; units = valid.chips.units };
   busts = valid.busts;
+  marked = valid.marked;
   counted = enough;
   raised = raised;
 }
@@ -232,7 +257,9 @@ valid_settled book hand valid is play over =
     let busts = book.busts ++ map (bust_of book.group) (broke_by hand) in
     subst (λ (players : List Seated). IsValid
     (closed book start.table players busts (book.group + 1) (book.accepted + 1))) (sym stay)
-    (valid_closed book start.table start payees busts (book.group + 1) (book.accepted + 1) valid is back once
+    (valid_closed book start.table start payees busts (book.group + 1) (book.accepted + 1) valid is back
+    (λ marks marked. somebody_stays start.table book.seating.players payees start.unit start.seats apart those
+    began.lawful.stacks began.lawful.two back.kept) once
     (grouped_left book.group (broke_by hand) book.busts valid.busts) (omega (arith, counted))
     (omega (arith, raised)))
 

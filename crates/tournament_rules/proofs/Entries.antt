@@ -1,6 +1,7 @@
 -- A book is valid before any entry, and after each.
 use Rattle.std.proofs.Common.{◌≡◌, ◌∙◌, refl, sym, ap, ℕ, zero, suc, ◌+◌, ◌%◌, ◌<◌, ◌≤◌, ◌⊎◌, inl, inr, Bool, true, false, cond, ◌==◌, ◌&&◌, eq-eqb, List, [], ◌∷◌, ◌++◌, map, length, arith, length-append}
 use Rattle.std.specs.Prelude.{nat_lt, count_by, sum_by, replicate, slice_get, Some, None, is_some}
+use Rattle.std.specs.Option.{ForSome}
 use Rattle.std.proofs.lemmas.Bool.{and_parts, and_from, cases_lt, eqb-true}
 use Rattle.std.proofs.lemmas.Bool.Decides.{nat_tests}
 use Rattle.std.proofs.lemmas.List.{get_or-replicate, get_or_past, length-replicate}
@@ -16,14 +17,15 @@ use Rattle.level_plan.proofs.Levels.{unit_of_level_above}
 use Rattle.seat_book.specs.declared.seated.Seated.{Seated}
 use Rattle.seat_book.specs.declared.table_status.TableStatus.{TableStatus}
 use Rattle.seat_book.specs.Places.{comes_before}
-use Rattle.seat_book.specs.Players.{is_numbered, sit_down}
+use Rattle.seat_book.specs.Players.{sits_at, is_numbered, sit_down}
+use Rattle.seat_book.specs.Counts.{count_at}
 use Rattle.seat_book.specs.Tables.{status_at, fresh_status, IsStatusOf}
 use Rattle.tournament_rules.specs.Books.{BookState, start_at, players_out}
 use Rattle.tournament_rules.specs.Checks.{book_refusal}
 use Rattle.tournament_rules.specs.Players.{start_seat}
 use Rattle.tournament_rules.specs.Effects.{first_book, first_status, newcomer, entered}
 use Rattle.tournament_rules.specs.Valid.{IsValid, AreEntered, rows_owed, without_stack, is_lent}
-use Rattle.tournament_rules.proofs.Fitting.{table_range}
+use Rattle.tournament_rules.proofs.Fitting.{table_range, marked_more}
 use Rattle.tournament_rules.proofs.Insertions.{list_all-insert, All-insert, filter-insert_no}
 use Rattle.tournament_rules.proofs.SitDown.{seating-sit_down, none_numbered}
 use Rattle.tournament_rules.proofs.Passed.{entry_passed}
@@ -140,6 +142,8 @@ valid_first plan right =
         units = λ table there. unit_of_many (first_status plan) plan.tables table there;
       };
       busts = record { groups = refl; past = refl };
+      marked = λ table. status_of_many (λ status. ForSome status.marks (λ marks. 1 ≤ count_at [] table))
+          (first_status plan) (λ marks is. absurd cc) (λ marks is. absurd cc) plan.tables table;
       counted = omega arith;
       raised = omega arith;
     }
@@ -236,6 +240,9 @@ valid_entered book name table seat valid none =
             (early book.plan.late book.level may.early) has.most_late has.whole));
         units = valid.chips.units;
       };
+      marked = marked_more book.seating.tables book.seating.players (sit_down new book.seating.players) valid.marked
+          (λ other. let more = sum_by-insert (λ player. cond {A = ℕ} (sits_at other player) 1 0) book.seating.players
+          behind new in omega (arith, more));
       busts = valid.busts;
       counted = omega (arith, valid.counted);
       raised = omega (arith, valid.raised);

@@ -10,13 +10,14 @@ use Rattle.level_plan.specs.Items.{is_between}
 use Rattle.level_plan.specs.Plans.{PlanTerms}
 use Rattle.seat_book.specs.declared.seated.Seated.{Seated}
 use Rattle.seat_book.specs.declared.table_status.TableStatus.{TableStatus}
+use Rattle.seat_book.specs.Counts.{count_at}
 use Rattle.seat_book.specs.Tables.{fresh_status, status_at, with_status, IsStatusOf}
 use Rattle.seat_book.specs.Seatings.{Seating, sits_within, is_entry, IsSeating}
 use Rattle.table_engine.specs.declared.start.HandStart.{HandStart}
 use Rattle.table_engine.specs.Starts.{chips_of}
 use Rattle.tournament_rules.specs.Books.{start_at, players_out}
 use Rattle.tournament_rules.specs.Players.{start_seat}
-use Rattle.tournament_rules.specs.Valid.{IsFitting, IsStartAt, AreOut, is_lent, without_stack}
+use Rattle.tournament_rules.specs.Valid.{IsFitting, IsStartAt, AreOut, AreMarked, is_lent, without_stack}
 use Rattle.tournament_rules.proofs.Restacked.{ChangesStacks, all_changed, order_changed, apart_changed}
 
 -- The number of a table is from 1 to the number of tables.
@@ -172,3 +173,11 @@ pub play_changed : (out : List (Option HandStart)) (table : ℕ) (start : Option
     → sum_by chips_out (slice_set out table start) + chips_out (start_at out table)
     ≡ sum_by chips_out out + chips_out start
 play_changed out table start within = sum_by-set chips_out out table start None within
+
+-- Tables keep their marks where no table has fewer players than before.
+pub marked_more : (tables : List TableStatus) (before after : List Seated) → AreMarked tables before
+    → ((table : ℕ) → count_at before table ≤ count_at after table) → AreMarked tables after
+marked_more tables before after marked more = λ table marks is.
+    let one = marked table marks is in
+    let most = more table in
+    omega (arith, one, most)

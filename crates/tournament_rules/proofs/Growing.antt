@@ -41,6 +41,8 @@ effect_extends play (events.Settle table) = by_hand (hand_at play table)
         → Extends play.book.busts (option_map_or (settled play.book) hand play.book).busts
     by_hand None = same_list play.book.busts
     by_hand (Some hand) = record { more = map (bust_of play.book.group) (broke_by hand); is = refl }
+effect_extends play (events.Balance from to) = same_list play.book.busts
+effect_extends play (events.Break table places names) = same_list play.book.busts
 effect_extends play events.Stop = record {
   more = [];
   is = left-void_first (λ book. book.busts) (record { same = λ book table payees. refl }) play.book

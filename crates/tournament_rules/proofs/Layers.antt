@@ -43,6 +43,8 @@ hand_for-read book hands (events.Begin table row) tied = refl
 hand_for-read book hands (events.Act table name act) tied = hand_read book hands table tied
 hand_for-read book hands (events.Time table) tied = hand_read book hands table tied
 hand_for-read book hands (events.Settle table) tied = hand_read book hands table tied
+hand_for-read book hands (events.Balance from to) tied = refl
+hand_for-read book hands (events.Break table places names) tied = refl
 hand_for-read book hands events.Stop tied = refl
 
 -- No hand is played at any table.

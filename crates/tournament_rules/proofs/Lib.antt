@@ -1,5 +1,9 @@
 pub mod ByNumber
 pub mod Members
+pub mod Moved
+pub mod Remaining
+pub mod Balances
+pub mod Breaks
 pub mod Outs
 pub mod Restacked
 pub mod Paying

@@ -16,7 +16,7 @@ use Rattle.table_engine.specs.Hands.{HandTerms, is_over}
 use Rattle.floor_events.specs.declared.event.Event.{Event}
 use Rattle.floor_events.specs.declared.event.Event.TheVariants.{Plan, Go, Enter, Act as Acts, Time, Settle}
 use Rattle.tournament_rules.specs.Books.{BookState, has_table, has_seat_number}
-use Rattle.tournament_rules.specs.Checks.{book_checks, hand_checks, before_hand_checks, end_checks, book_refusal, is_late, is_playing}
+use Rattle.tournament_rules.specs.Checks.{book_checks, hand_checks, before_hand_checks, end_checks, book_refusal, is_not_fewest, is_late, is_playing}
 use Rattle.tournament_rules.specs.States.{PlayState, hand_of, refusal_of}
 use Rattle.tournament_rules.specs.Apart.{hand_refusal}
 
@@ -50,6 +50,7 @@ pub record MayEnter (book : BookState) (name : List ℕ) (table seat : ℕ) : Ty
   pub there : has_table book table ≡ true
   pub within : has_seat_number book seat ≡ true
   pub free : player_at book.seating.players (record { table = table; seat = seat }) ≡ None
+  pub fewest : is_not_fewest book table ≡ false
   pub early : is_late book ≡ false
   pub room : length book.entries < 640
 
@@ -63,7 +64,8 @@ entry_passed book name table seat none =
     let there = and_parts _ _ new.1 in
     let seated = and_parts _ _ there.1 in
     let free = and_parts _ _ seated.1 in
-    let early = and_parts _ _ free.1 in
+    let fewest = and_parts _ _ free.1 in
+    let early = and_parts _ _ fewest.1 in
     let over = and_parts _ _ early.1 in
     let room = and_parts _ _ over.1 in
     record {
@@ -71,6 +73,7 @@ entry_passed book name table seat none =
       there = (and_parts _ _ (is_so _ there.0)).0;
       within = is_so _ seated.0;
       free = none_there _ (not-true _ free.0);
+      fewest = not-true _ fewest.0;
       early = not-true _ early.0;
       room = below (length book.entries) (not-true _ room.0);
     }

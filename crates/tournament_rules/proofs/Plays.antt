@@ -31,6 +31,8 @@ use Rattle.tournament_rules.proofs.Ends.{left-void_first, valid_settled, valid_s
 use Rattle.tournament_rules.proofs.Passed.{passed-parts, act_passed, time_passed, settle_passed, end_passed, plan_late, go_late, some_there}
 use Rattle.tournament_rules.proofs.Entries.{valid_first, valid_entered, start_none}
 use Rattle.tournament_rules.proofs.Begins.{may_begin, valid_begun}
+use Rattle.tournament_rules.proofs.Balances.{valid_balanced}
+use Rattle.tournament_rules.proofs.Breaks.{valid_broken}
 
 -- the hand of a start that is out, and its acts
 abbrev hand_from : Option HandStart → List ActOf → Option HandTerms
@@ -228,6 +230,17 @@ play_keeps play (events.Time table) valid none =
 play_keeps play (events.Settle table) valid none =
     let parts = passed-parts play (events.Settle table) none in
     play_settled play table valid parts.0 parts.1
+play_keeps play (events.Balance from to) valid none = record {
+  book = valid_balanced play.book from to valid.book (passed-parts play (events.Balance from to) none).0;
+  room = valid.room;
+  plays = valid.plays;
+}
+play_keeps play (events.Break table places names) valid none = record {
+  book = valid_broken play.book table places names valid.book
+      (passed-parts play (events.Break table places names) none).0;
+  room = valid.room;
+  plays = valid.plays;
+}
 play_keeps play events.Stop valid none = play_stopped play valid
 
 -- Any event leaves a tournament valid.

@@ -12,6 +12,7 @@ use Rattle.level_plan.specs.Plans.{PlanTerms}
 use Rattle.place_list.specs.declared.bust.Bust.{Bust}
 use Rattle.seat_book.specs.declared.seated.Seated.{Seated}
 use Rattle.seat_book.specs.Players.{sits_at, is_numbered, are_apart}
+use Rattle.seat_book.specs.Counts.{count_at}
 use Rattle.seat_book.specs.Seatings.{Seating, IsSeating, sits_within, is_entry}
 use Rattle.seat_book.proofs.Passing.{count_by-cons}
 use Rattle.table_engine.specs.declared.start.HandStart.{HandStart}
@@ -145,6 +146,30 @@ lent_elsewhere-stay table other (player ∷ players) differ =
         ≡ filter (is_lent other) (player ∷ players)
     by_test true is rest = rw (elsewhere player.place.table player.stack is) rest
     by_test false is rest = ap (λ (found : List Seated). cond (is_lent other player) (player ∷ found) found) rest
+
+-- At another table as many sit as before.
+pub count_elsewhere-stay : (table other : ℕ) (players : List Seated) → (table == other) ≡ false
+    → count_at (who_stay table players) other ≡ count_at players other
+count_elsewhere-stay table other players differ =
+    let parts = count_apart (sits_at other) (is_lent table) players in
+    omega (arith, parts, none_left players)
+  where
+    away : (sits stack : ℕ) → (sits == table && stack == 0) ≡ true → cond {A = ℕ} (sits == other) 1 0 ≡ 0
+    away sits stack lent = grind (arith, nat_tests)
+
+    none_left : (players : List Seated) → count_by (sits_at other) (filter (is_lent table) players) ≡ 0
+    none_left [] = refl
+    none_left (player ∷ players) = by_test (is_lent table player) refl (none_left players)
+      where
+        by_test : (b : Bool) → is_lent table player ≡ b
+            → count_by (sits_at other) (filter (is_lent table) players) ≡ 0
+            → count_by (sits_at other) (cond b (player ∷ filter (is_lent table) players)
+            (filter (is_lent table) players)) ≡ 0
+        by_test true is rest =
+            let one = count_by-cons (sits_at other) player (filter (is_lent table) players) in
+            let none = away player.place.table player.stack is in
+            omega (arith, one, none, rest)
+        by_test false is rest = rest
 
 -- Those who leave have nothing, so the stacks at rest sum to the same.
 pub rest-stay : (table : ℕ) (players : List Seated)

@@ -1,18 +1,17 @@
 -- A state is valid after any list of events.
 use Rattle.std.proofs.Common.{◌≡◌, refl, subst, ℕ, ◌+◌, ◌≤◌, Bool, true, false, List, [], ◌∷◌, arith}
-use Rattle.std.specs.Prelude.{Option, Some, None, unwrap_or, if◌then◌else◌}
+use Rattle.std.specs.Prelude.{Option, Some, None, if◌then◌else◌}
 use Rattle.std.specs.Option.{option_map_or, ForSome}
 use Rattle.std.proofs.lemmas.Option.{same_Some}
 use Rattle.floor_text.specs.declared.refusal.Refusal.{Refusal}
-use Rattle.floor_text.specs.declared.refusal.Refusal.TheVariants.{NotBuilt}
 use Rattle.level_plan.specs.declared.line.PlanItem.{PlanItem}
 use Rattle.level_plan.specs.Drafts.{Draft, item_of_line, is_wrong_line, go_fault, plan_of, IsLawful}
-use Rattle.floor_events.specs.declared.answer.Answer.TheVariants.{Ok, No, PlanWrong}
+use Rattle.floor_events.specs.declared.answer.Answer.TheVariants.{Ok, PlanWrong}
 use Rattle.floor_events.specs.declared.event.Event.{Event}
 use Rattle.floor_events.specs.declared.event.Event.TheVariants as events
 use Rattle.table_engine.specs.Hands.{HandTerms}
 use Rattle.tournament_rules.specs.Effects.{settled}
-use Rattle.tournament_rules.specs.States.{State, PlayState, first_state, first_play, hand_at, refusal_of, is_not_built, answered, answer_to, play_effect, accepted, is_accepted, state_after, run}
+use Rattle.tournament_rules.specs.States.{State, PlayState, first_state, first_play, hand_at, refusal_of, answered, answer_to, play_effect, accepted, is_accepted, state_after, run}
 use Rattle.tournament_rules.specs.Valid.{IsValidPlay, IsValidState}
 use Rattle.tournament_rules.proofs.Drafts.{lawful_empty, lawful_line, right_plan}
 use Rattle.tournament_rules.proofs.Plays.{play_keeps, valid_first_play}
@@ -36,18 +35,18 @@ accepted_more play (events.Settle table) = by_hand (hand_at play table)
         → (option_map_or (settled play.book) hand play.book).accepted ≤ play.book.accepted + 1
     by_hand None = omega arith
     by_hand (Some hand) = omega arith
+accepted_more play (events.Balance from to) = omega arith
+accepted_more play (events.Break table places names) = omega arith
 accepted_more play events.Stop = omega arith
 
 some_so : {A : Type 0} (P : A → Type 0) (item : A) → P item → ForSome (Some item) P
 some_so P item so = λ found is. subst P (same_Some item found is) so
 
 -- An accepted line of a plan is not wrong.
-line_right : (wrong late : Bool) (item : PlanItem)
-    → is_accepted (unwrap_or (if wrong then Some (PlanWrong item) else if late then Some (No NotBuilt) else None) Ok)
-    ≡ true
+line_right : (wrong : Bool) (item : PlanItem) → is_accepted (if wrong then PlanWrong item else Ok) ≡ true
     → wrong ≡ false
-line_right true late item accepted = cc
-line_right false late item accepted = refl
+line_right true item accepted = cc
+line_right false item accepted = refl
 
 -- An accepted end of a plan finds nothing wrong.
 pub go_right : (fault : Option PlanItem) → is_accepted (option_map_or PlanWrong fault Ok) ≡ true → fault ≡ None
@@ -61,7 +60,7 @@ valid_accepted : (draft : Draft) (play : Option PlayState) (count : ℕ) (event 
     → IsValidState (accepted (record { draft = draft; play = play; accepted = count }) event)
 valid_accepted draft None count (events.Plan line) lawful valid counted accepted = record {
   draft = lawful_line draft line lawful
-      (line_right (is_wrong_line draft line) (is_not_built line) (item_of_line line) accepted);
+      (line_right (is_wrong_line draft line) (item_of_line line) accepted);
   play = λ play is. absurd cc;
   counted = λ play is. absurd cc;
 }
@@ -76,6 +75,8 @@ valid_accepted draft None count (events.Begin table row) lawful valid counted ac
 valid_accepted draft None count (events.Act table name act) lawful valid counted accepted = absurd cc
 valid_accepted draft None count (events.Time table) lawful valid counted accepted = absurd cc
 valid_accepted draft None count (events.Settle table) lawful valid counted accepted = absurd cc
+valid_accepted draft None count (events.Balance from to) lawful valid counted accepted = absurd cc
+valid_accepted draft None count (events.Break table places names) lawful valid counted accepted = absurd cc
 valid_accepted draft None count events.Stop lawful valid counted accepted = absurd cc
 valid_accepted draft (Some play) count event lawful valid counted accepted = record {
   draft = lawful;

@@ -52,6 +52,8 @@ hand_for hands (events.Begin table row) = None
 hand_for hands (events.Act table name act) = hand_in hands table
 hand_for hands (events.Time table) = hand_in hands table
 hand_for hands (events.Settle table) = hand_in hands table
+hand_for hands (events.Balance from to) = None
+hand_for hands (events.Break table places names) = None
 hand_for hands events.Stop = None
 
 -- why a hand refuses an event, if it does
@@ -75,6 +77,8 @@ hands_effect apart (events.Act table name act) =
 hands_effect apart (events.Time table) =
     slice_set apart.hands table (option_map hand_after_time (hand_in apart.hands table))
 hands_effect apart (events.Settle table) = slice_set apart.hands table None
+hands_effect apart (events.Balance from to) = apart.hands
+hands_effect apart (events.Break table places names) = apart.hands
 hands_effect apart events.Stop = replicate (length apart.hands) None
 
 -- the book and the hands after an event

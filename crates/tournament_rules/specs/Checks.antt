@@ -1,14 +1,22 @@
 -- The checks of an event, in groups, each said once. This project's own.
-use Rattle.std.specs.Prelude.{ℕ, Bool, true, not, nat_lt, ◌==◌, ◌&&◌, ◌||◌, List, [], ◌∷◌, ◌++◌, length, Option, is_some}
+use Rattle.std.specs.Prelude.{ℕ, Bool, true, false, not, nat_lt, ◌==◌, ◌&&◌, ◌||◌, List, [], ◌∷◌, ◌++◌, length, Option, is_some}
+use Rattle.std.specs.List.{list_any}
+use Rattle.std.specs.Option.{option_map_or}
 use Rattle.rulebook.specs.Checks.{first_that_holds}
 use Rattle.floor_text.specs.declared.refusal.Refusal.{Refusal}
-use Rattle.floor_text.specs.declared.refusal.Refusal.TheVariants.{PlanLate, Stopped, NameKnown, NameUnknown, NoTable, NoSeat, SeatTaken, LateClosed, Playing, NotPlaying, Lone, DeckWrong, NotOver, Over, ListFull}
+use Rattle.floor_text.specs.declared.refusal.Refusal.TheVariants.{PlanLate, Stopped, NameKnown, NameUnknown, NoTable, NoSeat, SeatTaken, NotFewest, LateClosed, Playing, NotPlaying, Lone, Halted, RaceDue, DeckWrong, NotOver, NotNextToBreak, NoRoom, DrawWrong, RoundOpen, Over, ListFull}
 use Rattle.card_set.specs.declared.card.CardRow.{CardRow}
 use Rattle.card_set.specs.Decks.{repeats_a_card}
 use Rattle.entry_list.specs.Entries.{is_known, is_full}
-use Rattle.seat_book.specs.Counts.{count_at}
+use Rattle.seat_book.specs.declared.place.Place.{Place}
+use Rattle.seat_book.specs.Counts.{count_at, is_open, table_numbers}
 use Rattle.seat_book.specs.Players.{player_at}
 use Rattle.seat_book.specs.Tables.{status_at}
+use Rattle.balance_rule.specs.Halting.{is_halted}
+use Rattle.balance_rule.specs.Balance.{balance_checks}
+use Rattle.balance_rule.specs.Filling.{lacks_room, fill_seats}
+use Rattle.balance_rule.specs.Moves.{is_race_pending, is_round_open}
+use Rattle.break_draw.specs.Draws.{is_draw}
 use Rattle.table_engine.specs.Hands.{HandTerms, is_over}
 use Rattle.table_engine.specs.Acts.{act_checks, time_checks}
 use Rattle.floor_events.specs.declared.event.Event.{Event}
@@ -26,6 +34,12 @@ is_table_open book table = has_table book table && nat_lt 0 (count_at book.seati
 -- whether a table may be entered: any table of the plan before the first `begin`, and an open one afterwards
 abbrev pub may_be_entered : BookState → ℕ → Bool
 may_be_entered book table = has_table book table && (book.begun == 0 || nat_lt 0 (count_at book.seating.players table))
+
+-- whether another table that may be entered has fewer players
+abbrev pub is_not_fewest : BookState → ℕ → Bool
+is_not_fewest book table =
+    let count = count_at book.seating.players in
+    list_any (λ other. may_be_entered book other && nat_lt (count other) (count table)) (table_numbers book.plan.tables)
 
 -- whether a player sits in a seat of a table
 abbrev pub is_taken : BookState → ℕ → ℕ → Bool
@@ -56,7 +70,8 @@ abbrev pub seat_checks : BookState → ℕ → ℕ → List Check
 seat_checks book table seat =
     (NoTable, not (may_be_entered book table)) ∷
     (NoSeat, not (has_seat_number book seat)) ∷
-    (SeatTaken, is_taken book table seat) ∷ []
+    (SeatTaken, is_taken book table seat) ∷
+    (NotFewest, is_not_fewest book table) ∷ []
 
 -- entries are open
 abbrev pub entry_checks : BookState → List Check
@@ -78,7 +93,8 @@ abbrev pub table_checks : BookState → ℕ → List Check
 table_checks book table =
     (NoTable, not (is_table_open book table)) ∷
     (Playing, is_playing book table) ∷
-    (Lone, count_at book.seating.players table == 1) ∷ []
+    (Lone, count_at book.seating.players table == 1) ∷
+    (Halted, is_halted book.seating table) ∷ []
 
 -- the row is a deck
 abbrev pub deck_checks : CardRow → List Check
@@ -110,8 +126,47 @@ before_hand_checks book table = going_checks book ++ playing_checks book table
 abbrev pub end_checks : HandTerms → List Check
 end_checks hand = (NotOver, not (is_over hand)) ∷ []
 
--- The checks that the book makes of an event, in their order. With one table and one level, that another table has
--- fewer players, that a table is halted, that a race is pending and that a round is open cannot hold.
+-- players may leave a table: no hand is played there, and no race is pending at any table
+abbrev pub leaving_checks : BookState → ℕ → List Check
+leaving_checks book table =
+    (Playing, is_playing book table) ∷
+    (RaceDue, is_race_pending book.seating) ∷ []
+
+-- no table has begun in a round of hand-for-hand
+abbrev pub round_checks : BookState → List Check
+round_checks book = (RoundOpen, is_round_open book.seating) ∷ []
+
+-- all checks of a balance
+abbrev pub all_balance_checks : BookState → ℕ → ℕ → List Check
+all_balance_checks book from to =
+    going_checks book ++ (NoTable, not (is_table_open book from && is_table_open book to))
+    ∷ leaving_checks book from ++ balance_checks book.seating from to ++ round_checks book
+
+-- whether an open table has a higher number
+abbrev pub is_not_last : BookState → ℕ → Bool
+is_not_last book table =
+    list_any (λ other. is_open book.seating.players other && nat_lt table other) (table_numbers book.plan.tables)
+
+-- whether the places and the names of a break are an order of the fill list of its table and of its players' names
+abbrev pub is_right_draw : BookState → ℕ → List Place → List (List ℕ) → Bool
+is_right_draw book table places names =
+    option_map_or (λ fill. is_draw book.seating table fill places names) (fill_seats book.seating table) false
+
+-- a table may break so
+abbrev pub draw_checks : BookState → ℕ → List Place → List (List ℕ) → List Check
+draw_checks book table places names =
+    (NotNextToBreak, is_not_last book table) ∷
+    (NoRoom, lacks_room book.seating table) ∷
+    (DrawWrong, not (is_right_draw book table places names)) ∷ []
+
+-- all checks of a break
+abbrev pub break_checks : BookState → ℕ → List Place → List (List ℕ) → List Check
+break_checks book table places names =
+    going_checks book ++ (NoTable, not (is_table_open book table))
+    ∷ leaving_checks book table ++ draw_checks book table places names ++ round_checks book
+
+-- The checks that the book makes of an event, in their order. With one level and no hand-for-hand, that a race is
+-- pending at a table and that it has begun in a round cannot hold where a hand begins.
 abbrev pub book_checks : BookState → Event → List Check
 book_checks book (events.Plan line) = (PlanLate, true) ∷ []
 book_checks book events.Go = (PlanLate, true) ∷ []
@@ -120,6 +175,8 @@ book_checks book (events.Begin table row) = begin_checks book table row
 book_checks book (events.Act table name act) = before_act_checks book table name
 book_checks book (events.Time table) = before_hand_checks book table
 book_checks book (events.Settle table) = before_hand_checks book table
+book_checks book (events.Balance from to) = all_balance_checks book from to
+book_checks book (events.Break table places names) = break_checks book table places names
 book_checks book events.Stop = going_checks book
 
 -- The checks that a hand makes of an event at its table, after those of the book.
@@ -131,6 +188,8 @@ hand_checks hand (events.Begin table row) = []
 hand_checks hand (events.Act table name act) = act_checks hand name act
 hand_checks hand (events.Time table) = time_checks hand
 hand_checks hand (events.Settle table) = end_checks hand
+hand_checks hand (events.Balance from to) = []
+hand_checks hand (events.Break table places names) = []
 hand_checks hand events.Stop = []
 
 -- why the book refuses an event, if it does

@@ -5,11 +5,13 @@ use Rattle.card_set.specs.declared.card.Card.{Card}
 use Rattle.level_plan.specs.Plans.{PlanTerms, unit_of_level}
 use Rattle.button_blinds.specs.declared.marks.Marks.{Marks}
 use Rattle.place_list.specs.declared.bust.Bust.{Bust}
+use Rattle.seat_book.specs.declared.place.Place.{Place}
 use Rattle.seat_book.specs.declared.seated.Seated.{Seated}
 use Rattle.seat_book.specs.declared.table_status.TableStatus.{TableStatus}
 use Rattle.seat_book.specs.Seatings.{Seating, empty_seating}
 use Rattle.seat_book.specs.Players.{sit_down}
 use Rattle.seat_book.specs.Tables.{status_at, with_status, fresh_status}
+use Rattle.balance_rule.specs.Balance.{balance_move, after_move}
 use Rattle.table_engine.specs.declared.start.StartSeat.{StartSeat}
 use Rattle.table_engine.specs.Hands.{HandTerms}
 use Rattle.table_engine.specs.Results.{stack_after_hand, players_after}
@@ -18,6 +20,7 @@ use Rattle.floor_events.specs.declared.event.Event.TheVariants as events
 use Rattle.tournament_rules.specs.Books.{BookState, start_at, no_hands}
 use Rattle.tournament_rules.specs.Players.{dealt_in, put_back, stayed}
 use Rattle.tournament_rules.specs.Dealing.{next_at, next_start}
+use Rattle.tournament_rules.specs.Moving.{after_all}
 
 -- a table before any hand, with the unit of the first level
 abbrev pub first_status : PlanTerms → TableStatus
@@ -124,6 +127,24 @@ void_first book (suc tables) = void_at (void_first book tables) (suc tables)
 abbrev pub stopped_book : BookState → BookState
 stopped_book book = record (void_first book book.plan.tables) { stopped = true; accepted = book.accepted + 1 }
 
+-- the book once two tables are balanced: the next big blind of the one moves to the other, with his stack
+abbrev pub balanced : BookState → ℕ → ℕ → BookState
+balanced book from to = record book {
+  seating = option_map_or (λ order. after_move order book.seating) (balance_move book.seating from to) book.seating;
+  accepted = book.accepted + 1;
+}
+
+-- a table whose marks are forgotten
+abbrev pub forgotten : TableStatus → TableStatus
+forgotten status = record status { marks = None }
+
+-- the book once a table broke: its marks are forgotten, and its players took places at other tables, in turn
+abbrev pub broken : BookState → ℕ → List Place → List (List ℕ) → BookState
+broken book table places names = record book {
+  seating = after_all table names places (with_table book.seating table forgotten);
+  accepted = book.accepted + 1;
+}
+
 -- what an accepted event makes of the book, with the hand that it is about, if there is one
 abbrev pub book_effect : BookState → Option HandTerms → Event → BookState
 book_effect book hand (events.Plan line) = book
@@ -133,4 +154,6 @@ book_effect book hand (events.Begin table row) = begun_book book table row.cards
 book_effect book hand (events.Act table name act) = book
 book_effect book hand (events.Time table) = book
 book_effect book hand (events.Settle table) = option_map_or (settled book) hand book
+book_effect book hand (events.Balance from to) = balanced book from to
+book_effect book hand (events.Break table places names) = broken book table places names
 book_effect book hand events.Stop = stopped_book book

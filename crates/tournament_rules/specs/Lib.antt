@@ -2,6 +2,7 @@ pub mod Books
 pub mod Players
 pub mod Dealing
 pub mod Checks
+pub mod Moving
 pub mod Effects
 pub mod States
 pub mod Chips

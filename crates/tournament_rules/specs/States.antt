@@ -1,13 +1,9 @@
 -- The state of a tournament, what an event is answered, and what it makes of the state. This project's own.
-use Rattle.std.specs.Prelude.{ℕ, ◌+◌, Bool, true, false, List, [], ◌∷◌, ◌++◌, length, replicate, slice_index_or, slice_set, Option, Some, None, is_none, option_map, unwrap_or, if◌then◌else◌}
+use Rattle.std.specs.Prelude.{ℕ, ◌+◌, Bool, true, false, List, [], ◌∷◌, ◌++◌, length, replicate, slice_index_or, slice_set, Option, Some, None, is_none, option_map, if◌then◌else◌}
 use Rattle.std.specs.Option.{option_map_or}
 use Rattle.rulebook.specs.Checks.{first_that_holds}
 use Rattle.floor_text.specs.declared.refusal.Refusal.{Refusal}
-use Rattle.floor_text.specs.declared.refusal.Refusal.TheVariants.{NoPlan, NotBuilt}
-use Rattle.level_plan.specs.declared.bounds.TheConstants.{MOST_TABLES}
-use Rattle.level_plan.specs.declared.line.PlanLine.{PlanLine}
-use Rattle.level_plan.specs.declared.line.PlanLine.TheVariants as lines
-use Rattle.level_plan.specs.Items.{is_between}
+use Rattle.floor_text.specs.declared.refusal.Refusal.TheVariants.{NoPlan}
 use Rattle.level_plan.specs.Plans.{PlanTerms}
 use Rattle.level_plan.specs.Drafts.{Draft, empty_draft, is_wrong_line, item_of_line, draft_after, go_fault, plan_of}
 use Rattle.seat_book.specs.declared.seated.Seated.{Seated}
@@ -66,6 +62,8 @@ hand_of play (events.Begin table row) = None
 hand_of play (events.Act table name act) = hand_at play table
 hand_of play (events.Time table) = hand_at play table
 hand_of play (events.Settle table) = hand_at play table
+hand_of play (events.Balance from to) = None
+hand_of play (events.Break table places names) = None
 hand_of play events.Stop = None
 
 -- the table of an event that is an act of a player or a called time, if it is one
@@ -77,6 +75,8 @@ act_table (events.Begin table row) = None
 act_table (events.Act table name act) = Some table
 act_table (events.Time table) = Some table
 act_table (events.Settle table) = None
+act_table (events.Balance from to) = None
+act_table (events.Break table places names) = None
 act_table events.Stop = None
 
 -- why an event is refused once there is a plan, if it is: the checks of the book come first, and then those of the hand
@@ -85,32 +85,18 @@ refusal_of play event =
     first_that_holds
     (book_checks play.book event ++ option_map_or (λ hand. hand_checks hand event) (hand_of play event) [])
 
--- more tables than one are not carried out yet
-abbrev pub is_not_built : PlanLine → Bool
-is_not_built (lines.Game game) = false
-is_not_built (lines.Tables n) = is_between 2 MOST_TABLES n
-is_not_built (lines.Seats n) = false
-is_not_built (lines.Stack n) = false
-is_not_built (lines.Buyin n) = false
-is_not_built (lines.Late n) = false
-is_not_built (lines.Blinds small big unit) = false
-is_not_built (lines.Shares shares) = false
-
--- the checks of a plan line
-abbrev pub line_checks : Draft → PlanLine → List (Answer × Bool)
-line_checks draft line =
-    (PlanWrong (item_of_line line), is_wrong_line draft line) ∷
-    (No NotBuilt, is_not_built line) ∷ []
-
 -- the answer to an event before there is a plan: the plan's own are checked, and all others have no plan
 abbrev pub planning_answer : Draft → Event → Answer
-planning_answer draft (events.Plan line) = unwrap_or (first_that_holds (line_checks draft line)) Ok
+planning_answer draft (events.Plan line) =
+    if is_wrong_line draft line then PlanWrong (item_of_line line) else Ok
 planning_answer draft events.Go = option_map_or PlanWrong (go_fault draft) Ok
 planning_answer draft (events.Enter name table seat) = No NoPlan
 planning_answer draft (events.Begin table row) = No NoPlan
 planning_answer draft (events.Act table name act) = No NoPlan
 planning_answer draft (events.Time table) = No NoPlan
 planning_answer draft (events.Settle table) = No NoPlan
+planning_answer draft (events.Balance from to) = No NoPlan
+planning_answer draft (events.Break table places names) = No NoPlan
 planning_answer draft events.Stop = No NoPlan
 
 -- the answer that tells this refusal, or that there is none
@@ -134,6 +120,8 @@ acts_effect acts hand (events.Act table name act) =
 acts_effect acts hand (events.Time table) =
     slice_set acts table (option_map_or (λ hand. (hand_after_time hand).acts) hand [])
 acts_effect acts hand (events.Settle table) = slice_set acts table []
+acts_effect acts hand (events.Balance from to) = acts
+acts_effect acts hand (events.Break table places names) = acts
 acts_effect acts hand events.Stop = replicate (length acts) []
 
 -- what an accepted event makes of a tournament whose plan is whole
@@ -151,6 +139,8 @@ planning_effect state (events.Begin table row) = state
 planning_effect state (events.Act table name act) = state
 planning_effect state (events.Time table) = state
 planning_effect state (events.Settle table) = state
+planning_effect state (events.Balance from to) = state
+planning_effect state (events.Break table places names) = state
 planning_effect state events.Stop = state
 
 -- what an accepted event makes of the state, but for the count of accepted events

@@ -10,7 +10,9 @@ use Rattle.level_plan.specs.Drafts.{IsLawful}
 use Rattle.entry_list.specs.declared.entries.TheConstants.{MOST_ENTRIES}
 use Rattle.place_list.specs.declared.bust.Bust.{Bust}
 use Rattle.seat_book.specs.declared.seated.Seated.{Seated}
+use Rattle.seat_book.specs.declared.table_status.TableStatus.{TableStatus}
 use Rattle.seat_book.specs.Players.{sits_at, is_numbered}
+use Rattle.seat_book.specs.Counts.{count_at}
 use Rattle.seat_book.specs.Tables.{status_at}
 use Rattle.seat_book.specs.Seatings.{Seating, IsSeating}
 use Rattle.table_engine.specs.declared.start.HandStart.{HandStart}
@@ -99,6 +101,10 @@ pub record AreChips (book : BookState) : Type 0 where
   pub units : (table : ℕ) → is_between 1 book.plan.tables table ≡ true → (status_at book.seating.tables table).unit
       ≡ unit_of_level book.plan.blinds book.level
 
+-- A table has marks only where somebody sits.
+abbrev pub AreMarked : List TableStatus → List Seated → Type 0
+AreMarked tables players = (table : ℕ) → ForSome (status_at tables table).marks (λ marks. 1 ≤ count_at players table)
+
 -- What holds of a book at every moment.
 pub record IsValid (book : BookState) : Type 0 where
   pub plan : IsPlanned book.plan book.level
@@ -107,6 +113,7 @@ pub record IsValid (book : BookState) : Type 0 where
   pub hands : AreOut book.plan book.level book.seating.players book.out
   pub busts : AreGrouped book.busts book.group
   pub chips : AreChips book
+  pub marked : AreMarked book.seating.tables book.seating.players
   -- a hand that began was an event, and so was what raised the group
   pub counted : book.begun ≤ book.accepted
   pub raised : book.group ≤ book.accepted
