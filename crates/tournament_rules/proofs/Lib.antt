@@ -4,6 +4,7 @@ pub mod Moved
 pub mod Remaining
 pub mod Balances
 pub mod Breaks
+pub mod Left
 pub mod Outs
 pub mod Restacked
 pub mod Paying
@@ -33,3 +34,5 @@ pub mod Elsewhere
 pub mod WhoIsOut
 pub mod Growing
 pub mod TheLast
+pub mod MoveLaws
+pub mod TableLaws

@@ -1,6 +1,6 @@
 //! Laws of the tournament, over every list of events, lawful or not.
 
-ghost use Rattle.std.specs.Prelude.{◌≡◌, ◌≢◌, ◌+◌, ◌<◌, ◌%◌, ℕ, nat_le, List, [], ◌∷◌, true, false, Some, None, length, map, filter, take, count_by, slice_get};
+ghost use Rattle.std.specs.Prelude.{◌≡◌, ◌≢◌, ◌+◌, ◌<◌, ◌≤◌, ◌%◌, ℕ, nat_le, List, [], ◌∷◌, true, false, Some, None, length, map, filter, take, count_by, slice_get};
 ghost use Rattle.std.specs.List.{All};
 ghost use Rattle.std.specs.Option.{ForSome};
 ghost use Rattle.rulebook.specs.Pairs.{is_pairwise};
@@ -10,15 +10,20 @@ ghost use Rattle.card_set.specs.declared.card.Card.{Card};
 ghost use Rattle.card_set.specs.declared.card.CardRow.{CardRow};
 ghost use Rattle.betting_round.specs.declared.act.Act.{Act};
 ghost use Rattle.floor_events.specs.declared.event.Event.{Event};
-ghost use Rattle.floor_events.specs.declared.event.Event.TheVariants.{Go, Begin, Act as Acts};
+ghost use Rattle.floor_events.specs.declared.event.Event.TheVariants.{Go, Enter, Begin, Act as Acts, Balance, Break};
 ghost use Rattle.floor_events.specs.declared.answer.Answer.TheVariants.{Ok};
-ghost use Rattle.seat_book.specs.Players.{is_numbered, sits_at, are_in_order};
+ghost use Rattle.seat_book.specs.declared.place.Place.{Place};
+ghost use Rattle.seat_book.specs.Players.{is_numbered, sits_at, players_at, are_in_order};
+ghost use Rattle.seat_book.specs.Counts.{count_at, is_open};
 ghost use Rattle.seat_book.specs.Tables.{status_at};
+ghost use Rattle.balance_rule.specs.declared.balance.Move.{Move};
+ghost use Rattle.balance_rule.specs.Halting.{is_halted};
+ghost use Rattle.balance_rule.specs.Moves.{Balance as ByBalance, Break as ByBreak, IsLawfulMove};
 ghost use Rattle.table_engine.specs.Starts.{IsLawfulStart};
 ghost use Rattle.table_engine.specs.Plays.{IsLawfulPlay};
 ghost use Rattle.tournament_rules.specs.Books.{start_at, players_out};
 ghost use Rattle.tournament_rules.specs.Players.{is_among, is_in_hand, start_seat};
-ghost use Rattle.tournament_rules.specs.Checks.{is_over_for_all};
+ghost use Rattle.tournament_rules.specs.Checks.{may_be_entered, is_over_for_all};
 ghost use Rattle.tournament_rules.specs.Dealing.{next_start};
 ghost use Rattle.tournament_rules.specs.States.{PlayState, first_state, first_play, hand_at, act_table, play_after, answer_to, answers, answers_in_play, state_after, run, players_of};
 ghost use Rattle.tournament_rules.specs.Chips.{sold, rest, play, sold_by};
@@ -118,6 +123,58 @@ pub fn starts_are_lawful()
     ensures { (events : List Event) (table : ℕ) (row : CardRow) → ForSome (run first_state events).play (λ play.
         answer_to (run first_state events) (Begin table row) ≡ Ok
         → IsLawfulStart (next_start play.book table row.cards)) }
+{}
+
+/// After any list of events, each balance and each break that is accepted is a lawful move where it stands.
+pub fn moves_are_lawful()
+    ensures balances { (events : List Event) (from to : ℕ) → ForSome (run first_state events).play (λ play.
+        answer_to (run first_state events) (Balance from to) ≡ Ok
+        → (order : Move) × IsLawfulMove play.book.seating (ByBalance from to order)) }
+    ensures breaks { (events : List Event) (table : ℕ) (places : List Place) (names : List (List ℕ))
+        → ForSome (run first_state events).play (λ play.
+        answer_to (run first_state events) (Break table places names) ≡ Ok
+        → IsLawfulMove play.book.seating (ByBreak table places names)) }
+{}
+
+/// After any list of events, nobody is in hands at two tables.
+pub fn nobody_is_dealt_in_at_two_tables()
+    ensures { (events : List Event) (number table other : ℕ) → ForSome (run first_state events).play (λ play.
+        is_among number (players_out (start_at play.book.out table)) ≡ true
+        → is_among number (players_out (start_at play.book.out other)) ≡ true → table ≡ other) }
+{}
+
+/// After any list of events, a table that is not open has no players, no hand and no marks.
+pub fn a_table_that_is_not_open_is_bare()
+    ensures players { (events : List Event) (table : ℕ) → ForSome (run first_state events).play (λ play.
+        is_open play.book.seating.players table ≡ false → players_at play.book.seating.players table ≡ []) }
+    ensures hand { (events : List Event) (table : ℕ) → ForSome (run first_state events).play (λ play.
+        is_open play.book.seating.players table ≡ false → start_at play.book.out table ≡ None) }
+    ensures marks { (events : List Event) (table : ℕ) → ForSome (run first_state events).play (λ play.
+        is_open play.book.seating.players table ≡ false → (status_at play.book.seating.tables table).marks ≡ None) }
+{}
+
+/// After any list of events and a break that is accepted, nobody sits at the table that broke.
+pub fn a_broken_table_is_left()
+    ensures { (events : List Event) (table : ℕ) (places : List Place) (names : List (List ℕ))
+        → ForSome (run first_state events).play (λ play.
+        answer_to (run first_state events) (Break table places names) ≡ Ok
+        → players_at (players_of (state_after (run first_state events) (Break table places names))) table ≡ []) }
+{}
+
+/// After any list of events, a halted table begins no hand: it waits until the gap is smaller.
+pub fn halted_tables_wait()
+    ensures { (events : List Event) (table : ℕ) (row : CardRow) → ForSome (run first_state events).play (λ play.
+        is_halted play.book.seating table ≡ true → answer_to (run first_state events) (Begin table row) ≢ Ok) }
+{}
+
+/// After any list of events and an entry that is accepted, its table has at most one player more than any other that
+/// could be entered.
+pub fn entries_go_to_the_fewest()
+    ensures { (events : List Event) (name : List ℕ) (table seat other : ℕ)
+        → ForSome (run first_state events).play (λ play.
+        answer_to (run first_state events) (Enter name table seat) ≡ Ok → may_be_entered play.book other ≡ true
+        → count_at (players_of (state_after (run first_state events) (Enter name table seat))) table
+        ≤ count_at (players_of (state_after (run first_state events) (Enter name table seat))) other + 1) }
 {}
 
 /// A book and the hands that are out, each by itself, run over any list of events, answer as the tournament does: as
