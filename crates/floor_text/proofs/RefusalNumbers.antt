@@ -3,7 +3,7 @@ use Rattle.std.proofs.Common.{◌≡◌, ℕ, List, [], ◌∷◌, refl, ap, sym
 use Rattle.std.specs.Prelude.{cond, ◌==◌}
 use Rattle.std.specs.Str.{bytes_eq}
 use Rattle.floor_text.specs.declared.refusal.Refusal.{Refusal}
-use Rattle.floor_text.specs.declared.refusal.Refusal.TheVariants.{Syntax, NoPlan, PlanLate, PlanWrong, Stopped, NameKnown, NameUnknown, NoTable, NoSeat, SeatTaken, NotFewest, LateClosed, Playing, NotPlaying, Lone, Halted, RaceDue, RoundDone, DeckWrong, NotDealt, NotTurn, HandOver, NotOver, CheckFacing, NothingToCall, BetFacing, NothingToRaise, TooSmall, PastStack, PastPot, NotReopened, NotUnit, NotFullest, NotShortest, EvenEnough, NotNextToBreak, NoRoom, DrawWrong, LastLevel, RoundOpen, SwitchWrong, NoRace, Over, ListFull, NotBuilt}
+use Rattle.floor_text.specs.declared.refusal.Refusal.TheVariants.{Syntax, NoPlan, PlanLate, PlanWrong, Stopped, NameKnown, NameUnknown, NoTable, NoSeat, SeatTaken, NotFewest, LateClosed, Playing, NotPlaying, Lone, Halted, RaceDue, RoundDone, DeckWrong, NotDealt, NotTurn, HandOver, NotOver, CheckFacing, NothingToCall, BetFacing, NothingToRaise, TooSmall, PastStack, PastPot, NotReopened, NotUnit, NotFullest, NotShortest, EvenEnough, NotNextToBreak, NoRoom, DrawWrong, LastLevel, RoundOpen, SwitchWrong, NoRace, Over, ListFull}
 use Rattle.floor_text.specs.Refusals.{refusal_number, refusal_name}
 
 abbrev refusals : List Refusal
@@ -11,14 +11,14 @@ refusals = Syntax ∷ NoPlan ∷ PlanLate ∷ PlanWrong ∷ Stopped ∷ NameKnow
     NotFewest ∷ LateClosed ∷ Playing ∷ NotPlaying ∷ Lone ∷ Halted ∷ RaceDue ∷ RoundDone ∷ DeckWrong ∷ NotDealt ∷ NotTurn
     ∷ HandOver ∷ NotOver ∷ CheckFacing ∷ NothingToCall ∷ BetFacing ∷ NothingToRaise ∷ TooSmall ∷ PastStack ∷ PastPot ∷
     NotReopened ∷ NotUnit ∷ NotFullest ∷ NotShortest ∷ EvenEnough ∷ NotNextToBreak ∷ NoRoom ∷ DrawWrong ∷ LastLevel ∷
-    RoundOpen ∷ SwitchWrong ∷ NoRace ∷ Over ∷ ListFull ∷ NotBuilt ∷ []
+    RoundOpen ∷ SwitchWrong ∷ NoRace ∷ Over ∷ ListFull ∷ []
 
 abbrev first_with_number : ℕ → List Refusal → Refusal
-first_with_number n [] = NotBuilt
+first_with_number n [] = Syntax
 first_with_number n (r ∷ rs) = cond (refusal_number r == n) r (first_with_number n rs)
 
 abbrev first_with_name : List ℕ → List Refusal → Refusal
-first_with_name name [] = NotBuilt
+first_with_name name [] = Syntax
 first_with_name name (r ∷ rs) = cond (bytes_eq (refusal_name r) name) r (first_with_name name rs)
 
 from_number : (r : Refusal) → first_with_number (refusal_number r) refusals ≡ r
@@ -66,7 +66,6 @@ from_number SwitchWrong = refl
 from_number NoRace = refl
 from_number Over = refl
 from_number ListFull = refl
-from_number NotBuilt = refl
 
 from_name : (r : Refusal) → first_with_name (refusal_name r) refusals ≡ r
 from_name Syntax = refl
@@ -113,7 +112,6 @@ from_name SwitchWrong = refl
 from_name NoRace = refl
 from_name Over = refl
 from_name ListFull = refl
-from_name NotBuilt = refl
 
 pub same_number : (r s : Refusal) → refusal_number r ≡ refusal_number s → r ≡ s
 same_number r s e = sym (from_number r) ∙ ap (λ n. first_with_number n refusals) e ∙ from_number s

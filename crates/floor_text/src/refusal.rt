@@ -4,7 +4,7 @@ ghost use Rattle.std.specs.Prelude.{◌≡◌};
 ghost use Rattle.floor_text.specs.declared.refusal.Refusal.{Refusal};
 ghost use Rattle.floor_text.specs.Refusals.{refusal_number, refusal_name};
 
-/// Why an event is refused. The numbers are 1 to 44 in this order, and 99 for `NotBuilt`.
+/// Why an event is refused. The numbers are 1 to 44 in this order.
 #[derive(Clone, Copy, Debug, PartialEq, Eq)]
 pub enum Refusal {
     /// The line is not in the grammar.
@@ -95,8 +95,6 @@ pub enum Refusal {
     Over,
     /// 640 names are in the entry list.
     ListFull,
-    /// The answer to an event that this program does not carry out yet.
-    NotBuilt,
 }
 
 impl Refusal {
@@ -149,7 +147,6 @@ impl Refusal {
             Refusal::NoRace => 42,
             Refusal::Over => 43,
             Refusal::ListFull => 44,
-            Refusal::NotBuilt => 99,
         }
     }
 
@@ -202,7 +199,6 @@ impl Refusal {
             Refusal::NoRace => "NoRace",
             Refusal::Over => "Over",
             Refusal::ListFull => "ListFull",
-            Refusal::NotBuilt => "NotBuilt",
         }
     }
 }
