@@ -3,7 +3,7 @@
 #![tactic(auto)]
 
 use floor_offline::run_offline;
-use floor_text::{ReaderSource, Sink, WriterSink};
+use floor_text::{BufferedSink, ReaderSource, Sink, WriterSink};
 use std::io::{self, ErrorKind};
 use std::process::ExitCode;
 use std::rt::Env;
@@ -26,7 +26,7 @@ fn out_of_memory(err: &mut impl Sink) -> ExitCode {
 fn main(rt: HostRuntime) -> ExitCode {
     let mut input = ReaderSource::new(rt.stdin());
     let mut err = WriterSink::new(rt.stderr());
-    let Ok(mut out) = WriterSink::buffered(rt.alloc(), rt.stdout()) else {
+    let Ok(mut out) = BufferedSink::new(rt.alloc(), rt.stdout()) else {
         return out_of_memory(&mut err);
     };
     let words = match command_words(&rt) {

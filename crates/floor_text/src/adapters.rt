@@ -1,9 +1,9 @@
-//! A source over a reader and a sink over a writer of the standard library. A source tells no bytes; a
+//! A source over a reader and sinks over a writer of the standard library. A source tells no bytes; a
 //! sink tells what its writer tells, which is none for a terminal, a file or a socket.
 
-ghost use Rattle.std.specs.Prelude.{◌≡◌, ◌≤◌, ◌<◌, ◌++◌, Some, None, length, take, IfOk, IfSome, IsNone, is_err, if◌then◌else◌};
+ghost use Rattle.std.specs.Prelude.{◌≡◌, ◌≤◌, ◌<◌, [], ◌++◌, Some, None, length, take, IfOk, IfSome, IsNone, is_err, if◌then◌else◌};
 ghost use Rattle.std.specs.Io.KnownBytes.{Keeps};
-ghost use Rattle.floor_text.specs.Outside.{Takes, Puts};
+ghost use Rattle.floor_text.specs.Outside.{HasCause, Takes, Puts};
 
 use crate::limits::BLOCK;
 use crate::outside::{Failed, Sink, Source};
@@ -33,11 +33,8 @@ impl<R: Read> Source for ReaderSource<R> {
 
     /// Reads once, or again where the read was interrupted. Any other error is a fault, and is counted.
     fn take(&mut self, buffer: &mut [u8]) -> Result<usize, Failed> {
-        let Some(n) = read_once(&mut self.reader, buffer) else {
-            self.faults = self.faults.saturating_add(1);
-            return Err(Failed);
-        };
-        Ok(n)
+        let taken = read_once(&mut self.reader, buffer).ok_or(Failed);
+        count_fault(&mut self.faults, taken)
     }
 }
 
@@ -58,7 +55,7 @@ fn read_once<R: Read>(reader: &mut R, buffer: &mut [u8]) -> Option<usize>
     None
 }
 
-/// A sink over a writer.
+/// A sink over a writer. It holds nothing back itself, and does not know what its writer holds back.
 #[derive(Drop)]
 pub struct WriterSink<W> {
     writer: W,
@@ -75,23 +72,12 @@ impl<W: Write> WriterSink<W> {
     }
 }
 
-impl<W: Write + Drop> WriterSink<BufWriter<W>> {
-    /// A sink over this writer that holds back up to 64 KiB: what is put is written where there is no more
-    /// room for it, and at a flush. It takes the room that it needs.
-    pub fn buffered(alloc: Global, writer: W) -> Result<WriterSink<BufWriter<W>>, AllocError>
-        ensures written { IfOk result (λ sink. IfSome (W.contents writer)
-            (λ bytes. ⟦<WriterSink<BufWriter<W>> as Sink>⟧.written sink ≡ Some bytes)) }
-        ensures faults { IfOk result (λ sink. ⟦<WriterSink<BufWriter<W>> as Sink>⟧.faults sink ≡ 0) }
-    {
-        match BufWriter::with_capacity(alloc, BLOCK, writer) {
-            Ok(buffered) => Ok(WriterSink::new(buffered)),
-            Err(_) => Err(AllocError),
-        }
-    }
-}
-
 impl<W: Write> Sink for WriterSink<W> {
+    ghost use Rattle.floor_text.specs.Outside.{ends_with_none};
+
     ghost written = { λ s. W.contents s.writer };
+
+    ghost held = { λ _. [] };
 
     ghost faults = { λ s. s.faults };
 
@@ -99,20 +85,76 @@ impl<W: Write> Sink for WriterSink<W> {
     /// none of the bytes is a fault, as any other error is, and is counted.
     fn put(&mut self, bytes: &[u8]) -> Result<(), Failed> {
         let result = write_whole(&mut self.writer, bytes);
-        if result.is_err() {
-            self.faults = self.faults.saturating_add(1);
-        }
-        result
+        count_fault(&mut self.faults, result)
     }
 
     /// Flushes the writer. An error is a fault, and is counted.
     fn flush(&mut self) -> Result<(), Failed> {
-        if self.writer.flush().is_err() {
-            self.faults = self.faults.saturating_add(1);
-            return Err(Failed);
-        }
-        Ok(())
+        let result = self.writer.flush().map_err(|_| Failed);
+        count_fault(&mut self.faults, result)
     }
+
+    ghost held_last = { λ s. ends_with_none (W.contents s.writer) };
+}
+
+/// A sink over a writer that holds back up to 64 KiB: what is put is written where there is no more room for it, and at
+/// a flush.
+#[derive(Drop)]
+pub struct BufferedSink<W: Write + Drop> {
+    buffer: BufWriter<W>,
+    faults: u64,
+}
+
+impl<W: Write + Drop> BufferedSink<W> {
+    /// A sink over this writer, which has not failed yet and holds nothing back. It takes the room that it needs.
+    pub fn new(alloc: Global, writer: W) -> Result<BufferedSink<W>, AllocError>
+        ensures written { IfOk result (λ sink. IfSome (W.contents writer)
+            (λ bytes. ⟦<BufferedSink<W> as Sink>⟧.written sink ≡ Some bytes)) }
+        ensures held { IfOk result (λ sink. ⟦<BufferedSink<W> as Sink>⟧.held sink ≡ []) }
+        ensures faults { IfOk result (λ sink. ⟦<BufferedSink<W> as Sink>⟧.faults sink ≡ 0) }
+    {
+        match BufWriter::with_capacity(alloc, BLOCK, writer) {
+            Ok(buffer) => Ok(BufferedSink { buffer, faults: 0 }),
+            Err(_) => Err(AllocError),
+        }
+    }
+}
+
+impl<W: Write + Drop> Sink for BufferedSink<W> {
+    ghost use Rattle.std.specs.Io.Buffered.{writer_buffer, writer_contents, writer_inner};
+    ghost use Rattle.floor_text.specs.Outside.{ends_with_appended};
+
+    ghost written = { λ s. writer_contents W.contents s.buffer };
+
+    ghost held = { λ s. writer_buffer s.buffer };
+
+    ghost faults = { λ s. s.faults };
+
+    /// Holds the bytes back, or writes what it has no room for. A write is made again where it was interrupted; one
+    /// that takes none of the bytes is a fault, as any other error is, and is counted.
+    fn put(&mut self, bytes: &[u8]) -> Result<(), Failed> {
+        let result = write_whole(&mut self.buffer, bytes);
+        count_fault(&mut self.faults, result)
+    }
+
+    /// Writes what it holds back, and flushes the writer. An error is a fault, and is counted.
+    fn flush(&mut self) -> Result<(), Failed> {
+        let result = self.buffer.flush().map_err(|_| Failed);
+        count_fault(&mut self.faults, result)
+    }
+
+    ghost held_last = { λ s. ends_with_appended (W.contents (writer_inner s.buffer)) (writer_buffer s.buffer) };
+}
+
+/// Counts a fault where the call failed, and hands on what it answered.
+fn count_fault<T>(faults: &mut u64, answer: Result<T, Failed>) -> Result<T, Failed>
+    ensures same { result ≡ answer }
+    ensures cause { HasCause faults.old faults.new result }
+{
+    if answer.is_err() {
+        *faults = faults.saturating_add(1);
+    }
+    answer
 }
 
 fn write_whole<W: Write>(writer: &mut W, bytes: &[u8]) -> Result<(), Failed>

@@ -3,8 +3,8 @@
 //! It stands on no other crate. `Refusal` numbers and names each reason for which a line is refused;
 //! `Name` and `read_number` read exactly what the grammar has; `LineCutter` and `LineReader` cut a stream
 //! into the same lines; `Source` and `Sink` say what the outside tells of its bytes and that a failure has
-//! its cause there. `MemSource` and `MemSink` are the outside in memory, `ReaderSource` and `WriterSink`
-//! the standard library's readers and writers.
+//! its cause there. `MemSource` and `MemSink` are the outside in memory, `ReaderSource`, `WriterSink` and
+//! `BufferedSink` the standard library's readers and writers.
 #![tactic(auto)]
 
 mod adapters;
@@ -21,7 +21,7 @@ mod refusal;
 #[cfg(test)]
 mod tests;
 
-pub use adapters::{ReaderSource, WriterSink};
+pub use adapters::{BufferedSink, ReaderSource, WriterSink};
 pub use limits::{GREATEST_NUMBER, LONGEST_LINE, LONGEST_NAME};
 pub use line_cutter::{Cut, LineCutter};
 pub use line_reader::{LineReader, Next, ReadEnd};

@@ -173,8 +173,12 @@ impl MemSink {
 
 impl Sink for MemSink {
     ghost use Rattle.std.specs.Prelude.{Some};
+    ghost use Rattle.floor_text.specs.Outside.{ends_with_none};
 
     ghost written = { λ s. Some s.bytes };
+
+    /// None: it holds nothing back.
+    ghost held = { λ _. [] };
 
     ghost faults = { λ s. s.faults };
 
@@ -213,4 +217,6 @@ impl Sink for MemSink {
     {
         Ok(())
     }
+
+    ghost held_last = { λ s. ends_with_none (Some s.bytes) };
 }

@@ -1,7 +1,7 @@
 //! Where bytes come from and where they go.
 
-ghost use Rattle.std.specs.Prelude.{◌≡◌, ◌≤◌, ℕ, List, length, Option, Some, IfSome, IfOk, OnErr};
-ghost use Rattle.floor_text.specs.Outside.{HasCause, Takes, Puts};
+ghost use Rattle.std.specs.Prelude.{◌≡◌, ◌≤◌, ℕ, List, [], length, Option, Some, IfSome, IfOk, OnOk, OnErr};
+ghost use Rattle.floor_text.specs.Outside.{HasCause, Takes, Puts, EndsWith};
 
 /// The outside failed. Its count of faults says so too.
 #[derive(Clone, Copy, Debug, PartialEq, Eq)]
@@ -29,6 +29,9 @@ pub trait Sink {
     /// The bytes that were put, where it tells them.
     ghost written: { Self → Option (List ℕ) };
 
+    /// The bytes that were put and that it still holds back.
+    ghost held: { Self → List ℕ };
+
     /// How often it failed. The count never falls, and stands still at its type's end.
     ghost faults: { Self → ℕ };
 
@@ -37,11 +40,12 @@ pub trait Sink {
         ensures bytes { IfSome (written self.old) (λ before. Puts before bytes.now (written self.new) result) }
         ensures cause { HasCause (faults self.old) (faults self.new) result };
 
-    /// Lets go of what was held back of the bytes that were put. A sink that holds nothing back has nothing to do.
+    /// Lets go of all that it holds back. A sink that holds nothing back has nothing to do.
     fn flush(&mut self) -> Result<(), Failed>
         ensures kept { IfSome (written self.old) (λ before. written self.new ≡ Some before) }
-        ensures cause { HasCause (faults self.old) (faults self.new) result }
-    {
-        Ok(())
-    }
+        ensures let_go { OnOk result (held self.new ≡ []) }
+        ensures cause { HasCause (faults self.old) (faults self.new) result };
+
+    /// What is held back is the end of what was put.
+    ghost held_last: { (sink : Self) → IfSome (written sink) (λ bytes. EndsWith bytes (held sink)) };
 }

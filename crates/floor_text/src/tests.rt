@@ -1,6 +1,6 @@
 use crate::{
-    Cut, Failed, LineCutter, LineReader, List, MemSink, MemSource, Name, Next, ReadEnd,
-    ReaderSource, Refusal, Sink, Source, WriterSink, read_number, refusals_are_told_apart,
+    BufferedSink, Cut, Failed, LineCutter, LineReader, List, MemSink, MemSource, Name, Next,
+    ReadEnd, ReaderSource, Refusal, Sink, Source, WriterSink, read_number, refusals_are_told_apart,
 };
 use std::alloc::{AllocError, Global};
 use std::io::{self, Write};
@@ -168,7 +168,7 @@ impl Write for FullDevice {
 #[test]
 fn a_buffered_sink_fails_only_where_it_writes(rt: HostRuntime) -> Result<(), Fail> {
     let alloc = rt.alloc();
-    let mut sink = WriterSink::buffered(alloc, FullDevice)?;
+    let mut sink = BufferedSink::new(alloc, FullDevice)?;
     let block = vec![in alloc; b'a'; 65_536]?;
     for (bytes, put, flushed) in [
         (b"".as_slice(), Ok(()), Ok(())),
