@@ -86,10 +86,10 @@ fn show_answers<O: Sink>(reader: &LineReader, out: &mut O) -> Result<(), Fault>
     ensures write { OnErr result (Rose (O.faults out.old) (O.faults out.new)) }
     ensures others { IfErr result IsOfWriting }
 {
-    if !reader.holds_line() {
-        out.flush()?;
+    if reader.holds_line() {
+        return Ok(());
     }
-    Ok(())
+    Ok(out.flush()?)
 }
 
 /// Answers the next line, and tells whether there was one.
@@ -160,6 +160,7 @@ pub fn replay<I: Source, O: Sink>(alloc: Global, input: &mut I, out: &mut O) -> 
 /// Has `out` let go of all that was put, whatever came of the run. A failure of that is a failure of `out`.
 pub fn close<O: Sink>(ran: Result<(), Fault>, out: &mut O) -> Result<(), Fault>
     ensures kept { Keeps (O.written out.old) (O.written out.new) }
+    ensures let_go { OnOk result (O.held out.new ≡ []) }
     ensures later { O.faults out.old ≤ O.faults out.new }
     ensures ran { (result ≡ ran) ⊎ ((result ≡ Err Fault.Write) × Rose (O.faults out.old) (O.faults out.new)) }
 {

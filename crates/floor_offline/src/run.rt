@@ -45,10 +45,11 @@ pub fn run_offline<I: Source, O: Sink, E: Sink>(
 ) -> u8
     ensures statuses { Contains (0 ∷ 2 ∷ 3 ∷ 4 ∷ 5 ∷ 8 ∷ []) result }
 
-    // Status 0: the input was read to its end, and what was put is its replay.
+    // Status 0: the input was read to its end, and what was put is its replay, of which out holds nothing back.
     ensures read_to_end { result ≡ 0 → IfSome (I.left input.old) (λ _. I.left input.new ≡ Some []) }
     ensures replayed { result ≡ 0 → IfSome (I.left input.old)
         (λ bytes. IfSome (O.written out.old) (λ before. O.written out.new ≡ Some (before ++ replay_text bytes))) }
+    ensures let_go { result ≡ 0 → O.held out.new ≡ [] }
     ensures within_limit { result ≡ 0 → IfSome (I.left input.old) (λ bytes. length bytes ≤ INPUT_LIMIT) }
 
     // Status 2: exactly where the words are no written command, and then nothing is touched but err.
