@@ -17,7 +17,7 @@ use Rattle.floor_events.specs.declared.event.Item.TheVariants as found
 use Rattle.floor_events.specs.Words.{words_of_line}
 use Rattle.floor_events.specs.Grammar.{Reader, grammar, event_by, event_of_words, item_of_words, item_of_bytes}
 use Rattle.floor_events.specs.Spelling.{event_words, event_text, item_text, HasLineParts, IsWritable}
-use Rattle.floor_events.proofs.FieldLaws.{map_found, test_found, number_field, name_field, game_field, row_field, act_rest}
+use Rattle.floor_events.proofs.FieldLaws.{map_found, test_found, number_field, name_field, game_field, switch_field, row_field, act_rest}
 use Rattle.floor_events.proofs.PieceLaws.{shares_rest, places_field, names_field}
 use Rattle.floor_events.proofs.RowLaws.{Spells, Reads, row0, row1, row2, row3, row0_rest, row2_rest, fields0_again, fields1_again, fields2_again, fields3_again, rest0_again, rest2_again}
 use Rattle.floor_events.proofs.Spaces.{pieces_again}
@@ -60,6 +60,10 @@ own_rows =
     row1 (codes "settle") number_field events.Settle (λ a p. record { spelling = refl; parts = p }) ▸
     row2 (codes "balance") number_field number_field events.Balance
     (λ a b p q. record { spelling = refl; parts = (p, q) }) ▸
+    row0 (codes "level") events.Level (record { spelling = refl; parts = tt }) ▸
+    row2 (codes "race") number_field row_field events.Race (λ a b p q. record { spelling = refl; parts = p }) ▸
+    row1 (codes "hands") switch_field events.Hands (λ a p. record { spelling = refl; parts = p }) ▸
+    row0 (codes "round") events.Round (record { spelling = refl; parts = tt }) ▸
     row0 (codes "stop") events.Stop (record { spelling = refl; parts = tt }) ▸
     tt
 
@@ -87,6 +91,10 @@ again (events.Balance from to) parts =
     fields2_again number_field number_field events.Balance from to parts.0 parts.1
 again (events.Break table seats names) parts =
     fields3_again number_field places_field names_field events.Break table seats names parts.0 parts.1 parts.2
+again events.Level parts = fields0_again events.Level
+again (events.Race table row) parts = fields2_again number_field row_field events.Race table row parts tt
+again (events.Hands on) parts = fields1_again switch_field events.Hands on parts
+again events.Round parts = fields0_again events.Round
 again events.Stop parts = fields0_again events.Stop
 
 -- no word of an event has a space
@@ -129,6 +137,12 @@ words_of_text (events.Break table seats names) parts =
     pieces_again 32 (codes "break") _ (rw
     (number_field.spaceless table parts.0, places_field.spaceless seats parts.1, names_field.spaceless names parts.2)
     refl)
+words_of_text events.Level parts = pieces_again 32 (codes "level") [] refl
+words_of_text (events.Race table row) parts =
+    pieces_again 32 (codes "race") _ (rw (number_field.spaceless table parts, row_field.spaceless row tt) refl)
+words_of_text (events.Hands on) parts =
+    pieces_again 32 (codes "hands") _ (rw (switch_field.spaceless on parts) refl)
+words_of_text events.Round parts = pieces_again 32 (codes "round") [] refl
 words_of_text events.Stop parts = pieces_again 32 (codes "stop") [] refl
 
 row_or_later : (b : Bool) (row : List ℕ × Reader) (later : Option Event) (word : List ℕ) (words : List (List ℕ))

@@ -15,8 +15,8 @@ use Rattle.card_set.specs.Cards.{row_text, row_of}
 use Rattle.card_set.proofs.RowReading.{row_found, row_again}
 use Rattle.betting_round.specs.declared.act.Act.{Act}
 use Rattle.betting_round.specs.declared.act.Act.TheVariants.{Fold, Check, Call, AllIn, Bet, Raise}
-use Rattle.floor_events.specs.Spelling.{game_word, act_words, HasLineAmount}
-use Rattle.floor_events.specs.Fields.{◌>>=◌, meaning, game_list, game_of, act_list, amount_list, act_of, name_of, next_by}
+use Rattle.floor_events.specs.Spelling.{game_word, switch_word, act_words, HasLineAmount}
+use Rattle.floor_events.specs.Fields.{◌>>=◌, meaning, game_list, game_of, switch_list, switch_of, act_list, amount_list, act_of, name_of, next_by}
 use Rattle.floor_events.proofs.Spaces.{lacks, decimal_spaceless, name_spaceless, row_spaceless}
 
 -- the value of a step that found something
@@ -102,6 +102,23 @@ game_field = record {
       (meaning_found (λ word game. word ≡ game_word game) game_list word game (refl, (refl, (refl, tt))) h, tt);
   again = game_again;
   spaceless = game_spaceless;
+}
+
+switch_again : (on : Bool) → Unit {0} → switch_of (switch_word on) ≡ Some on
+switch_again true fits = refl
+switch_again false fits = refl
+
+switch_spaceless : (on : Bool) → Unit {0} → lacks 32 (switch_word on) ≡ true
+switch_spaceless true fits = refl
+switch_spaceless false fits = refl
+
+-- on or off
+pub switch_field : IsField switch_of switch_word (λ on. Unit {0})
+switch_field = record {
+  found = λ word on h.
+      (meaning_found (λ word on. word ≡ switch_word on) switch_list word on (refl, (refl, tt)) h, tt);
+  again = switch_again;
+  spaceless = switch_spaceless;
 }
 
 -- a row of cards

@@ -1,6 +1,6 @@
 -- How the fields of a line are read: a field is one word, and the last field of a row may be all words that are
 -- left. This project's own.
-use Rattle.std.specs.Prelude.{ℕ, ◌&&◌, nat_le, List, [], ◌∷◌, length, codes, Option, Some, None, option_map, option_and_then, if◌then◌else◌}
+use Rattle.std.specs.Prelude.{ℕ, Bool, true, false, ◌&&◌, nat_le, List, [], ◌∷◌, length, codes, Option, Some, None, option_map, option_and_then, if◌then◌else◌}
 use Rattle.std.specs.Str.{bytes_eq}
 use Rattle.floor_text.specs.Names.{is_name}
 use Rattle.floor_text.specs.Numbers.{number_of}
@@ -30,6 +30,14 @@ game_list = (codes "holdem", Holdem) ∷ (codes "omaha", Omaha) ∷ (codes "hilo
 -- the game that a word names
 abbrev pub game_of : List ℕ → Option Game
 game_of word = meaning game_list word
+
+-- the words for on and off, and whether each is on
+abbrev pub switch_list : List (List ℕ × Bool)
+switch_list = (codes "on", true) ∷ (codes "off", false) ∷ []
+
+-- whether it is on, as a word says
+abbrev pub switch_of : List ℕ → Option Bool
+switch_of word = meaning switch_list word
 
 -- the name that a word is
 abbrev pub name_of : List ℕ → Option (List ℕ)

@@ -11,7 +11,7 @@ use Rattle.floor_events.specs.declared.event.Event.TheVariants as events
 use Rattle.floor_events.specs.declared.event.Item.{Item}
 use Rattle.floor_events.specs.declared.event.Item.TheVariants as found
 use Rattle.floor_events.specs.Words.{words_of_line, no_word}
-use Rattle.floor_events.specs.Fields.{game_of, name_of, next_by, act_of, shares_of, place_of, members_of}
+use Rattle.floor_events.specs.Fields.{game_of, switch_of, name_of, next_by, act_of, shares_of, place_of, members_of}
 
 -- what reads the words behind the first
 abbrev pub Reader : Type 0
@@ -55,9 +55,9 @@ list_rows =
     (codes "shares", rest0 shares_of (λ shares. events.Plan (lines.Shares shares))) ∷
     (codes "break", fields3 number_of (members_of place_of) (members_of name_of) events.Break) ∷ []
 
--- the rows of all other events
-abbrev pub plain_rows : List (List ℕ × Reader)
-plain_rows =
+-- the rows of the other lines of a plan
+abbrev pub plan_rows : List (List ℕ × Reader)
+plan_rows =
     (codes "game", fields1 game_of (λ game. events.Plan (lines.Game game))) ∷
     (codes "tables", fields1 number_of (λ n. events.Plan (lines.Tables n))) ∷
     (codes "seats", fields1 number_of (λ n. events.Plan (lines.Seats n))) ∷
@@ -68,14 +68,26 @@ plain_rows =
       fields3 number_of number_of number_of
           (λ small big unit. events.Plan (lines.Blinds small big unit)),
     ) ∷
-    (codes "go", fields0 events.Go) ∷
+    (codes "go", fields0 events.Go) ∷ []
+
+-- the rows of all other events
+abbrev pub play_rows : List (List ℕ × Reader)
+play_rows =
     (codes "enter", fields3 name_of number_of number_of events.Enter) ∷
     (codes "begin", fields2 number_of row_of events.Begin) ∷
     (codes "act", rest2 number_of name_of act_of events.Act) ∷
     (codes "time", fields1 number_of events.Time) ∷
     (codes "settle", fields1 number_of events.Settle) ∷
     (codes "balance", fields2 number_of number_of events.Balance) ∷
+    (codes "level", fields0 events.Level) ∷
+    (codes "race", fields2 number_of row_of events.Race) ∷
+    (codes "hands", fields1 switch_of events.Hands) ∷
+    (codes "round", fields0 events.Round) ∷
     (codes "stop", fields0 events.Stop) ∷ []
+
+-- the rows of all events without a list
+abbrev pub plain_rows : List (List ℕ × Reader)
+plain_rows = plan_rows ++ play_rows
 
 -- the grammar: the rows of all events
 abbrev pub grammar : List (List ℕ × Reader)

@@ -1,5 +1,5 @@
 -- The one spelling of each event, answer and report. This project's own.
-use Rattle.std.specs.Prelude.{ℕ, ◌≤◌, IsTrue, List, [], ◌∷◌, ◌++◌, length, map, codes, Option, Some, None}
+use Rattle.std.specs.Prelude.{ℕ, Bool, true, false, ◌≤◌, IsTrue, List, [], ◌∷◌, ◌++◌, length, map, codes, Option, Some, None}
 use Rattle.std.specs.List.{flat_map, join_with_byte, AllByRecursion}
 use Rattle.std.specs.Fmt.{decimal}
 use Rattle.floor_text.specs.declared.limits.TheConstants.{LONGEST_LINE}
@@ -34,6 +34,11 @@ abbrev pub game_word : Game → List ℕ
 game_word Holdem = codes "holdem"
 game_word Omaha = codes "omaha"
 game_word Hilo = codes "hilo"
+
+-- the word for on or off
+abbrev pub switch_word : Bool → List ℕ
+switch_word true = codes "on"
+switch_word false = codes "off"
 
 -- the word of an item, as an answer names it
 abbrev pub item_word : PlanItem → List ℕ
@@ -89,6 +94,10 @@ event_words (events.Settle table) = codes "settle" ∷ decimal table ∷ []
 event_words (events.Balance from to) = codes "balance" ∷ decimal from ∷ decimal to ∷ []
 event_words (events.Break table seats names) =
     codes "break" ∷ decimal table ∷ list_text place_text seats ∷ list_text (λ name. name) names ∷ []
+event_words events.Level = codes "level" ∷ []
+event_words (events.Race table row) = codes "race" ∷ decimal table ∷ row_text row.cards ∷ []
+event_words (events.Hands on) = codes "hands" ∷ switch_word on ∷ []
+event_words events.Round = codes "round" ∷ []
 event_words events.Stop = codes "stop" ∷ []
 
 -- an event's text: its words with one space between each two
@@ -146,6 +155,10 @@ HasLineParts (events.Time table) = IsLineNumber table
 HasLineParts (events.Settle table) = IsLineNumber table
 HasLineParts (events.Balance from to) = IsLineNumber from × IsLineNumber to
 HasLineParts (events.Break table seats names) = IsLineNumber table × AreLinePlaces seats × AreLineNames names
+HasLineParts events.Level = Unit {0}
+HasLineParts (events.Race table row) = IsLineNumber table
+HasLineParts (events.Hands on) = Unit {0}
+HasLineParts events.Round = Unit {0}
 HasLineParts events.Stop = Unit {0}
 
 -- An event is writable where its parts are such as a line may hold and its text has at most 400 bytes.

@@ -64,6 +64,19 @@ pub enum Event {
         /// Who takes them, in turn. There may be more or fewer names than seats here.
         names: List<Name>,
     },
+    /// The next level begins.
+    Level,
+    /// A chip race is made at a table.
+    Race {
+        /// The number of the table. Any number of the grammar may stand here.
+        table: u64,
+        /// The cards in the order of the deck. A card may come twice here.
+        row: CardRow,
+    },
+    /// Hand-for-hand is turned on, where this is true, or off.
+    Hands(bool),
+    /// A round of hand-for-hand ends.
+    Round,
     /// The end of the tournament.
     Stop,
 }

@@ -1,7 +1,7 @@
 //! Words of a line are read as fields.
 
 ghost use Rattle.std.specs.Prelude.{◌≡◌};
-ghost use Rattle.floor_events.specs.Fields.{name_of, game_of, meaning, act_list, amount_list, place_at, place_of};
+ghost use Rattle.floor_events.specs.Fields.{name_of, game_of, switch_of, meaning, act_list, amount_list, place_at, place_of};
 
 use crate::line_words::Words;
 use betting_round::Act;
@@ -28,6 +28,17 @@ pub fn read_game(word: &[u8]) -> Option<Game>
         b"holdem" => Some(Game::Holdem),
         b"omaha" => Some(Game::Omaha),
         b"hilo" => Some(Game::Hilo),
+        _ => None,
+    }
+}
+
+/// Reads whether something is on. `None` exactly where the word is neither `on` nor `off`.
+pub fn read_switch(word: &[u8]) -> Option<bool>
+    ensures { result ≡ switch_of word.now }
+{
+    match word {
+        b"on" => Some(true),
+        b"off" => Some(false),
         _ => None,
     }
 }

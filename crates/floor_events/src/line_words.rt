@@ -5,10 +5,10 @@ ghost use Rattle.std.specs.List.{position};
 ghost use Rattle.floor_text.specs.Numbers.{number_of};
 ghost use Rattle.card_set.specs.Cards.{row_of};
 ghost use Rattle.floor_events.specs.Words.{pieces_of, words_of_line, no_word};
-ghost use Rattle.floor_events.specs.Fields.{name_of, game_of, act_of, members_of, next_by};
+ghost use Rattle.floor_events.specs.Fields.{name_of, game_of, switch_of, act_of, members_of, next_by};
 
 use crate::few::{Few, Spelled, read_few};
-use crate::fields::{read_act, read_act_with, read_game, read_name};
+use crate::fields::{read_act, read_act_with, read_game, read_name, read_switch};
 use betting_round::Act;
 use card_set::{CardRow, Game, read_row};
 use floor_text::{Name, read_number};
@@ -114,6 +114,15 @@ impl<'a> Words<'a> {
             (λ game. next_by game_of self.old ≡ Some (game, self.new)) }
     {
         read_game(self.next_word()?)
+    }
+
+    /// Takes the next word as on or off.
+    #[tactic(auto, unfolding(crate::specs::Fields::next_by))]
+    pub fn switch(&mut self) -> Option<bool>
+        ensures { MatchOption result (next_by switch_of self.old ≡ None)
+            (λ on. next_by switch_of self.old ≡ Some (on, self.new)) }
+    {
+        read_switch(self.next_word()?)
     }
 
     /// Takes the next word as a row of cards.
