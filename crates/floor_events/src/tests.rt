@@ -114,6 +114,35 @@ static OUTSIDE_MOVES: [&[u8]; 36] = [
     b"break 2 1.01 ann",
 ];
 
+/// Lines of levels, races and rounds that are not in the grammar.
+static OUTSIDE_ROUNDS: [&[u8]; 17] = [
+    b"level ",
+    b"level 2",
+    b"levels",
+    b"Level",
+    b"race",
+    b"race 1",
+    b"race 1 2c",
+    b"race 01 2c",
+    b"race ann",
+    b"hands",
+    b"hands ",
+    b"hands On",
+    b"hands on off",
+    b"hands  on",
+    b"hands 1",
+    b"round 1",
+    b"rounds",
+];
+
+#[test]
+fn rounds_outside_the_grammar_hold_no_item(rt: HostRuntime) -> Result<(), Fail> {
+    for line in &OUTSIDE_ROUNDS {
+        assert!(rt; read_item(rt.alloc(), line)?.is_none(), "{line:?}");
+    }
+    Ok(())
+}
+
 #[test]
 fn moves_outside_the_grammar_hold_no_item(rt: HostRuntime) -> Result<(), Fail> {
     for line in &OUTSIDE_MOVES {
@@ -171,6 +200,20 @@ fn plan_lines_are_read(rt: HostRuntime) -> Result<(), Fail> {
 fn other_events_are_read(rt: HostRuntime) -> Result<(), Fail> {
     let alloc = rt.alloc();
     assert!(rt; matches!(read_item(alloc, b"go")?, Some(Item::Event(Event::Go))));
+    assert!(rt; matches!(read_item(alloc, b"level")?, Some(Item::Event(Event::Level))));
+    assert!(rt;
+        matches!(
+            read_item(alloc, b"hands on")?,
+            Some(Item::Event(Event::Hands(true)))
+        )
+    );
+    assert!(rt;
+        matches!(
+            read_item(alloc, b"hands off")?,
+            Some(Item::Event(Event::Hands(false)))
+        )
+    );
+    assert!(rt; matches!(read_item(alloc, b"round")?, Some(Item::Event(Event::Round))));
     assert!(rt; matches!(read_item(alloc, b"stop")?, Some(Item::Event(Event::Stop))));
     let item = read_item(alloc, b"enter Ann_01 0 64")?;
     let right = match &item {
@@ -208,6 +251,25 @@ fn hands_begin_with_a_row(rt: HostRuntime) -> Result<(), Fail> {
     assert_eq!(rt; begun(b"As", alloc)?, Some((1, again)));
     assert_eq!(rt; begun(b"tc", alloc)?, None);
     assert!(rt; read_item(alloc, &BEGIN[..110])?.is_none());
+    Ok(())
+}
+
+/// A row of one card again and again, behind the words that race the chips of table 64.
+const RACE: &[u8; 112] =
+    b"race 64 2c2c2c2c2c2c2c2c2c2c2c2c2c2c2c2c2c2c2c2c2c2c2c2c2c2c2c2c2c2c2c2c2c2c2c2c2c2c2c2c2c2c2c2c2c2c2c2c2c2c2c2c";
+
+#[test]
+fn races_are_read_with_a_row(rt: HostRuntime) -> Result<(), Fail> {
+    let alloc = rt.alloc();
+    let item = read_item(alloc, RACE)?;
+    let right = match &item {
+        Some(Item::Event(Event::Race { table, row })) => {
+            *table == 64 && row.cards[51] == Card { rank: 2, suit: 0 }
+        }
+        _ => false,
+    };
+    assert!(rt; right);
+    assert!(rt; read_item(alloc, &RACE[..110])?.is_none());
     Ok(())
 }
 
