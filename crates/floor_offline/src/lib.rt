@@ -13,9 +13,19 @@ pub use laws::lines_are_a_run;
 pub use run::run_offline;
 
 #[cfg(test)]
+mod balance_transcripts;
+#[cfg(test)]
 mod betting_tests;
 #[cfg(test)]
 mod betting_transcripts;
+#[cfg(test)]
+mod break_transcripts;
+#[cfg(test)]
+mod entry_transcripts;
+#[cfg(test)]
+mod halt_transcripts;
+#[cfg(test)]
+mod many_tables_tests;
 #[cfg(test)]
 mod pot_limit_transcripts;
 #[cfg(test)]
@@ -25,9 +35,13 @@ mod seat_scripts;
 #[cfg(test)]
 mod seat_tests;
 #[cfg(test)]
+mod short_blind_transcripts;
+#[cfg(test)]
 mod showdown_tests;
 #[cfg(test)]
 mod showdown_transcripts;
+#[cfg(test)]
+mod table_plans;
 #[cfg(test)]
 mod tests;
 #[cfg(test)]
