@@ -129,11 +129,13 @@ settle 1
 ",
             // Table 3 has two players fewer than the fullest, and is not halted any more. kim has the big blind.
             "begin 3 SORTED
+",
+            // The next big blind of table 1 would be ida's. After kim's seat 4 the first empty seat is 5. ida is not in
+            // the hand that is played there.
+            "balance 1 3
+act 3 ida fold : no 20 NotDealt
 act 3 jim fold
 settle 3
-",
-            // The big blind would come to ida at table 1. After kim's seat 4 the first empty seat is 5.
-            "balance 1 3
 balance 1 3 : no 33 NotFullest
 balance 2 3 : no 35 EvenEnough
 ",
