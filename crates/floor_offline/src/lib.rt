@@ -25,9 +25,19 @@ mod entry_transcripts;
 #[cfg(test)]
 mod halt_transcripts;
 #[cfg(test)]
+mod level_transcripts;
+#[cfg(test)]
+mod levels_tests;
+#[cfg(test)]
 mod many_tables_tests;
 #[cfg(test)]
+mod over_transcripts;
+#[cfg(test)]
 mod pot_limit_transcripts;
+#[cfg(test)]
+mod race_transcripts;
+#[cfg(test)]
+mod round_transcripts;
 #[cfg(test)]
 mod scripts;
 #[cfg(test)]
