@@ -54,6 +54,10 @@ hand_for hands (events.Time table) = hand_in hands table
 hand_for hands (events.Settle table) = hand_in hands table
 hand_for hands (events.Balance from to) = None
 hand_for hands (events.Break table places names) = None
+hand_for hands events.Level = None
+hand_for hands (events.Race table row) = None
+hand_for hands (events.Hands on) = None
+hand_for hands events.Round = None
 hand_for hands events.Stop = None
 
 -- why a hand refuses an event, if it does
@@ -79,6 +83,10 @@ hands_effect apart (events.Time table) =
 hands_effect apart (events.Settle table) = slice_set apart.hands table None
 hands_effect apart (events.Balance from to) = apart.hands
 hands_effect apart (events.Break table places names) = apart.hands
+hands_effect apart events.Level = apart.hands
+hands_effect apart (events.Race table row) = apart.hands
+hands_effect apart (events.Hands on) = apart.hands
+hands_effect apart events.Round = apart.hands
 hands_effect apart events.Stop = replicate (length apart.hands) None
 
 -- the book and the hands after an event

@@ -24,6 +24,9 @@ pub record BookState : Type 0 where
   pub group : ℕ
   -- the current level, from 1
   pub level : ℕ
+  -- the chips that races took away, and those that they gave
+  pub removed : ℕ
+  pub added : ℕ
   -- how many hands have begun
   pub begun : ℕ
   -- how many events the book has accepted

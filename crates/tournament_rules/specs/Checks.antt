@@ -1,10 +1,10 @@
 -- The checks of an event, in groups, each said once. This project's own.
-use Rattle.std.specs.Prelude.{ℕ, Bool, true, false, not, nat_lt, ◌==◌, ◌&&◌, ◌||◌, List, [], ◌∷◌, ◌++◌, length, Option, is_some}
+use Rattle.std.specs.Prelude.{ℕ, Bool, true, false, not, nat_lt, nat_le, ◌==◌, ◌&&◌, ◌||◌, List, [], ◌∷◌, ◌++◌, length, Option, is_some}
 use Rattle.std.specs.List.{list_any}
 use Rattle.std.specs.Option.{option_map_or}
 use Rattle.rulebook.specs.Checks.{first_that_holds}
 use Rattle.floor_text.specs.declared.refusal.Refusal.{Refusal}
-use Rattle.floor_text.specs.declared.refusal.Refusal.TheVariants.{PlanLate, Stopped, NameKnown, NameUnknown, NoTable, NoSeat, SeatTaken, NotFewest, LateClosed, Playing, NotPlaying, Lone, Halted, RaceDue, DeckWrong, NotOver, NotNextToBreak, NoRoom, DrawWrong, RoundOpen, Over, ListFull}
+use Rattle.floor_text.specs.declared.refusal.Refusal.TheVariants.{PlanLate, Stopped, NameKnown, NameUnknown, NoTable, NoSeat, SeatTaken, NotFewest, LateClosed, Playing, NotPlaying, Lone, Halted, RaceDue, DeckWrong, NotOver, NotNextToBreak, NoRoom, DrawWrong, LastLevel, RoundOpen, NoRace, Over, ListFull}
 use Rattle.card_set.specs.declared.card.CardRow.{CardRow}
 use Rattle.card_set.specs.Decks.{repeats_a_card}
 use Rattle.entry_list.specs.Entries.{is_known, is_full}
@@ -17,6 +17,7 @@ use Rattle.balance_rule.specs.Balance.{balance_checks}
 use Rattle.balance_rule.specs.Filling.{lacks_room, fill_seats}
 use Rattle.balance_rule.specs.Moves.{is_race_pending, is_round_open}
 use Rattle.break_draw.specs.Draws.{is_draw}
+use Rattle.hand_rounds.specs.Rounds.{begin_checks as turn_checks, round_checks as close_checks, switch_checks}
 use Rattle.table_engine.specs.Hands.{HandTerms, is_over}
 use Rattle.table_engine.specs.Acts.{act_checks, time_checks}
 use Rattle.floor_events.specs.declared.event.Event.{Event}
@@ -73,11 +74,13 @@ seat_checks book table seat =
     (SeatTaken, is_taken book table seat) ∷
     (NotFewest, is_not_fewest book table) ∷ []
 
+-- the tournament is not over
+abbrev pub over_checks : BookState → List Check
+over_checks book = (Over, is_over_for_all book) ∷ []
+
 -- entries are open
 abbrev pub entry_checks : BookState → List Check
-entry_checks book =
-    (LateClosed, is_late book) ∷
-    (Over, is_over_for_all book) ∷ []
+entry_checks book = (LateClosed, is_late book) ∷ over_checks book
 
 -- there is room in the entry list
 abbrev pub room_checks : List (List ℕ) → List Check
@@ -100,9 +103,18 @@ table_checks book table =
 abbrev pub deck_checks : CardRow → List Check
 deck_checks row = (DeckWrong, repeats_a_card row.cards) ∷ []
 
+-- whether a chip race is pending at a table
+abbrev pub is_race_due : BookState → ℕ → Bool
+is_race_due book table = is_some (status_at book.seating.tables table).race
+
+-- it is the table's turn: no race is pending there, and it has not begun in a round of hand-for-hand
+abbrev pub due_checks : BookState → ℕ → List Check
+due_checks book table = (RaceDue, is_race_due book table) ∷ turn_checks book.seating table
+
 -- all checks of a hand that is to begin
 abbrev pub begin_checks : BookState → ℕ → CardRow → List Check
-begin_checks book table row = going_checks book ++ table_checks book table ++ deck_checks row
+begin_checks book table row =
+    going_checks book ++ table_checks book table ++ due_checks book table ++ deck_checks row
 
 -- somebody of that name entered
 abbrev pub known_checks : BookState → List ℕ → List Check
@@ -165,8 +177,30 @@ break_checks book table places names =
     going_checks book ++ (NoTable, not (is_table_open book table))
     ∷ leaving_checks book table ++ draw_checks book table places names ++ round_checks book
 
--- The checks that the book makes of an event, in their order. With one level and no hand-for-hand, that a race is
--- pending at a table and that it has begun in a round cannot hold where a hand begins.
+-- whether the current level is the last of the plan
+abbrev pub is_last_level : BookState → Bool
+is_last_level book = nat_le (length book.plan.blinds) book.level
+
+-- all checks of the next level
+abbrev pub level_checks : BookState → List Check
+level_checks book =
+    going_checks book ++ (RaceDue, is_race_pending book.seating) ∷ (LastLevel, is_last_level book) ∷ over_checks book
+
+-- all checks of a chip race
+abbrev pub race_checks : BookState → ℕ → CardRow → List Check
+race_checks book table row =
+    going_checks book ++ (NoTable, not (is_table_open book table)) ∷ (Playing, is_playing book table)
+    ∷ deck_checks row ++ (NoRace, not (is_race_due book table)) ∷ over_checks book
+
+-- all checks of a switch of hand-for-hand
+abbrev pub hands_checks : BookState → Bool → List Check
+hands_checks book on = going_checks book ++ switch_checks on book.seating ++ over_checks book
+
+-- all checks of the end of a round
+abbrev pub end_round_checks : BookState → List Check
+end_round_checks book = going_checks book ++ close_checks book.seating ++ over_checks book
+
+-- The checks that the book makes of an event, in their order.
 abbrev pub book_checks : BookState → Event → List Check
 book_checks book (events.Plan line) = (PlanLate, true) ∷ []
 book_checks book events.Go = (PlanLate, true) ∷ []
@@ -177,6 +211,10 @@ book_checks book (events.Time table) = before_hand_checks book table
 book_checks book (events.Settle table) = before_hand_checks book table
 book_checks book (events.Balance from to) = all_balance_checks book from to
 book_checks book (events.Break table places names) = break_checks book table places names
+book_checks book events.Level = level_checks book
+book_checks book (events.Race table row) = race_checks book table row
+book_checks book (events.Hands on) = hands_checks book on
+book_checks book events.Round = end_round_checks book
 book_checks book events.Stop = going_checks book
 
 -- The checks that a hand makes of an event at its table, after those of the book.
@@ -190,6 +228,10 @@ hand_checks hand (events.Time table) = time_checks hand
 hand_checks hand (events.Settle table) = end_checks hand
 hand_checks hand (events.Balance from to) = []
 hand_checks hand (events.Break table places names) = []
+hand_checks hand events.Level = []
+hand_checks hand (events.Race table row) = []
+hand_checks hand (events.Hands on) = []
+hand_checks hand events.Round = []
 hand_checks hand events.Stop = []
 
 -- why the book refuses an event, if it does

@@ -21,6 +21,14 @@ play_of book = sum_by (λ start. chips_of (players_out start)) book.out
 abbrev pub sold : State → ℕ
 sold state = option_map_or (λ play. sold_by play.book) state.play 0
 
+-- the chips that races took away
+abbrev pub removed : State → ℕ
+removed state = option_map_or (λ play. play.book.removed) state.play 0
+
+-- the chips that races gave
+abbrev pub added : State → ℕ
+added state = option_map_or (λ play. play.book.added) state.play 0
+
 -- the chips at rest
 abbrev pub rest : State → ℕ
 rest state = option_map_or (λ play. rest_in play.book) state.play 0

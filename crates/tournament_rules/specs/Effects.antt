@@ -1,5 +1,5 @@
 -- What an accepted event makes of the book. This project's own.
-use Rattle.std.specs.Prelude.{ℕ, zero, suc, ◌+◌, ◌==◌, true, false, List, [], ◌∷◌, ◌++◌, length, map, filter, replicate, slice_set, Option, Some, None}
+use Rattle.std.specs.Prelude.{ℕ, zero, suc, ◌+◌, ◌==◌, nat_lt, Bool, true, false, if◌then◌else◌, List, [], ◌∷◌, ◌++◌, length, map, filter, replicate, slice_set, Option, Some, None}
 use Rattle.std.specs.Option.{option_map_or}
 use Rattle.card_set.specs.declared.card.Card.{Card}
 use Rattle.level_plan.specs.Plans.{PlanTerms, unit_of_level}
@@ -12,6 +12,7 @@ use Rattle.seat_book.specs.Seatings.{Seating, empty_seating}
 use Rattle.seat_book.specs.Players.{sit_down}
 use Rattle.seat_book.specs.Tables.{status_at, with_status, fresh_status}
 use Rattle.balance_rule.specs.Balance.{balance_move, after_move}
+use Rattle.hand_rounds.specs.Rounds.{round_closed, switched}
 use Rattle.table_engine.specs.declared.start.StartSeat.{StartSeat}
 use Rattle.table_engine.specs.Hands.{HandTerms}
 use Rattle.table_engine.specs.Results.{stack_after_hand, players_after}
@@ -21,6 +22,7 @@ use Rattle.tournament_rules.specs.Books.{BookState, start_at, no_hands}
 use Rattle.tournament_rules.specs.Players.{dealt_in, put_back, stayed}
 use Rattle.tournament_rules.specs.Dealing.{next_at, next_start}
 use Rattle.tournament_rules.specs.Moving.{after_all}
+use Rattle.tournament_rules.specs.Racing.{raised, race_at, restacked, raced_off}
 
 -- a table before any hand, with the unit of the first level
 abbrev pub first_status : PlanTerms → TableStatus
@@ -41,6 +43,8 @@ first_book plan = record {
   busts = [];
   group = 0;
   level = 1;
+  removed = 0;
+  added = 0;
   begun = 0;
   accepted = 0;
   stopped = false;
@@ -63,9 +67,10 @@ entered book name table seat = record book {
   accepted = book.accepted + 1;
 }
 
--- a table once a hand has begun: the new marks are kept, and the table plays
-abbrev pub playing_from : Marks → TableStatus → TableStatus
-playing_from marks status = record status { marks = Some marks; playing = true }
+-- a table once a hand has begun: the new marks are kept, the table plays, and where hand-for-hand is on it has begun in
+-- the round
+abbrev pub playing_from : Marks → Bool → TableStatus → TableStatus
+playing_from marks hands status = record status { marks = Some marks; playing = true; begun = hands }
 
 -- a table once its hand has ended: its marks are kept
 abbrev pub at_rest : TableStatus → TableStatus
@@ -79,7 +84,7 @@ with_table seating table change =
 -- the book once a hand has begun: the chips of those who are dealt in are in the hand, and its start is out
 abbrev pub begun_book : BookState → ℕ → List Card → BookState
 begun_book book table cards = record book {
-  seating = record (with_table book.seating table (playing_from (next_at book table).marks)) {
+  seating = record (with_table book.seating table (playing_from (next_at book table).marks book.seating.hands)) {
     players = dealt_in table (next_at book table).waiting book.seating.players;
   };
   out = slice_set book.out table (Some (next_start book table cards));
@@ -102,15 +107,19 @@ broke_by hand = filter (λ player. stack_after_hand hand player == 0) hand.start
 abbrev pub bust_of : ℕ → StartSeat → Bust
 bust_of group player = record { player = player.player; stack = player.stack; group = group }
 
--- the book once a hand is settled: its players have the stacks that they have after it, those with none leave their
--- seats and are out, and who goes out later is in a later group
+-- the group of those who go out after a settle: a later one, and while hand-for-hand is on the same
+abbrev pub next_group : BookState → ℕ
+next_group book = if book.seating.hands then book.group else book.group + 1
+
+-- the book once a hand is settled: its players have the stacks that they have after it, and those with none leave their
+-- seats and are out
 abbrev pub settled : BookState → HandTerms → BookState
 settled book hand =
     let after = ended book hand.start.table (players_after hand) in
     record after {
       seating = record after.seating { players = stayed (broke_by hand) after.seating.players };
       busts = book.busts ++ map (bust_of book.group) (broke_by hand);
-      group = book.group + 1;
+      group = next_group book;
       accepted = book.accepted + 1;
     }
 
@@ -145,6 +154,49 @@ broken book table places names = record book {
   accepted = book.accepted + 1;
 }
 
+-- The book once the next level is current. It holds from each table's next hand on. Where its unit is greater, a race
+-- is pending at each open table, and a table that is not open has that unit.
+abbrev pub leveled : BookState → BookState
+leveled book =
+    let unit = unit_of_level book.plan.blinds (book.level + 1) in
+    record book {
+      seating = if nat_lt (unit_of_level book.plan.blinds book.level) unit then raised unit book.seating
+          else book.seating;
+      level = book.level + 1;
+      accepted = book.accepted + 1;
+    }
+
+-- the book once the race that is pending at a table is made with these cards: its players have their stacks after it,
+-- what it takes away is removed, what it gives is added, and the table has the new unit
+abbrev pub raced : BookState → ℕ → List Card → BookState
+raced book table cards =
+    let result = race_at book.seating table cards in
+    record book {
+      seating = record (with_table book.seating table raced_off) {
+        players = map (restacked table result.stacks) book.seating.players;
+      };
+      removed = book.removed + result.removed;
+      added = book.added + result.added;
+      accepted = book.accepted + 1;
+    }
+
+-- the book once hand-for-hand is on or off: the playing tables are those that have begun in the round, or none is, and
+-- who goes out after it is off is in a later group
+abbrev pub with_hands : BookState → Bool → BookState
+with_hands book on = record book {
+  seating = switched on book.seating;
+  group = if on then book.group else book.group + 1;
+  accepted = book.accepted + 1;
+}
+
+-- the book once a round of hand-for-hand ended: no table has begun, and who goes out later is in a later group
+abbrev pub round_ended : BookState → BookState
+round_ended book = record book {
+  seating = round_closed book.seating;
+  group = book.group + 1;
+  accepted = book.accepted + 1;
+}
+
 -- what an accepted event makes of the book, with the hand that it is about, if there is one
 abbrev pub book_effect : BookState → Option HandTerms → Event → BookState
 book_effect book hand (events.Plan line) = book
@@ -156,4 +208,8 @@ book_effect book hand (events.Time table) = book
 book_effect book hand (events.Settle table) = option_map_or (settled book) hand book
 book_effect book hand (events.Balance from to) = balanced book from to
 book_effect book hand (events.Break table places names) = broken book table places names
+book_effect book hand events.Level = leveled book
+book_effect book hand (events.Race table row) = raced book table row.cards
+book_effect book hand (events.Hands on) = with_hands book on
+book_effect book hand events.Round = round_ended book
 book_effect book hand events.Stop = stopped_book book

@@ -3,9 +3,11 @@ pub mod Players
 pub mod Dealing
 pub mod Checks
 pub mod Moving
+pub mod Racing
 pub mod Effects
 pub mod States
 pub mod Chips
 pub mod Report
+pub mod Units
 pub mod Valid
 pub mod Apart

@@ -18,13 +18,13 @@ reported out player = record {
   stack = if is_in_hand out player then None else Some player.stack;
 }
 
--- The report of a book. There are no races yet, so nothing is removed or added; who is out is not reported yet.
+-- The report of a book. Who is out is not reported yet.
 abbrev pub book_report : BookState → Report
 book_report book = record {
   level = book.level;
   sold = sold_by book;
-  removed = 0;
-  added = 0;
+  removed = book.removed;
+  added = book.added;
   rest = rest_in book;
   play = play_of book;
   seats = map (reported book.out) book.seating.players;

@@ -64,6 +64,10 @@ hand_of play (events.Time table) = hand_at play table
 hand_of play (events.Settle table) = hand_at play table
 hand_of play (events.Balance from to) = None
 hand_of play (events.Break table places names) = None
+hand_of play events.Level = None
+hand_of play (events.Race table row) = None
+hand_of play (events.Hands on) = None
+hand_of play events.Round = None
 hand_of play events.Stop = None
 
 -- the table of an event that is an act of a player or a called time, if it is one
@@ -77,6 +81,10 @@ act_table (events.Time table) = Some table
 act_table (events.Settle table) = None
 act_table (events.Balance from to) = None
 act_table (events.Break table places names) = None
+act_table events.Level = None
+act_table (events.Race table row) = None
+act_table (events.Hands on) = None
+act_table events.Round = None
 act_table events.Stop = None
 
 -- why an event is refused once there is a plan, if it is: the checks of the book come first, and then those of the hand
@@ -97,6 +105,10 @@ planning_answer draft (events.Time table) = No NoPlan
 planning_answer draft (events.Settle table) = No NoPlan
 planning_answer draft (events.Balance from to) = No NoPlan
 planning_answer draft (events.Break table places names) = No NoPlan
+planning_answer draft events.Level = No NoPlan
+planning_answer draft (events.Race table row) = No NoPlan
+planning_answer draft (events.Hands on) = No NoPlan
+planning_answer draft events.Round = No NoPlan
 planning_answer draft events.Stop = No NoPlan
 
 -- the answer that tells this refusal, or that there is none
@@ -122,6 +134,10 @@ acts_effect acts hand (events.Time table) =
 acts_effect acts hand (events.Settle table) = slice_set acts table []
 acts_effect acts hand (events.Balance from to) = acts
 acts_effect acts hand (events.Break table places names) = acts
+acts_effect acts hand events.Level = acts
+acts_effect acts hand (events.Race table row) = acts
+acts_effect acts hand (events.Hands on) = acts
+acts_effect acts hand events.Round = acts
 acts_effect acts hand events.Stop = replicate (length acts) []
 
 -- what an accepted event makes of a tournament whose plan is whole
@@ -141,6 +157,10 @@ planning_effect state (events.Time table) = state
 planning_effect state (events.Settle table) = state
 planning_effect state (events.Balance from to) = state
 planning_effect state (events.Break table places names) = state
+planning_effect state events.Level = state
+planning_effect state (events.Race table row) = state
+planning_effect state (events.Hands on) = state
+planning_effect state events.Round = state
 planning_effect state events.Stop = state
 
 -- what an accepted event makes of the state, but for the count of accepted events

@@ -1,11 +1,10 @@
 -- What holds of a book and of a state at every moment, in parts, each over its own fields. This project's own.
-use Rattle.std.specs.Prelude.{◌≡◌, ◌≤◌, ℕ, ◌+◌, ◌%◌, Bool, true, ◌==◌, ◌&&◌, nat_lt, nat_le, List, length, map, filter, count_by, slice_get, Option, Some, None, is_some, if◌then◌else◌}
+use Rattle.std.specs.Prelude.{◌≡◌, ◌≤◌, ℕ, ◌+◌, Bool, true, ◌==◌, ◌&&◌, nat_lt, nat_le, List, length, map, filter, count_by, slice_get, Option, Some, None, is_some, if◌then◌else◌}
 use Rattle.std.specs.List.{list_all, All}
 use Rattle.std.specs.Option.{ForSome}
 use Rattle.std.specs.Str.{bytes_eq}
 use Rattle.rulebook.specs.Pairs.{is_pairwise, are_distinct}
-use Rattle.level_plan.specs.Items.{is_between}
-use Rattle.level_plan.specs.Plans.{PlanTerms, is_right, unit_of_level}
+use Rattle.level_plan.specs.Plans.{PlanTerms, is_right}
 use Rattle.level_plan.specs.Drafts.{IsLawful}
 use Rattle.entry_list.specs.declared.entries.TheConstants.{MOST_ENTRIES}
 use Rattle.place_list.specs.declared.bust.Bust.{Bust}
@@ -23,6 +22,7 @@ use Rattle.tournament_rules.specs.Books.{BookState, start_at, players_out}
 use Rattle.tournament_rules.specs.Players.{start_seat}
 use Rattle.tournament_rules.specs.Chips.{sold_by, rest_in, play_of}
 use Rattle.tournament_rules.specs.States.{State, PlayState, hand_at}
+use Rattle.tournament_rules.specs.Units.{AreUnits}
 
 -- The plan is right, and the level is one of its levels.
 pub record IsPlanned (plan : PlanTerms) (level : ℕ) : Type 0 where
@@ -72,17 +72,18 @@ is_lent table player = sits_at table player && player.stack == 0
 abbrev pub without_stack : StartSeat → StartSeat
 without_stack player = record player { stack = 0 }
 
--- What is so of a start that is out at a table: it is that table's, lawful, and of the plan's seats and the level's
+-- What is so of a start that is out at a table: it is that table's, lawful, and of the plan's seats and the table's
 -- unit.
-pub record IsStartAt (plan : PlanTerms) (level table : ℕ) (start : HandStart) : Type 0 where
+pub record IsStartAt (plan : PlanTerms) (tables : List TableStatus) (table : ℕ) (start : HandStart) : Type 0 where
   pub here : start.table ≡ table
   pub lawful : IsLawfulStart start
   pub seats : start.seat_count ≡ plan.seats
-  pub unit : start.unit ≡ unit_of_level plan.blinds level
+  pub unit : start.unit ≡ (status_at tables table).unit
 
 -- The starts that are out are lawful, and their players sit at their tables.
-pub record AreOut (plan : PlanTerms) (level : ℕ) (players : List Seated) (out : List (Option HandStart)) : Type 0 where
-  pub starts : (table : ℕ) → ForSome (start_at out table) (IsStartAt plan level table)
+pub record AreOut (plan : PlanTerms) (tables : List TableStatus) (players : List Seated) (out : List (Option HandStart))
+    : Type 0 where
+  pub starts : (table : ℕ) → ForSome (start_at out table) (IsStartAt plan tables table)
   -- those who have nothing at rest are, in number, name and seat, the players of the start that is out at their table
   pub lent : (table : ℕ) → map start_seat (filter (is_lent table) players)
       ≡ map without_stack (players_out (start_at out table))
@@ -91,15 +92,6 @@ pub record AreOut (plan : PlanTerms) (level : ℕ) (players : List Seated) (out 
 pub record AreGrouped (busts : List Bust) (group : ℕ) : Type 0 where
   pub groups : is_pairwise (λ earlier later. nat_le earlier.group later.group) busts ≡ true
   pub past : list_all (λ bust. nat_le bust.group group) busts ≡ true
-
--- Chips are neither made nor lost, and every stack at rest is a multiple of the unit.
-pub record AreChips (book : BookState) : Type 0 where
-  pub kept : sold_by book ≡ rest_in book + play_of book
-  pub whole : list_all (λ player. player.stack % unit_of_level book.plan.blinds book.level == 0) book.seating.players
-      ≡ true
-  -- the tables' unit is that of the level
-  pub units : (table : ℕ) → is_between 1 book.plan.tables table ≡ true → (status_at book.seating.tables table).unit
-      ≡ unit_of_level book.plan.blinds book.level
 
 -- A table has marks only where somebody sits.
 abbrev pub AreMarked : List TableStatus → List Seated → Type 0
@@ -110,9 +102,11 @@ pub record IsValid (book : BookState) : Type 0 where
   pub plan : IsPlanned book.plan book.level
   pub entries : AreEntered book.entries book.seating.players book.busts
   pub tables : IsFitting book.plan book.seating book.out
-  pub hands : AreOut book.plan book.level book.seating.players book.out
+  pub hands : AreOut book.plan book.seating.tables book.seating.players book.out
   pub busts : AreGrouped book.busts book.group
-  pub chips : AreChips book
+  -- the chips at rest, those in play and those that races took away are those sold and those that races gave
+  pub chips : rest_in book + play_of book + book.removed ≡ sold_by book + book.added
+  pub units : AreUnits book.plan book.level book.added book.seating.tables book.seating.players
   pub marked : AreMarked book.seating.tables book.seating.players
   -- a hand that began was an event, and so was what raised the group
   pub counted : book.begun ≤ book.accepted
