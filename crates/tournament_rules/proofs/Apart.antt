@@ -157,6 +157,10 @@ alike apart (events.Settle table) ties none =
     settle_alike apart table ties (settle_passed apart.book table free).playing
 alike apart (events.Balance from to) ties none = record { tied = ties.tied; acts = refl }
 alike apart (events.Break table places names) ties none = record { tied = ties.tied; acts = refl }
+alike apart events.Level ties none = record { tied = ties.tied; acts = refl }
+alike apart (events.Race table row) ties none = record { tied = ties.tied; acts = refl }
+alike apart (events.Hands on) ties none = record { tied = ties.tied; acts = refl }
+alike apart events.Round ties none = record { tied = ties.tied; acts = refl }
 alike apart events.Stop ties none = stop_alike apart ties
 
 -- a book and its hands, after an accepted event

@@ -1,5 +1,5 @@
 -- A book is valid once two tables are balanced.
-use Rattle.std.proofs.Common.{◌≡◌, refl, sym, ap, subst, ℕ, ◌+◌, ◌≤◌, Bool, true, false, ◌==◌, ◌&&◌, List, [], ◌∷◌, arith}
+use Rattle.std.proofs.Common.{◌≡◌, ◌∙◌, refl, sym, ap, subst, ℕ, ◌+◌, ◌≤◌, Bool, true, false, ◌==◌, ◌&&◌, List, [], ◌∷◌, arith}
 use Rattle.std.specs.Prelude.{not, filter, find, nat_lt, Option, Some, None}
 use Rattle.std.specs.Option.{option_map_or}
 use Rattle.std.proofs.lemmas.Bool.{and_parts, not-true, eq-eqb}
@@ -29,6 +29,7 @@ use Rattle.tournament_rules.proofs.Passed.{none_holds, is_so}
 use Rattle.tournament_rules.proofs.Ends.{valid_counted}
 use Rattle.tournament_rules.proofs.Begins.{all_rest}
 use Rattle.tournament_rules.proofs.Fitting.{table_range}
+use Rattle.tournament_rules.proofs.KeptUnits.{one_unit}
 use Rattle.tournament_rules.proofs.Moved.{MayMove, moved, book_moved, valid_moved}
 
 -- What is so of a balance that is not refused.
@@ -134,6 +135,7 @@ valid_balanced book from to valid none = by_move (balance_move book.seating from
         → IsValid (record book { seating = after_move order book.seating; accepted = book.accepted + 1 })
     by_mover order who =
         let players = book.seating.players in
+        let tables = book.seating.tables in
         let lawful = valid.tables.lawful in
         let place : Place = record { table = to; seat = who.seat } in
         let big : Place = record { table = from; seat = next_big_seat book.seating from } in
@@ -143,6 +145,7 @@ valid_balanced book from to valid none = by_move (balance_move book.seating from
         let within = worst-within book.seating.seat_count (is_empty_seat players to)
         (status_at book.seating.tables to).marks who.seat (let some = lawful.some_seats in omega (arith, some)) who.worst in
         let opened = and_parts (has_table book to) (nat_lt 0 (count_at players to)) may.to_open in
+        let left = and_parts (has_table book from) (nat_lt 0 (count_at players from)) may.from_open in
         let range = table_range 1 book.plan.tables to opened.0 in
         let may_move : MayMove book who.seated place = record {
           found = number;
@@ -156,6 +159,10 @@ valid_balanced book from to valid none = by_move (balance_move book.seating from
               let gap = may.gap in
               let same = ap (count_at players) table in
               omega (arith, gap, same);
+          no_race = may.no_race;
+          unit = one_unit book.plan book.level book.added tables players valid.units may.no_race to opened.0
+              ∙ sym (ap (λ (number : ℕ). (status_at tables number).unit) table
+              ∙ one_unit book.plan book.level book.added tables players valid.units may.no_race from left.0);
         } in
         let after = counted (book_moved book place who.seated) (valid_moved book who.seated place valid may_move) refl
         refl in

@@ -1,6 +1,6 @@
 -- Each hand that begins starts lawfully, and a book is valid once a hand has begun.
 use Rattle.std.proofs.Common.{◌≡◌, ◌∙◌, refl, sym, ap, subst, ℕ, zero, suc, ◌-◌, ◌*◌, ◌^◌, ◌<◌, ◌≤◌, Bool, true, false, ◌==◌, List, [], ◌∷◌, map, length, arith}
-use Rattle.std.specs.Prelude.{not, nat_lt, filter, slice_get, unwrap_or, Option, Some, None}
+use Rattle.std.specs.Prelude.{not, nat_lt, filter, slice_get, slice_set, unwrap_or, Option, Some, None}
 use Rattle.std.specs.List.{list_all}
 use Rattle.std.specs.Option.{option_map_or, ForSome}
 use Rattle.std.specs.Str.{bytes_eq}
@@ -22,9 +22,10 @@ use Rattle.button_blinds.proofs.NextMarksLaws.{marks-fit}
 use Rattle.seat_book.specs.declared.seated.Seated.{Seated}
 use Rattle.seat_book.specs.Counts.{count_at}
 use Rattle.seat_book.specs.Players.{sits_at, taken_seats}
-use Rattle.seat_book.specs.Tables.{status_at}
+use Rattle.seat_book.specs.Tables.{status_at, with_status}
 use Rattle.seat_book.proofs.TakenSeats.{sits_in_seats, seats_of_places, taken_count}
 use Rattle.balance_rule.specs.Halting.{is_halted}
+use Rattle.hand_rounds.specs.Rounds.{has_begun}
 use Rattle.table_engine.specs.declared.start.HandStart.{HandStart}
 use Rattle.table_engine.specs.declared.start.StartSeat.{StartSeat}
 use Rattle.table_engine.specs.Starts.{chips_of, have_playable_stacks, IsLawfulStart}
@@ -39,19 +40,22 @@ use Rattle.tournament_rules.proofs.Restacked.{count_changed, entered_changed}
 use Rattle.tournament_rules.proofs.Names.{seated_names}
 use Rattle.tournament_rules.proofs.Passed.{none_holds, is_so, none_there}
 use Rattle.tournament_rules.proofs.Entries.{right_has}
-use Rattle.tournament_rules.proofs.Fitting.{table_range, each_status, fitting_changed, out_changed, play_changed, chips_out, marked_more}
+use Rattle.tournament_rules.proofs.Fitting.{table_range, each_status, fitting_changed, out_changed, play_changed, chips_out, due_more, marked_more}
+use Rattle.tournament_rules.proofs.KeptUnits.{keeps-set, out_kept, units_kept}
 use Rattle.tournament_rules.proofs.NextMarks.{marks-within}
 use Rattle.tournament_rules.proofs.DealtIn.{as_dealt, dealt-stacks, rest-dealt_in, lent-dealt_in, lent_elsewhere-dealt_in, whole-dealt_in, playable-dealt}
 use Rattle.tournament_rules.proofs.TakenSeats.{taken_within}
 use Rattle.tournament_rules.proofs.WhoIsDealt.{numbers_distinct, keys_dealt, rising_dealt, most_dealt, dealt_there}
 
--- A hand may begin at a table: it is one of the plan's, no hand is played there, two or more sit there, and it is not
--- halted.
+-- A hand may begin at a table: it is one of the plan's, no hand is played there, two or more sit there, it is not
+-- halted, no race is pending there, and it has not begun in a round of hand-for-hand.
 pub record MayBegin (book : BookState) (table : ℕ) : Type 0 where
   pub there : is_between 1 book.plan.tables table ≡ true
   pub rests : is_playing book table ≡ false
   pub two : 2 ≤ count_at book.seating.players table
   pub goes : is_halted book.seating table ≡ false
+  pub no_race : (status_at book.seating.tables table).race ≡ None
+  pub fresh : has_begun book.seating table ≡ false
 
 two_sit : (count : ℕ) → nat_lt 0 count ≡ true → (count == 1) ≡ false → 2 ≤ count
 two_sit count some lone = grind (arith, nat_tests)
@@ -67,6 +71,8 @@ may_begin book table row free =
     let rests = and_parts _ _ listed.1 in
     let many = and_parts _ _ rests.1 in
     let goes = and_parts _ _ many.1 in
+    let race = and_parts _ _ goes.1 in
+    let round = and_parts _ _ race.1 in
     let parts = and_parts (has_table book table) (nat_lt 0 (count_at book.seating.players table)) (is_so _ listed.0) in
     record {
       there = parts.0;
@@ -74,6 +80,8 @@ may_begin book table row free =
       two =
           two_sit (count_at book.seating.players table) parts.1 (not-true _ many.0);
       goes = not-true _ goes.0;
+      no_race = none_there (status_at book.seating.tables table).race (not-true _ race.0);
+      fresh = not-true _ round.0;
     }
 
 -- No start is out at a table where no hand is played.
@@ -100,11 +108,14 @@ product_small entries stack few small = grind arith
 pub small_dealt : (book : BookState) (table : ℕ) (waiting : List Bool) → IsValid book
     → chips_of (dealt_seats table waiting book.seating.players) < 2 ^ 53
 small_dealt book table waiting valid =
-    let kept = valid.chips.kept in
-    let most = product_small (length book.entries) book.plan.stack valid.entries.few
-    (right_has book.plan valid.plan.right).most_stack in
+    let kept = valid.chips in
+    let has = right_has book.plan valid.plan.right in
+    let most = product_small (length book.entries) book.plan.stack valid.entries.few has.most_stack in
+    let few = valid.units.few in
+    let last = valid.plan.last in
+    let levels = has.level_count in
     let gone = rest-dealt_in table waiting book.seating.players in
-    omega (arith, kept, most, gone)
+    omega (arith, kept, most, few, last, levels, gone)
 
 level_there : (blinds : List Blind) (index : ℕ) → index < length blinds
     → (blind : Blind) × (slice_get blinds index ≡ Some blind)
@@ -130,6 +141,11 @@ unit_now book = by_find (slice_get book.plan.blinds (book.level - 1))
         → (unwrap_or found (record { small = 0; big = 0; unit = 1 })).unit ≡ option_map_or (λ blind. blind.unit) found 1
     by_find None = refl
     by_find (Some blind) = refl
+
+-- The unit of the current level's blinds is that of a table where a hand may begin.
+pub unit_here : (book : BookState) (table : ℕ) → IsValid book → MayBegin book table
+    → (blind_now book).unit ≡ (status_at book.seating.tables table).unit
+unit_here book table valid may = unit_now book ∙ sym ((valid.units.units table may.there).own may.no_race)
 
 -- A hand that may begin at a table starts lawfully.
 pub lawful_start : (book : BookState) (table : ℕ) (cards : List Card) → IsValid book → MayBegin book table
@@ -178,9 +194,10 @@ lawful_start book table cards valid may =
           ∙ is_pairwise-filter (λ one other. not (bytes_eq one other)) (λ player. player.name)
           (is_dealt_in table waiting) players
           (seated_names book.entries players valid.entries.names valid.entries.named lawful.apart);
-      stacks = ap (λ (unit : ℕ). have_playable_stacks unit (dealt_seats table waiting players)) (unit_now book)
-          ∙ playable-dealt (unit_of_level book.plan.blinds book.level) table waiting players
-          (all_rest book table valid may.rests) valid.chips.whole;
+      stacks = ap (λ (unit : ℕ). have_playable_stacks unit (dealt_seats table waiting players))
+          (unit_here book table valid may)
+          ∙ playable-dealt book.seating.tables table waiting players (all_rest book table valid may.rests)
+          valid.units.whole;
       chips = small_dealt book table waiting valid;
       marks = marks-within (status_at book.seating.tables table).marks (taken_seats players table) book.plan.seats
           (omega (arith, some)) marked;
@@ -211,6 +228,10 @@ valid_begun book table row valid free =
     let stands = valid.tables.lawful.statuses table in
     let rest = all_rest book table valid may.rests in
     let marks = subst (λ (seats : ℕ). AreMarksOf seats next.marks) (sym valid.tables.seats) lawful.marks in
+    let tables = book.seating.tables in
+    let status = playing_from next.marks book.seating.hands (status_at tables table) in
+    let last : table ≤ length tables = omega (arith, range.1, count, size) in
+    let keeps = keeps-set tables table status range.0 last refl refl in
     let sits : (number : ℕ) → count_at (dealt_in table next.waiting players) number ≡ count_at players number =
     λ number. count_changed (sits_at number) (as_dealt table next.waiting) (record { same = λ player stack. refl })
     (dealt-stacks table next.waiting) players in
@@ -220,7 +241,7 @@ valid_begun book table row valid free =
           (dealt-stacks table next.waiting)
           valid.entries;
       tables = fitting_changed book.plan book.seating book.out table
-          (playing_from next.marks (status_at book.seating.tables table)) (Some start) (as_dealt table next.waiting)
+          status (Some start) (as_dealt table next.waiting)
           valid.tables may.there
           (record {
             marks = λ found is. subst (AreMarksOf book.seating.seat_count) (same_Some next.marks found is)
@@ -228,31 +249,29 @@ valid_begun book table row valid free =
             unit = stands.unit;
             race = stands.race;
           }) refl (dealt-stacks table next.waiting);
-      hands = out_changed book.plan book.level players (dealt_in table next.waiting players) book.out table
+      hands = out_kept book.plan tables (with_status tables table status) (dealt_in table next.waiting players)
+          (slice_set book.out table (Some start))
+          (out_changed book.plan tables players (dealt_in table next.waiting players) book.out table
           (Some start) valid.hands within
-          (λ found is. subst (IsStartAt book.plan book.level table) (same_Some start found is)
-          (record { here = refl; lawful = lawful; seats = refl; unit = unit_now book }))
+          (λ found is. subst (IsStartAt book.plan tables table) (same_Some start found is)
+          (record { here = refl; lawful = lawful; seats = refl; unit = unit_here book table valid may }))
           (lent-dealt_in table next.waiting players rest)
-          (λ other differ. lent_elsewhere-dealt_in table other next.waiting players differ);
-      chips = record {
-        kept =
-            let kept = valid.chips.kept in
-            let gone = rest-dealt_in table next.waiting players in
-            let play = play_changed book.out table (Some start) within in
-            let none : chips_out (start_at book.out table) ≡ 0 = ap chips_out (none_out book table valid may.rests) in
-            omega (arith, kept, gone, play, none);
-        whole = whole-dealt_in (unit_of_level book.plan.blinds book.level) table next.waiting players valid.chips.whole;
-        units = λ other listed. each_status (λ number status. is_between 1 book.plan.tables number ≡ true →
-            status.unit ≡ unit_of_level book.plan.blinds book.level) book.seating.tables table
-            (playing_from next.marks (status_at book.seating.tables table)) range.0
-            (omega (arith, range.1, count, size))
-            (valid.chips.units table) other (valid.chips.units other) listed;
-      };
+          (λ other differ. lent_elsewhere-dealt_in table other next.waiting players differ)) keeps.unit;
+      chips =
+          let kept = valid.chips in
+          let gone = rest-dealt_in table next.waiting players in
+          let play = play_changed book.out table (Some start) within in
+          let none : chips_out (start_at book.out table) ≡ 0 = ap chips_out (none_out book table valid may.rests) in
+          omega (arith, kept, gone, play, none);
+      units = units_kept book.plan book.level book.added tables (with_status tables table status) players
+          (dealt_in table next.waiting players) valid.units keeps
+          (whole-dealt_in tables table next.waiting players valid.units.whole)
+          (due_more tables players (dealt_in table next.waiting players) valid.units.due
+          (λ number. let same = sits number in omega (arith, same)));
       marked = λ other. each_status (λ number status. ForSome status.marks
-          (λ marks. 1 ≤ count_at (dealt_in table next.waiting players) number)) book.seating.tables table
-          (playing_from next.marks (status_at book.seating.tables table)) range.0 (omega (arith, range.1, count, size))
+          (λ marks. 1 ≤ count_at (dealt_in table next.waiting players) number)) tables table status range.0 last
           (λ marks is. let same = sits table in let two = may.two in omega (arith, same, two)) other
-          (marked_more book.seating.tables players (dealt_in table next.waiting players) valid.marked
+          (marked_more tables players (dealt_in table next.waiting players) valid.marked
           (λ number. let same = sits number in omega (arith, same)) other);
       busts = valid.busts;
       counted = let counted = valid.counted in omega (arith, counted);

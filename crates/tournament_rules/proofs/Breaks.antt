@@ -1,9 +1,9 @@
 -- A book is valid once a table broke.
-use Rattle.std.proofs.Common.{◌≡◌, ◌∙◌, refl, sym, ap, subst, ℕ, ◌+◌, ◌≤◌, Bool, true, false, cond, ◌==◌, ◌&&◌, ◌||◌, List, [], ◌∷◌, length, arith}
-use Rattle.std.specs.Prelude.{not, filter, find, count_by, nat_lt, is_some, is_none, option_map, Option, Some, None, IsPermutation}
+use Rattle.std.proofs.Common.{◌≡◌, ◌∙◌, refl, sym, ap, subst, ℕ, zero, suc, ◌+◌, ◌≤◌, ◌<◌, Bool, true, false, cond, ◌==◌, ◌&&◌, ◌||◌, List, [], ◌∷◌, length, get_or, arith}
+use Rattle.std.specs.Prelude.{not, filter, find, count_by, nat_lt, slice_set, is_some, is_none, option_map, Option, Some, None, IsPermutation}
 use Rattle.std.specs.List.{list_all, list_any}
 use Rattle.std.specs.Option.{option_map_or, ForSome}
-use Rattle.std.proofs.lemmas.Bool.{and_parts, and_from, not-true, eq-eqb, eqb-true}
+use Rattle.std.proofs.lemmas.Bool.{and_parts, and_from, or_parts, not-true, eq-eqb, eqb-true}
 use Rattle.std.proofs.lemmas.Bool.Decides.{nat_tests}
 use Rattle.std.proofs.lemmas.List.Sorted.{sum_by-IsPermutation, list_any-IsPermutation}
 use Rattle.rulebook.specs.Pairs.{are_distinct}
@@ -13,7 +13,7 @@ use Rattle.seat_book.specs.declared.table_status.TableStatus.{TableStatus}
 use Rattle.seat_book.specs.Places.{is_place_of}
 use Rattle.seat_book.specs.Players.{sits_at, sits_in, player_at, player_of, players_at, are_apart}
 use Rattle.seat_book.specs.Counts.{count_at}
-use Rattle.seat_book.specs.Tables.{status_at, IsStatusOf}
+use Rattle.seat_book.specs.Tables.{fresh_status, status_at, with_status, IsStatusOf}
 use Rattle.seat_book.specs.Seatings.{Seating}
 use Rattle.seat_book.proofs.Passing.{find-none, found-passes, none-find, count_by-cons}
 use Rattle.balance_rule.specs.declared.balance.Move.{Move}
@@ -34,11 +34,13 @@ use Rattle.tournament_rules.specs.Books.{BookState, has_table, start_at}
 use Rattle.tournament_rules.specs.Checks.{book_checks, book_refusal, is_table_open, is_playing, is_not_last}
 use Rattle.tournament_rules.specs.Effects.{with_table, forgotten, broken}
 use Rattle.tournament_rules.specs.Moving.{is_called, after_taking, after_all}
+use Rattle.tournament_rules.specs.Units.{is_due}
 use Rattle.tournament_rules.specs.Valid.{IsValid, is_lent}
 use Rattle.tournament_rules.proofs.Passed.{none_holds, is_so}
 use Rattle.tournament_rules.proofs.Ends.{valid_counted}
 use Rattle.tournament_rules.proofs.Begins.{all_rest}
 use Rattle.tournament_rules.proofs.Fitting.{table_range, status_here, each_status, length-with_status}
+use Rattle.tournament_rules.proofs.KeptUnits.{keeps-set, one_unit, out_kept, units_kept}
 use Rattle.tournament_rules.proofs.Moved.{MayMove, moved, book_moved, valid_moved, all-moved, filter-moved}
 use Rattle.tournament_rules.proofs.Balances.{not_picked}
 
@@ -174,13 +176,15 @@ same_place-itself place = and_from (place.table == place.table) (place.seat == p
     (eq-eqb place.table place.table refl) (eq-eqb place.seat place.seat refl)
 
 -- The players of a table that rests may take these places: each is one of the plan's where nobody sits, and none comes
--- twice. The table has no marks.
+-- twice. The table has no marks, and no race is pending.
 pub record MayTake (book : BookState) (table : ℕ) (places : List Place) : Type 0 where
   pub rest : filter (is_lent table) book.seating.players ≡ []
   pub bare : (status_at book.seating.tables table).marks ≡ None
   pub within : list_all (is_place_of book.seating.table_count book.seating.seat_count) places ≡ true
   pub free : list_all (λ place. is_empty_seat book.seating.players place.table place.seat) places ≡ true
   pub once : (place : Place) → count_by (is_same_place place) places ≤ 1
+  pub there : is_between 1 book.plan.tables table ≡ true
+  pub no_race : is_race_pending book.seating ≡ false
 
 -- Who is found among those that a test keeps passes that test.
 pub find-filter : {A : Type 0} (keep test : A → Bool) (items : List A) (found : A)
@@ -258,6 +262,10 @@ module _ (book : BookState) (table : ℕ) (name : List ℕ) (place : Place) (pla
         free = empty-nobody players place.table place.seat free.0;
         keeps = λ marks is.
             let none = ap (λ (n : ℕ). (status_at book.seating.tables n).marks) his_table ∙ may.bare in absurd cc;
+        no_race = may.no_race;
+        unit = level_unit place.table (listed place within.0)
+            ∙ sym (ap (λ (number : ℕ). (status_at book.seating.tables number).unit) his_table
+            ∙ level_unit table may.there);
       } in
       let itself = ap (λ (b : Bool). cond {A = ℕ} b 1 0) (same_place-itself place) in
       let first = count_by-cons (is_same_place place) place places in
@@ -278,9 +286,20 @@ module _ (book : BookState) (table : ℕ) (name : List ℕ) (place : Place) (pla
               let one = count_by-cons (is_same_place other) place places in
               let most = may.once other in
               omega (arith, one, most);
+          there = may.there;
+          no_race = may.no_race;
         },
       )
     where
+      level_unit : (number : ℕ) → is_between 1 book.plan.tables number ≡ true
+          → (status_at book.seating.tables number).unit ≡ unit_of_level book.plan.blinds book.level
+      level_unit = one_unit book.plan book.level book.added book.seating.tables book.seating.players valid.units
+          may.no_race
+
+      listed : (place : Place) → is_place_of book.seating.table_count book.seating.seat_count place ≡ true
+          → is_between 1 book.plan.tables place.table ≡ true
+      listed place within = rw (← valid.tables.tables) (and_parts _ _ within).0
+
       has_some : (here : Bool) (stack : ℕ) → (stack == 0) ≡ false → (here && stack == 0) ≡ false
       has_some true stack some = some
       has_some false stack some = refl
@@ -311,6 +330,8 @@ module _ (book : BookState) (table : ℕ) (name : List ℕ) (place : Place) (pla
                   let one = count_by-cons (is_same_place other) place places in
                   let most = may.once other in
                   omega (arith, one, most);
+              there = may.there;
+              no_race = may.no_race;
             },
           )
       by_find (Some player) is =
@@ -342,6 +363,7 @@ valid_forgotten book table valid there =
     let stands = lawful.statuses table in
     let tables = book.seating.tables in
     let last : table ≤ length tables = omega (arith, range.1, count, size) in
+    let keeps = keeps-set tables table status range.0 last refl refl in
     record {
       plan = valid.plan;
       entries = valid.entries;
@@ -367,14 +389,11 @@ valid_forgotten book table valid there =
         playing = λ other. each_status (λ number status. status.playing ≡ is_some (start_at book.out number)) tables
             table status range.0 last (valid.tables.playing table) other (valid.tables.playing other);
       };
-      hands = valid.hands;
-      chips = record {
-        kept = valid.chips.kept;
-        whole = valid.chips.whole;
-        units = λ other listed. each_status (λ number status. is_between 1 book.plan.tables number ≡ true →
-            status.unit ≡ unit_of_level book.plan.blinds book.level) tables table status range.0 last
-            (valid.chips.units table) other (valid.chips.units other) listed;
-      };
+      hands = out_kept book.plan tables (with_status tables table status) book.seating.players book.out valid.hands
+          keeps.unit;
+      chips = valid.chips;
+      units = units_kept book.plan book.level book.added tables (with_status tables table status) book.seating.players
+          book.seating.players valid.units keeps valid.units.whole valid.units.due;
       marked = λ other. each_status (λ number status. ForSome status.marks
           (λ marks. 1 ≤ count_at book.seating.players number)) tables table status range.0 last
           (λ marks is. absurd cc) other (valid.marked other);
@@ -412,7 +431,24 @@ may_take book table places names valid may =
           let same = sum_by-IsPermutation (λ (other : Place). cond {A = ℕ} (is_same_place place other) 1 0) fill places
           right in
           omega (arith, one, same);
+      there = opened.0;
+      no_race =
+          let last = range.1 in
+          same_race book.seating.tables table (omega (arith, last, count, size)) may.no_race;
     }
+  where
+    same_race : (tables : List TableStatus) (table : ℕ) → table ≤ length tables → list_any is_due tables ≡ false
+        → list_any is_due (with_status tables table (forgotten (status_at tables table))) ≡ false
+    same_race tables zero last none = none
+    same_race tables (suc below) last none = by_list tables below (omega (arith, last)) none
+      where
+        by_list : (tables : List TableStatus) (below : ℕ) → below < length tables → list_any is_due tables ≡ false
+            → list_any is_due (slice_set tables below (forgotten (get_or tables below fresh_status))) ≡ false
+        by_list [] below within none = absurd (omega (arith, within))
+        by_list (status ∷ tables) zero within none = none
+        by_list (status ∷ tables) (suc below) within none =
+            let parts = or_parts (is_due status) (list_any is_due tables) none in
+            rw parts.0 (by_list tables below (omega (arith, within)) parts.1)
 
 -- A book is valid once a table broke.
 pub valid_broken : (book : BookState) (table : ℕ) (places : List Place) (names : List (List ℕ)) → IsValid book

@@ -1,17 +1,20 @@
 -- What becomes of the players when a hand begins.
-use Rattle.std.proofs.Common.{◌≡◌, refl, ap, ℕ, ◌+◌, ◌%◌, Bool, true, false, cond, ◌==◌, ◌&&◌, List, [], ◌∷◌, map, arith}
+use Rattle.std.proofs.Common.{◌≡◌, ◌∙◌, refl, sym, ap, ℕ, ◌+◌, ◌%◌, Bool, true, false, cond, ◌==◌, ◌&&◌, List, [], ◌∷◌, map, arith}
 use Rattle.std.specs.Prelude.{not, filter, sum_by}
 use Rattle.std.specs.List.{list_all}
 use Rattle.std.proofs.Math.Nat.{zero-mod}
-use Rattle.std.proofs.lemmas.Bool.{and_parts, and_from}
+use Rattle.std.proofs.lemmas.Bool.{and_parts, and_from, eqb-true}
 use Rattle.std.proofs.lemmas.Bool.Decides.{nat_tests}
 use Rattle.std.proofs.lemmas.List.Sums.{sum_by-cons}
 use Rattle.button_blinds.specs.SeatSets.{has_seat}
 use Rattle.seat_book.specs.declared.seated.Seated.{Seated}
+use Rattle.seat_book.specs.declared.table_status.TableStatus.{TableStatus}
 use Rattle.seat_book.specs.Players.{sits_at}
+use Rattle.seat_book.specs.Tables.{status_at}
 use Rattle.table_engine.specs.declared.start.StartSeat.{StartSeat}
 use Rattle.table_engine.specs.Starts.{is_playable_stack, have_playable_stacks, chips_of}
 use Rattle.tournament_rules.specs.Players.{start_seat, with_rest, is_dealt_in, dealt_seats, dealt_in}
+use Rattle.tournament_rules.specs.Units.{is_whole_at, AreWhole}
 use Rattle.tournament_rules.specs.Valid.{is_lent, without_stack}
 use Rattle.tournament_rules.proofs.Restacked.{ChangesStacks}
 use Rattle.tournament_rules.proofs.Paying.{stack_of}
@@ -103,45 +106,48 @@ lent_elsewhere-dealt_in table other waiting (player ∷ players) differ =
 pub nothing_whole : (unit : ℕ) → (0 % unit == 0) ≡ true
 nothing_whole unit = rw (zero-mod unit) refl
 
--- Every stack at rest is a multiple of the unit where every one was.
-pub whole-dealt_in : (unit table : ℕ) (waiting : List Bool) (players : List Seated)
-    → list_all (λ player. player.stack % unit == 0) players ≡ true
-    → list_all (λ player. player.stack % unit == 0) (dealt_in table waiting players) ≡ true
-whole-dealt_in unit table waiting [] whole = refl
-whole-dealt_in unit table waiting (player ∷ players) whole =
-    let parts = and_parts (player.stack % unit == 0) (list_all (λ player. player.stack % unit == 0) players) whole in
+-- Every stack at rest is a multiple of its table's unit where every one was.
+pub whole-dealt_in : (tables : List TableStatus) (table : ℕ) (waiting : List Bool) (players : List Seated)
+    → AreWhole tables players → AreWhole tables (dealt_in table waiting players)
+whole-dealt_in tables table waiting [] whole = refl
+whole-dealt_in tables table waiting (player ∷ players) whole =
+    let parts = and_parts (is_whole_at tables player) (list_all (is_whole_at tables) players) whole in
     and_from _ _ (by_test (is_dealt_in table waiting player) parts.0)
-    (whole-dealt_in unit table waiting players parts.1)
+    (whole-dealt_in tables table waiting players parts.1)
   where
-    by_test : (b : Bool) → (player.stack % unit == 0) ≡ true
-        → ((cond b (with_rest player 0) player).stack % unit == 0) ≡ true
-    by_test true his = nothing_whole unit
+    by_test : (b : Bool) → is_whole_at tables player ≡ true
+        → is_whole_at tables (cond b (with_rest player 0) player) ≡ true
+    by_test true his = nothing_whole (status_at tables player.place.table).unit
     by_test false his = his
 
-playable-step : (unit table : ℕ) (waiting : List Bool) (player : Seated) (players : List Seated) (b : Bool)
-    → is_dealt_in table waiting player ≡ b → is_lent table player ≡ false → (player.stack % unit == 0) ≡ true
-    → have_playable_stacks unit (dealt_seats table waiting players) ≡ true
-    → have_playable_stacks unit (map start_seat
+playable-step : (tables : List TableStatus) (table : ℕ) (waiting : List Bool) (player : Seated) (players : List Seated)
+    (b : Bool) → is_dealt_in table waiting player ≡ b → is_lent table player ≡ false
+    → is_whole_at tables player ≡ true
+    → have_playable_stacks (status_at tables table).unit (dealt_seats table waiting players) ≡ true
+    → have_playable_stacks (status_at tables table).unit (map start_seat
     (cond b (player ∷ filter (is_dealt_in table waiting) players) (filter (is_dealt_in table waiting) players)))
     ≡ true
-playable-step unit table waiting player players true is none whole rest =
+playable-step tables table waiting player players true is none whole rest =
     let sits = (and_parts (sits_at table player) (not (has_seat waiting player.place.seat)) is).0 in
-    and_from (is_playable_stack unit player.stack) _ (above (sits_at table player) player.stack unit sits none whole)
+    let here = eqb-true player.place.table table sits in
+    let his = ap (λ (number : ℕ). player.stack % (status_at tables number).unit == 0) (sym here) ∙ whole in
+    let unit = (status_at tables table).unit in
+    and_from (is_playable_stack unit player.stack) _ (above (sits_at table player) player.stack unit sits none his)
     rest
   where
     above : (sits : Bool) (stack unit : ℕ) → sits ≡ true → (sits && stack == 0) ≡ false → (stack % unit == 0) ≡ true
         → is_playable_stack unit stack ≡ true
     above true stack unit sits none whole = and_from _ _ (grind (arith, nat_tests)) whole
     above false stack unit sits none whole = absurd cc
-playable-step unit table waiting player players false is none whole rest = rest
+playable-step tables table waiting player players false is none whole rest = rest
 
--- Where everyone at a table has something at rest, a multiple of the unit, who is dealt in can play with his stack.
-pub playable-dealt : (unit table : ℕ) (waiting : List Bool) (players : List Seated)
-    → filter (is_lent table) players ≡ [] → list_all (λ player. player.stack % unit == 0) players ≡ true
-    → have_playable_stacks unit (dealt_seats table waiting players) ≡ true
-playable-dealt unit table waiting [] none whole = refl
-playable-dealt unit table waiting (player ∷ players) none whole =
+-- Where everyone at a table has something at rest, a multiple of its unit, who is dealt in can play with his stack.
+pub playable-dealt : (tables : List TableStatus) (table : ℕ) (waiting : List Bool) (players : List Seated)
+    → filter (is_lent table) players ≡ [] → AreWhole tables players
+    → have_playable_stacks (status_at tables table).unit (dealt_seats table waiting players) ≡ true
+playable-dealt tables table waiting [] none whole = refl
+playable-dealt tables table waiting (player ∷ players) none whole =
     let lent = none_first (is_lent table) player players none in
-    let parts = and_parts (player.stack % unit == 0) (list_all (λ player. player.stack % unit == 0) players) whole in
-    playable-step unit table waiting player players (is_dealt_in table waiting player) refl lent.0 parts.0
-    (playable-dealt unit table waiting players lent.1 parts.1)
+    let parts = and_parts (is_whole_at tables player) (list_all (is_whole_at tables) players) whole in
+    playable-step tables table waiting player players (is_dealt_in table waiting player) refl lent.0 parts.0
+    (playable-dealt tables table waiting players lent.1 parts.1)

@@ -32,6 +32,10 @@ act-book play (events.Time there) table at = kept_after (λ play. play.book) pla
 act-book play (events.Settle there) table at = absurd cc
 act-book play (events.Balance from to) table at = absurd cc
 act-book play (events.Break there places names) table at = absurd cc
+act-book play events.Level table at = absurd cc
+act-book play (events.Race there row) table at = absurd cc
+act-book play (events.Hands on) table at = absurd cc
+act-book play events.Round table at = absurd cc
 act-book play events.Stop table at = absurd cc
 
 -- The hand at another table stays where the acts at one table are others.
@@ -60,4 +64,8 @@ act-elsewhere play (events.Time there) table other at apart =
 act-elsewhere play (events.Settle there) table other at apart = absurd cc
 act-elsewhere play (events.Balance from to) table other at apart = absurd cc
 act-elsewhere play (events.Break there places names) table other at apart = absurd cc
+act-elsewhere play events.Level table other at apart = absurd cc
+act-elsewhere play (events.Race there row) table other at apart = absurd cc
+act-elsewhere play (events.Hands on) table other at apart = absurd cc
+act-elsewhere play events.Round table other at apart = absurd cc
 act-elsewhere play events.Stop table other at apart = absurd cc

@@ -1,12 +1,10 @@
 -- A book is valid once a hand has ended: it is settled, or it is void.
 use Rattle.std.proofs.Common.{◌≡◌, ◌∙◌, refl, sym, ap, subst, ℕ, zero, suc, ◌+◌, ◌%◌, ◌<◌, ◌≤◌, Bool, true, false, cond, ◌==◌, List, [], ◌∷◌, ◌++◌, map, length, set, ◌⊎◌, inl, inr, arith}
-use Rattle.std.specs.Prelude.{nat_lt, filter, slice_set, Option, Some, None}
+use Rattle.std.specs.Prelude.{nat_lt, filter, slice_set, if◌then◌else◌, Option, Some, None}
 use Rattle.std.specs.List.{list_all}
 use Rattle.std.specs.Option.{option_map_or, ForSome}
 use Rattle.std.proofs.lemmas.Bool.{and_parts, and_from, cases_Bool, cases_lt, eqb-true}
 use Rattle.std.proofs.lemmas.List.{get_or_past}
-use Rattle.level_plan.specs.Items.{is_between}
-use Rattle.level_plan.specs.Plans.{unit_of_level}
 use Rattle.place_list.specs.declared.bust.Bust.{Bust}
 use Rattle.seat_book.specs.declared.seated.Seated.{Seated}
 use Rattle.seat_book.specs.Players.{sits_at}
@@ -21,14 +19,16 @@ use Rattle.table_engine.specs.Plays.{IsLawfulPlay}
 use Rattle.table_engine.proofs.ChipsAfter.{chips-players, stacks-whole}
 use Rattle.tournament_rules.specs.Books.{BookState, start_at, players_out}
 use Rattle.tournament_rules.specs.Players.{start_seat, paid, put_back}
-use Rattle.tournament_rules.specs.Effects.{with_table, at_rest, ended, broke_by, bust_of, settled, void_at, void_first, stopped_book}
+use Rattle.tournament_rules.specs.Effects.{with_table, at_rest, ended, broke_by, bust_of, next_group, settled, void_at, void_first, stopped_book}
+use Rattle.tournament_rules.specs.Units.{is_whole_at}
 use Rattle.tournament_rules.specs.Valid.{IsValid, AreOnce, AreGrouped, is_lent, without_stack}
 use Rattle.tournament_rules.proofs.Restacked.{count_changed, entered_changed, apart_changed}
-use Rattle.tournament_rules.proofs.Paying.{numbers_of, paid-stacks, picked_numbers, ArePayees, rest-put_back, none_lent, lent_elsewhere, all-put_back}
+use Rattle.tournament_rules.proofs.Paying.{numbers_of, paid-stacks, picked_numbers, ArePayees, rest-put_back, none_lent, lent_elsewhere, whole-put_back}
 use Rattle.tournament_rules.proofs.Remaining.{somebody_stays}
 use Rattle.tournament_rules.proofs.DealtIn.{none_first}
 use Rattle.tournament_rules.proofs.Stayed.{without, who_stay, all_stay, fitting_left, entered_left, none_lent-stay, lent_elsewhere-stay, count_elsewhere-stay, rest-stay, stayed-lent, with_nothing, lent_after, once_left, grouped_left}
 use Rattle.tournament_rules.proofs.Fitting.{table_range, each_status, fitting_changed, table_out, out_changed, play_changed, chips_out}
+use Rattle.tournament_rules.proofs.KeptUnits.{keeps-set, out_kept, units_kept}
 
 -- The payees are a start's players with other stacks, of the same sum, that are multiples of the unit.
 pub record GoBackTo (start : HandStart) (payees : List StartSeat) : Type 0 where
@@ -86,10 +86,9 @@ closed book table players busts group accepted = record book {
 -- have none have left.
 valid_closed : (book : BookState) (table : ℕ) (start : HandStart) (payees : List StartSeat) (busts : List Bust)
     (group accepted : ℕ) → IsValid book → start_at book.out table ≡ Some start → GoBackTo start payees
-    → ForSome (status_at book.seating.tables table).marks (λ marks. 1 ≤ count_at (left_with book table payees) table)
     → AreOnce book.entries (left_with book table payees) busts → AreGrouped busts group → book.begun ≤ accepted
     → group ≤ accepted → IsValid (closed book table (left_with book table payees) busts group accepted)
-valid_closed book table start payees busts group accepted valid is back stays once grouped counted raised =
+valid_closed book table start payees busts group accepted valid is back once grouped counted raised =
     let there = table_out book.plan book.seating book.out table start valid.tables is in
     let range = table_range 1 book.plan.tables table there in
     let count = valid.tables.tables in
@@ -101,9 +100,12 @@ valid_closed book table start payees busts group accepted valid is back stays on
     let began = valid.hands.starts table start is in
     let stands = valid.tables.lawful.statuses table in
     let players = put_back payees book.seating.players in
-    let status = at_rest (status_at book.seating.tables table) in
-    let unit = unit_of_level book.plan.blinds book.level in
-    let is_whole : ℕ → Bool = λ stack. stack % unit == 0 in
+    let tables = book.seating.tables in
+    let status = at_rest (status_at tables table) in
+    let last : table ≤ length tables = omega (arith, range.1, count, size) in
+    let keeps = keeps-set tables table status range.0 last refl refl in
+    let stays : 1 ≤ count_at (who_stay table players) table = somebody_stays table book.seating.players payees start.unit
+    start.seats apart those began.lawful.stacks began.lawful.two back.kept in
     record {
       plan = valid.plan;
       entries = entered_left book.entries players book.busts busts (is_lent table)
@@ -115,45 +117,44 @@ valid_closed book table start payees busts group accepted valid is back stays on
       }) (slice_set book.out table None) (is_lent table)
           (fitting_changed book.plan book.seating book.out table status None (paid payees) valid.tables there
           (record { marks = stands.marks; unit = stands.unit; race = stands.race }) refl (paid-stacks payees));
-      hands = out_changed book.plan book.level book.seating.players (who_stay table players) book.out
+      hands = out_kept book.plan tables (with_status tables table status) (who_stay table players)
+          (slice_set book.out table None)
+          (out_changed book.plan tables book.seating.players (who_stay table players) book.out
           table None valid.hands within
           (λ start none. absurd cc)
           (ap (λ (found : List Seated). map start_seat found) (none_lent-stay table players))
           (λ other differ. lent_elsewhere-stay table other players differ
-          ∙ lent_elsewhere table other book.seating.players payees apart those differ);
+          ∙ lent_elsewhere table other book.seating.players payees apart those differ)) keeps.unit;
       busts = grouped;
-      chips = record {
-        kept =
-            let kept = valid.chips.kept in
-            let rest = rest-put_back (is_lent table) book.seating.players payees apart those (lent_nothing table) in
-            let stay = rest-stay table players in
-            let play = play_changed book.out table None within in
-            let his : chips_out (start_at book.out table) ≡ chips_of start.seats = ap chips_out is in
-            let same = back.kept in
-            omega (arith, kept, rest, stay, play, his, same);
-        whole = all_stay (λ player. is_whole player.stack) (is_lent table) players
-            (all-put_back is_whole payees book.seating.players
-            (ap (λ (unit : ℕ). list_all (λ (payee : StartSeat). payee.stack % unit == 0) payees) (sym began.unit)
-            ∙ back.whole)
-            valid.chips.whole);
-        units = λ other listed. each_status (λ number status. is_between 1 book.plan.tables number ≡ true →
-            status.unit ≡ unit) book.seating.tables table status range.0 (omega (arith, range.1, count, size))
-            (valid.chips.units table) other (valid.chips.units other) listed;
-      };
+      chips =
+          let kept = valid.chips in
+          let rest = rest-put_back (is_lent table) book.seating.players payees apart those (lent_nothing table) in
+          let stay = rest-stay table players in
+          let play = play_changed book.out table None within in
+          let his : chips_out (start_at book.out table) ≡ chips_of start.seats = ap chips_out is in
+          let same = back.kept in
+          omega (arith, kept, rest, stay, play, his, same);
+      units = units_kept book.plan book.level book.added tables (with_status tables table status) book.seating.players
+          (who_stay table players) valid.units keeps
+          (all_stay (is_whole_at tables) (is_lent table) players
+          (whole-put_back tables table book.seating.players payees apart those valid.units.whole
+          (ap (λ (unit : ℕ). list_all (λ (payee : StartSeat). payee.stack % unit == 0) payees) (sym began.unit)
+          ∙ back.whole)))
+          (λ other unit due. still_one stays other (cases_Bool (table == other)) (valid.units.due other unit due));
       marked = λ other. each_status (λ number status. ForSome status.marks
-          (λ marks. 1 ≤ count_at (who_stay table players) number)) book.seating.tables table status range.0
-          (omega (arith, range.1, count, size)) stays other (marked_before other (cases_Bool (table == other)));
+          (λ marks. 1 ≤ count_at (who_stay table players) number)) tables table status range.0 last
+          (λ marks is. stays) other
+          (λ marks is. still_one stays other (cases_Bool (table == other)) (valid.marked other marks is));
       counted = counted;
       raised = raised;
     }
   where
-    marked_before : (other : ℕ) → ((table == other) ≡ true) ⊎ ((table == other) ≡ false)
-        → ForSome (status_at book.seating.tables other).marks
-        (λ marks. 1 ≤ count_at (left_with book table payees) other)
-    marked_before other (inl same) = subst (λ (number : ℕ). ForSome (status_at book.seating.tables number).marks
-        (λ marks. 1 ≤ count_at (left_with book table payees) number)) (eqb-true table other same) stays
-    marked_before other (inr differ) = λ marks is.
-        let one = valid.marked other marks is in
+    still_one : 1 ≤ count_at (left_with book table payees) table → (other : ℕ)
+        → ((table == other) ≡ true) ⊎ ((table == other) ≡ false) → 1 ≤ count_at book.seating.players other
+        → 1 ≤ count_at (left_with book table payees) other
+    still_one stays other (inl same) one =
+        subst (λ (number : ℕ). 1 ≤ count_at (left_with book table payees) number) (eqb-true table other same) stays
+    still_one stays other (inr differ) one =
         let left = count_elsewhere-stay table other (put_back payees book.seating.players) differ in
         let same = count_changed (sits_at other) (paid payees) (record { same = λ player stack. refl })
         (paid-stacks payees) book.seating.players in
@@ -180,13 +181,8 @@ valid_ended book table start payees valid is back above =
     valid.entries in
     let once = subst (λ (players : List Seated). AreOnce book.entries players book.busts) (sym all) entered.once in
     subst (λ (players : List Seated). IsValid (closed book table players book.busts book.group book.accepted)) all
-    (valid_closed book table start payees book.busts book.group book.accepted valid is back
-    (λ marks marked.
-    let one = valid.marked table marks marked in
-    let same = count_changed (sits_at table) (paid payees) (record { same = λ player stack. refl })
-    (paid-stacks payees) book.seating.players in
-    let here = ap (λ (players : List Seated). count_at players table) all in
-    omega (arith, one, same, here)) once valid.busts valid.counted valid.raised)
+    (valid_closed book table start payees book.busts book.group book.accepted valid is back once valid.busts
+    valid.counted valid.raised)
 
 -- A book is valid with another count of accepted events, if it is no lower, whether it is stopped or not.
 pub valid_counted : (book : BookState) (accepted : ℕ) (stopped : Bool) → IsValid book → book.begun ≤ accepted
@@ -196,7 +192,8 @@ valid_counted book accepted stopped valid enough raised = record {
   entries = valid.entries;
   tables = valid.tables;
   hands = valid.hands;
-  chips = record { kept = valid.chips.kept; whole = valid.chips.whole; units = valid.chips.units };
+  chips = valid.chips;
+  units = valid.units;
   busts = valid.busts;
   marked = valid.marked;
   counted = enough;
@@ -255,13 +252,17 @@ valid_settled book hand valid is play over =
     let counted = valid.counted in
     let raised = valid.raised in
     let busts = book.busts ++ map (bust_of book.group) (broke_by hand) in
+    let next = next_or_same book.seating.hands book.group in
     subst (λ (players : List Seated). IsValid
-    (closed book start.table players busts (book.group + 1) (book.accepted + 1))) (sym stay)
-    (valid_closed book start.table start payees busts (book.group + 1) (book.accepted + 1) valid is back
-    (λ marks marked. somebody_stays start.table book.seating.players payees start.unit start.seats apart those
-    began.lawful.stacks began.lawful.two back.kept) once
-    (grouped_left book.group (broke_by hand) book.busts valid.busts) (omega (arith, counted))
-    (omega (arith, raised)))
+    (closed book start.table players busts (next_group book) (book.accepted + 1))) (sym stay)
+    (valid_closed book start.table start payees busts (next_group book) (book.accepted + 1) valid is back once
+    (grouped_left book.group (next_group book) (broke_by hand) book.busts next.0 valid.busts) (omega (arith, counted))
+    (let most = next.1 in omega (arith, raised, most)))
+  where
+    next_or_same : (hands : Bool) (group : ℕ)
+        → (group ≤ (if hands then group else group + 1)) × ((if hands then group else group + 1) ≤ group + 1)
+    next_or_same true group = (omega arith, omega arith)
+    next_or_same false group = (omega arith, omega arith)
 
 -- A book is valid once the hand at a table is void.
 pub valid_void_at : (book : BookState) (table : ℕ) → IsValid book → IsValid (void_at book table)

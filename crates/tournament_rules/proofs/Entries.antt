@@ -1,6 +1,6 @@
 -- A book is valid before any entry, and after each.
 use Rattle.std.proofs.Common.{◌≡◌, ◌∙◌, refl, sym, ap, ℕ, zero, suc, ◌+◌, ◌%◌, ◌<◌, ◌≤◌, ◌⊎◌, inl, inr, Bool, true, false, cond, ◌==◌, ◌&&◌, eq-eqb, List, [], ◌∷◌, ◌++◌, map, length, arith, length-append}
-use Rattle.std.specs.Prelude.{nat_lt, count_by, sum_by, replicate, slice_get, Some, None, is_some}
+use Rattle.std.specs.Prelude.{nat_lt, nat_le, count_by, sum_by, replicate, slice_get, Option, Some, None, is_some}
 use Rattle.std.specs.Option.{ForSome}
 use Rattle.std.proofs.lemmas.Bool.{and_parts, and_from, cases_lt, eqb-true}
 use Rattle.std.proofs.lemmas.Bool.Decides.{nat_tests}
@@ -24,13 +24,14 @@ use Rattle.tournament_rules.specs.Books.{BookState, start_at, players_out}
 use Rattle.tournament_rules.specs.Checks.{book_refusal}
 use Rattle.tournament_rules.specs.Players.{start_seat}
 use Rattle.tournament_rules.specs.Effects.{first_book, first_status, newcomer, entered}
+use Rattle.tournament_rules.specs.Units.{IsUnitOf, is_due}
 use Rattle.tournament_rules.specs.Valid.{IsValid, AreEntered, rows_owed, without_stack, is_lent}
-use Rattle.tournament_rules.proofs.Fitting.{table_range, marked_more}
+use Rattle.tournament_rules.proofs.Fitting.{table_range, marked_more, due_more}
 use Rattle.tournament_rules.proofs.Insertions.{list_all-insert, All-insert, filter-insert_no}
 use Rattle.tournament_rules.proofs.SitDown.{seating-sit_down, none_numbered}
 use Rattle.tournament_rules.proofs.Passed.{entry_passed}
 use Rattle.tournament_rules.proofs.Names.{IsNamed, names-entered}
-use Rattle.tournament_rules.proofs.Units.{whole_earlier}
+use Rattle.tournament_rules.proofs.Units.{next_times, whole_times, whole_earlier}
 
 -- What a right plan has.
 pub record IsRight (plan : PlanTerms) : Type 0 where
@@ -42,6 +43,7 @@ pub record IsRight (plan : PlanTerms) : Type 0 where
   pub most_stack : plan.stack ≤ 1000000000
   pub some_late : 1 ≤ plan.late
   pub most_late : plan.late ≤ length plan.blinds
+  pub level_count : length plan.blinds ≤ 40
   pub levels : are_levels plan.blinds ≡ true
   pub whole : plan.stack % unit_of_level plan.blinds plan.late ≡ 0
 
@@ -69,9 +71,13 @@ right_has plan right =
       most_stack = stack.1;
       some_late = late.0;
       most_late = late.1;
+      level_count = at_most (length plan.blinds) six.0;
       levels = seven.0;
       whole = eqb-true (plan.stack % unit_of_level plan.blinds plan.late) 0 eight.1;
     }
+  where
+    at_most : (count : ℕ) → nat_le count 40 ≡ true → count ≤ 40
+    at_most count few = grind (arith, nat_tests)
 
 -- What is so of a fresh table and of one that stands so, is so of each of many that do.
 status_of_many : (P : TableStatus → Type 0) (status : TableStatus) → P fresh_status → P status → (count table : ℕ)
@@ -136,10 +142,17 @@ valid_first plan right =
         starts = λ table start is. let none = nobody table in absurd cc;
         lent = λ table. sym (ap (λ found. map without_stack (players_out found)) (nobody table));
       };
-      chips = record {
-        kept = omega (arith, none_out (plan.tables + 1));
+      chips = omega (arith, none_out (plan.tables + 1));
+      units = record {
+        units = λ table there. record {
+          own = λ none. unit_of_many (first_status plan) plan.tables table there;
+          new = λ new at. let none = no_race table in absurd cc;
+          race = λ new at. let none = no_race table in absurd cc;
+        };
         whole = refl;
-        units = λ table there. unit_of_many (first_status plan) plan.tables table there;
+        due = λ table new at. let none = no_race table in absurd cc;
+        few = let none = sum_by-replicate (λ (status : TableStatus). cond {A = ℕ} (is_due status) 1 0) plan.tables
+            (first_status plan) in omega (arith, none);
       };
       busts = record { groups = refl; past = refl };
       marked = λ table. status_of_many (λ status. ForSome status.marks (λ marks. 1 ≤ count_at [] table))
@@ -150,6 +163,9 @@ valid_first plan right =
   where
     fresh : (unit : ℕ) → 1 ≤ unit → IsStatusOf plan.seats (record fresh_status { unit = unit })
     fresh unit some = record { marks = λ marks is. absurd cc; unit = some; race = λ race is. absurd cc }
+
+    no_race : (table : ℕ) → (status_at (replicate plan.tables (first_status plan)) table).race ≡ None
+    no_race = status_of_many (λ status. status.race ≡ None) (first_status plan) refl refl plan.tables
 
     none_owed : (number : ℕ) → 0 ≡ rows_owed [] number
     none_owed number = grind (arith, nat_tests)
@@ -232,22 +248,40 @@ valid_entered book name table seat valid none =
             (filter-insert_no (is_lent number) book.seating.players behind new
             (not_lent (table == number) book.plan.stack has.some_stack)) ∙ valid.hands.lent number;
       };
-      chips = record {
-        kept = simp (length-append, sum_by-insert) (omega (arith, valid.chips.kept));
-        whole = list_all-insert _ book.seating.players behind new valid.chips.whole
+      chips = simp (length-append, sum_by-insert) (omega (arith, valid.chips));
+      units = record {
+        units = valid.units.units;
+        whole = list_all-insert _ book.seating.players behind new valid.units.whole
             (eq-eqb _ _
+            (whole_at (status_at book.seating.tables table) book.plan.stack (valid.units.units table may.there)
             (whole_earlier book.plan.blinds book.level book.plan.late book.plan.stack has.levels valid.plan.first
-            (early book.plan.late book.level may.early) has.most_late has.whole));
-        units = valid.chips.units;
+            (early book.plan.late book.level may.early) has.most_late has.whole)));
+        due = due_more book.seating.tables book.seating.players (sit_down new book.seating.players) valid.units.due more;
+        few = valid.units.few;
       };
-      marked = marked_more book.seating.tables book.seating.players (sit_down new book.seating.players) valid.marked
-          (λ other. let more = sum_by-insert (λ player. cond {A = ℕ} (sits_at other player) 1 0) book.seating.players
-          behind new in omega (arith, more));
+      marked = marked_more book.seating.tables book.seating.players (sit_down new book.seating.players) valid.marked more;
       busts = valid.busts;
       counted = omega (arith, valid.counted);
       raised = omega (arith, valid.raised);
     }
   where
+    more : (other : ℕ) → count_at book.seating.players other
+        ≤ count_at (sit_down (newcomer book name table seat) book.seating.players) other
+    more other =
+        let new = newcomer book name table seat in
+        let one = sum_by-insert (λ player. cond {A = ℕ} (sits_at other player) 1 0) book.seating.players
+        (count_by (λ other. comes_before other.place new.place) book.seating.players) new in
+        omega (arith, one)
+
+    whole_at : (status : TableStatus) (stack : ℕ) → IsUnitOf (unit_of_level book.plan.blinds book.level) status
+        → stack % unit_of_level book.plan.blinds book.level ≡ 0 → stack % status.unit ≡ 0
+    whole_at status stack is whole = by_race status.race refl
+      where
+        by_race : (race : Option ℕ) → status.race ≡ race → stack % status.unit ≡ 0
+        by_race None none = ap (λ (unit : ℕ). stack % unit) (is.own none) ∙ whole
+        by_race (Some new) at = whole_times stack status.unit (unit_of_level book.plan.blinds book.level)
+            (next_times status.unit (unit_of_level book.plan.blinds book.level) (is.race new at).next) whole
+
     below : (count : ℕ) → count < 640 → nat_lt count 640 ≡ true
     below count room = grind (arith, nat_tests)
 

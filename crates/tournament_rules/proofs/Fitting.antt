@@ -1,5 +1,5 @@
 -- What holds of the tables and of the starts that are out, once one table stands otherwise with another start, or none.
-use Rattle.std.proofs.Common.{◌≡◌, ◌∙◌, refl, sym, ap, subst, ℕ, zero, suc, ◌+◌, ◌<◌, ◌≤◌, ◌≢◌, true, false, ◌==◌, List, map, length, inl, inr, arith}
+use Rattle.std.proofs.Common.{◌≡◌, ◌∙◌, refl, sym, ap, subst, ℕ, zero, suc, ◌+◌, ◌<◌, ◌≤◌, ◌≢◌, Bool, true, false, ◌==◌, List, map, length, inl, inr, arith}
 use Rattle.std.specs.Prelude.{filter, sum_by, slice_set, Option, Some, None, is_some}
 use Rattle.std.specs.Option.{ForSome}
 use Rattle.std.proofs.lemmas.Bool.{cases_Bool, eqb-true, eqb-false}
@@ -17,6 +17,7 @@ use Rattle.table_engine.specs.declared.start.HandStart.{HandStart}
 use Rattle.table_engine.specs.Starts.{chips_of}
 use Rattle.tournament_rules.specs.Books.{start_at, players_out}
 use Rattle.tournament_rules.specs.Players.{start_seat}
+use Rattle.tournament_rules.specs.Units.{AreDue}
 use Rattle.tournament_rules.specs.Valid.{IsFitting, IsStartAt, AreOut, AreMarked, is_lent, without_stack}
 use Rattle.tournament_rules.proofs.Restacked.{ChangesStacks, all_changed, order_changed, apart_changed}
 
@@ -133,6 +134,33 @@ fitting_changed plan seating out table status start change fits there stands pla
           ∙ fits.playing other);
     }
 
+-- The seating fits the plan once tables stand otherwise, lawfully, and play just where they played, whether
+-- hand-for-hand is on or not.
+pub fitting_alike : (plan : PlanTerms) (seating : Seating) (out : List (Option HandStart)) (tables : List TableStatus)
+    (hands : Bool) → IsFitting plan seating out → length tables ≡ length seating.tables
+    → ((table : ℕ) → IsStatusOf seating.seat_count (status_at tables table))
+    → ((table : ℕ) → (status_at tables table).playing ≡ (status_at seating.tables table).playing)
+    → IsFitting plan (record seating { tables = tables; hands = hands }) out
+fitting_alike plan seating out tables hands fits size stands plays = record {
+  lawful = record {
+    some_tables = fits.lawful.some_tables;
+    most_tables = fits.lawful.most_tables;
+    some_seats = fits.lawful.some_seats;
+    most_seats = fits.lawful.most_seats;
+    tables = size ∙ fits.lawful.tables;
+    statuses = stands;
+    within = fits.lawful.within;
+    ordered = fits.lawful.ordered;
+    entries = fits.lawful.entries;
+    apart = fits.lawful.apart;
+  };
+  tables = fits.tables;
+  seats = fits.seats;
+  room = fits.room;
+  nobody = fits.nobody;
+  playing = λ table. plays table ∙ fits.playing table;
+}
+
 -- A table at which a start is out is one of the plan's.
 pub table_out : (plan : PlanTerms) (seating : Seating) (out : List (Option HandStart)) (table : ℕ) (start : HandStart)
     → IsFitting plan seating out → start_at out table ≡ Some start → is_between 1 plan.tables table ≡ true
@@ -150,14 +178,14 @@ table_out plan seating out (suc below) start fits is = elim (cases_Bool (is_betw
     above high below past = grind (arith, nat_tests)
 
 -- The starts that are out are lawful, and their players are lent, once another start, or none, is out at a table.
-pub out_changed : (plan : PlanTerms) (level : ℕ) (players after : List Seated) (out : List (Option HandStart))
-    (table : ℕ) (start : Option HandStart)
-    → AreOut plan level players out → table < length out → ForSome start (IsStartAt plan level table)
+pub out_changed : (plan : PlanTerms) (tables : List TableStatus) (players after : List Seated)
+    (out : List (Option HandStart)) (table : ℕ) (start : Option HandStart)
+    → AreOut plan tables players out → table < length out → ForSome start (IsStartAt plan tables table)
     → map start_seat (filter (is_lent table) after) ≡ map without_stack (players_out start)
     → ((other : ℕ) → (table == other) ≡ false → filter (is_lent other) after ≡ filter (is_lent other) players)
-    → AreOut plan level after (slice_set out table start)
-out_changed plan level players after out table start hands within lawful here elsewhere = record {
-  starts = λ other. each_start (λ number start. ForSome start (IsStartAt plan level number)) out table start
+    → AreOut plan tables after (slice_set out table start)
+out_changed plan tables players after out table start hands within lawful here elsewhere = record {
+  starts = λ other. each_start (λ number start. ForSome start (IsStartAt plan tables number)) out table start
       within lawful other (λ differ. hands.starts other);
   lent = λ other. each_start (λ number start. map start_seat (filter (is_lent number) after) ≡ map without_stack
       (players_out start)) out table start within here other
@@ -173,6 +201,14 @@ pub play_changed : (out : List (Option HandStart)) (table : ℕ) (start : Option
     → sum_by chips_out (slice_set out table start) + chips_out (start_at out table)
     ≡ sum_by chips_out out + chips_out start
 play_changed out table start within = sum_by-set chips_out out table start None within
+
+-- Pending races stay where somebody sits where no table has fewer players than before.
+pub due_more : (tables : List TableStatus) (before after : List Seated) → AreDue tables before
+    → ((table : ℕ) → count_at before table ≤ count_at after table) → AreDue tables after
+due_more tables before after due more = λ table unit is.
+    let one = due table unit is in
+    let most = more table in
+    omega (arith, one, most)
 
 -- Tables keep their marks where no table has fewer players than before.
 pub marked_more : (tables : List TableStatus) (before after : List Seated) → AreMarked tables before

@@ -43,6 +43,10 @@ effect_extends play (events.Settle table) = by_hand (hand_at play table)
     by_hand (Some hand) = record { more = map (bust_of play.book.group) (broke_by hand); is = refl }
 effect_extends play (events.Balance from to) = same_list play.book.busts
 effect_extends play (events.Break table places names) = same_list play.book.busts
+effect_extends play events.Level = same_list play.book.busts
+effect_extends play (events.Race table row) = same_list play.book.busts
+effect_extends play (events.Hands on) = same_list play.book.busts
+effect_extends play events.Round = same_list play.book.busts
 effect_extends play events.Stop = record {
   more = [];
   is = left-void_first (λ book. book.busts) (record { same = λ book table payees. refl }) play.book

@@ -24,6 +24,7 @@ use Rattle.floor_events.specs.declared.answer.Answer.TheVariants.{Ok}
 use Rattle.floor_events.specs.declared.event.Event.TheVariants.{Begin}
 use Rattle.tournament_rules.specs.Dealing.{next_start}
 use Rattle.tournament_rules.specs.States.{State, PlayState, acts_at, hand_at, refusal_of, answered, answer_to, is_accepted}
+use Rattle.tournament_rules.specs.Units.{is_whole_at, AreWhole}
 use Rattle.tournament_rules.specs.Valid.{IsValid, IsValidPlay, IsStartAt, is_bust_of, is_lent, without_stack}
 use Rattle.tournament_rules.proofs.Passed.{passed-parts}
 use Rattle.tournament_rules.proofs.Steps.{accepted_none}
@@ -56,24 +57,15 @@ IsWhole book player = player.stack % (status_at book.seating.tables player.place
 
 -- Each stack at rest is a multiple of the unit of its player's table.
 pub stacks_whole : (book : BookState) → IsValid book → All (IsWhole book) book.seating.players
-stacks_whole book valid =
-    by_players (unit_of_level book.plan.blinds book.level) book.seating.players valid.chips.units valid.chips.whole
-    valid.tables.lawful.within
+stacks_whole book valid = by_players book.seating.players valid.units.whole
   where
-    by_players : (unit : ℕ) (players : List Seated)
-        → ((table : ℕ) → is_between 1 book.plan.tables table ≡ true → (status_at book.seating.tables table).unit ≡ unit)
-        → list_all (λ player. player.stack % unit == 0) players ≡ true
-        → list_all (sits_within book.seating.table_count book.seating.seat_count) players ≡ true
-        → All (IsWhole book) players
-    by_players unit [] units whole within = All-nil (IsWhole book)
-    by_players unit (player ∷ players) units whole within =
-        let wholes = and_parts _ _ whole in
-        let withins = and_parts _ _ within in
-        let table : is_between 1 book.plan.tables player.place.table ≡ true =
-        rw (← valid.tables.tables) (and_parts _ _ withins.0).0 in
-        let same = ap (λ (unit : ℕ). player.stack % unit) (units player.place.table table) in
-        let his = same ∙ eqb-true (player.stack % unit) 0 wholes.0 in
-        All-cons (IsWhole book) player players his (by_players unit players units wholes.1 withins.1)
+    by_players : (players : List Seated) → AreWhole book.seating.tables players → All (IsWhole book) players
+    by_players [] whole = All-nil (IsWhole book)
+    by_players (player ∷ players) whole =
+        let parts = and_parts (is_whole_at book.seating.tables player) (list_all (is_whole_at book.seating.tables) players)
+        whole in
+        let his = eqb-true (player.stack % (status_at book.seating.tables player.place.table).unit) 0 parts.0 in
+        All-cons (IsWhole book) player players his (by_players players parts.1)
 
 lent_here : (table stack : ℕ) → (table == table && stack == 0) ≡ (stack == 0)
 lent_here table stack = rw (eq-eqb table table refl) refl
@@ -104,12 +96,14 @@ hand_players book valid table =
     let picked = in_hand-picked book.out table book.seating.players (in_hand-lent book valid) in
     ap (λ (found : List Seated). map start_seat found) picked ∙ valid.hands.lent table
 
--- Chips are neither made nor lost, before there is a plan and afterwards.
+-- The chips at rest, those in play and those that races took away are those sold and those that races gave, before there
+-- is a plan and afterwards.
 pub chips_kept : (play : Option PlayState) → ForSome play IsValidPlay
-    → option_map_or (λ play. sold_by play.book) play 0
-    ≡ option_map_or (λ play. rest_in play.book) play 0 + option_map_or (λ play. play_of play.book) play 0
+    → option_map_or (λ play. rest_in play.book) play 0 + option_map_or (λ play. play_of play.book) play 0
+    + option_map_or (λ play. play.book.removed) play 0
+    ≡ option_map_or (λ play. sold_by play.book) play 0 + option_map_or (λ play. play.book.added) play 0
 chips_kept None valid = omega arith
-chips_kept (Some play) valid = (valid play refl).book.chips.kept
+chips_kept (Some play) valid = (valid play refl).book.chips
 
 -- The players are in order, before there is a plan and afterwards.
 pub players_in_order : (play : Option PlayState) → ForSome play IsValidPlay
@@ -122,7 +116,7 @@ pub hand_started : (play : PlayState) → IsValidPlay play → (table : ℕ)
     → ForSome (hand_at play table) (λ hand. IsLawfulStart hand.start)
 hand_started play valid table = by_start (start_at play.book.out table) (valid.book.hands.starts table)
   where
-    by_start : (start : Option HandStart) → ForSome start (IsStartAt play.book.plan play.book.level table)
+    by_start : (start : Option HandStart) → ForSome start (IsStartAt play.book.plan play.book.seating.tables table)
         → ForSome {T = HandTerms} (option_map (λ start. record { start = start; acts = acts_at play.acts table }) start)
         (λ hand. IsLawfulStart hand.start)
     by_start None lawful = λ hand is. absurd cc

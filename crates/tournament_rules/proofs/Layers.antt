@@ -45,6 +45,10 @@ hand_for-read book hands (events.Time table) tied = hand_read book hands table t
 hand_for-read book hands (events.Settle table) tied = hand_read book hands table tied
 hand_for-read book hands (events.Balance from to) tied = refl
 hand_for-read book hands (events.Break table places names) tied = refl
+hand_for-read book hands events.Level tied = refl
+hand_for-read book hands (events.Race table row) tied = refl
+hand_for-read book hands (events.Hands on) tied = refl
+hand_for-read book hands events.Round tied = refl
 hand_for-read book hands events.Stop tied = refl
 
 -- No hand is played at any table.

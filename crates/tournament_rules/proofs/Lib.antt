@@ -4,12 +4,17 @@ pub mod Moved
 pub mod Remaining
 pub mod Balances
 pub mod Breaks
+pub mod BySeats
+pub mod Levels
+pub mod Races
+pub mod Rounds
 pub mod Left
 pub mod Outs
 pub mod Restacked
 pub mod Paying
 pub mod Leaving
 pub mod Fitting
+pub mod KeptUnits
 pub mod Ends
 pub mod NextMarks
 pub mod DealtIn

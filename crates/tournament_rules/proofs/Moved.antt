@@ -16,10 +16,12 @@ use Rattle.seat_book.specs.Counts.{count_at}
 use Rattle.seat_book.specs.Tables.{status_at}
 use Rattle.seat_book.specs.Seatings.{is_entry}
 use Rattle.seat_book.proofs.Passing.{filter-all, find-none, found-all, none-find}
-use Rattle.level_plan.specs.Plans.{unit_of_level}
+use Rattle.balance_rule.specs.Moves.{is_race_pending}
 use Rattle.tournament_rules.specs.Books.{BookState}
 use Rattle.tournament_rules.specs.Players.{start_seat}
+use Rattle.tournament_rules.specs.Units.{is_whole_at}
 use Rattle.tournament_rules.specs.Valid.{IsValid, is_lent}
+use Rattle.tournament_rules.proofs.KeptUnits.{none_due}
 use Rattle.tournament_rules.proofs.Insertions.{list_all-insert, All-insert, filter-insert_no}
 use Rattle.tournament_rules.proofs.Names.{IsNamed}
 use Rattle.tournament_rules.proofs.SitDown.{seating-sit_down}
@@ -133,8 +135,8 @@ none_gone gone (item ∷ items) = by_test (gone item) refl (none_gone gone items
     by_test true is rest = rest
     by_test false is rest = rw (is, rest) refl
 
--- A player may move to a place: he sits and has something at rest, nobody sits in the place, and his table has no
--- marks or another player.
+-- A player may move to a place: he sits and has something at rest, nobody sits in the place, his table has no marks or
+-- another player, no race is pending, and both tables have one unit.
 pub record MayMove (book : BookState) (player : Seated) (place : Place) : Type 0 where
   pub found : player_of book.seating.players player.player ≡ Some player
   pub rests : (player.stack == 0) ≡ false
@@ -142,6 +144,9 @@ pub record MayMove (book : BookState) (player : Seated) (place : Place) : Type 0
   pub free : player_at book.seating.players place ≡ None
   pub keeps : ForSome (status_at book.seating.tables player.place.table).marks
       (λ marks. 2 ≤ count_at book.seating.players player.place.table)
+  pub no_race : is_race_pending book.seating ≡ false
+  pub unit : (status_at book.seating.tables place.table).unit
+      ≡ (status_at book.seating.tables player.place.table).unit
 
 -- the book once this player sits in another place
 abbrev pub book_moved : BookState → Place → Seated → BookState
@@ -153,10 +158,10 @@ pub valid_moved : (book : BookState) (player : Seated) (place : Place) → IsVal
     → IsValid (book_moved book place player)
 valid_moved book player place valid may =
     let players = book.seating.players in
+    let tables = book.seating.tables in
     let lawful = valid.tables.lawful in
     let others = lifted player.player players in
     let new : Seated = record player { place = place } in
-    let unit = unit_of_level book.plan.blinds book.level in
     let behind = count_by (λ other. comes_before other.place place) others in
     record {
       plan = valid.plan;
@@ -195,16 +200,17 @@ valid_moved book player place valid may =
             (has_some (sits_at table player) player.stack may.rests)
             (has_some (place.table == table) player.stack may.rests)) ∙ valid.hands.lent table;
       };
-      chips = record {
-        kept =
-            let same = sum-moved place player players lawful.apart may.found (λ other. other.stack) in
-            let before = valid.chips.kept in
-            omega (arith, same, before);
-        whole = all-moved place player players lawful.apart may.found (λ other. other.stack % unit == 0)
-            valid.chips.whole
-            (found-all (is_numbered player.player) (λ other. other.stack % unit == 0) players player
-            valid.chips.whole may.found);
-        units = valid.chips.units;
+      chips =
+          let same = sum-moved place player players lawful.apart may.found (λ other. other.stack) in
+          let before = valid.chips in
+          omega (arith, same, before);
+      units = record {
+        units = valid.units.units;
+        whole = all-moved place player players lawful.apart may.found (is_whole_at tables) valid.units.whole
+            (ap (λ (unit : ℕ). player.stack % unit == 0) may.unit
+            ∙ found-all (is_numbered player.player) (is_whole_at tables) players player valid.units.whole may.found);
+        due = λ table new at. let none = none_due tables may.no_race table in absurd cc;
+        few = valid.units.few;
       };
       marked = λ table marks is. still_one table marks is (cases_Bool (player.place.table == table));
       busts = valid.busts;

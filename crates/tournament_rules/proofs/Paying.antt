@@ -1,5 +1,5 @@
 -- Stacks go back to those to whom they belong, by their numbers.
-use Rattle.std.proofs.Common.{◌≡◌, ◌∙◌, refl, sym, ap, ℕ, ◌+◌, Bool, true, false, cond, ◌==◌, ◌&&◌, ◌||◌, List, [], ◌∷◌, map, arith}
+use Rattle.std.proofs.Common.{◌≡◌, ◌∙◌, refl, sym, ap, ℕ, ◌+◌, Bool, true, false, cond, ◌%◌, ◌==◌, ◌&&◌, ◌||◌, List, [], ◌∷◌, map, arith}
 use Rattle.std.specs.Prelude.{not, nat_lt, filter, find, fold, drop, sum_by, Option, Some, None}
 use Rattle.std.specs.List.{list_all, list_any}
 use Rattle.std.specs.Option.{option_map_or}
@@ -8,10 +8,13 @@ use Rattle.std.proofs.lemmas.Bool.Decides.{nat_tests}
 use Rattle.std.proofs.lemmas.List.Sums.{sum_by-cons}
 use Rattle.rulebook.specs.Pairs.{are_distinct}
 use Rattle.seat_book.specs.declared.seated.Seated.{Seated}
+use Rattle.seat_book.specs.declared.table_status.TableStatus.{TableStatus}
 use Rattle.seat_book.specs.Players.{sits_at, is_numbered, are_apart}
+use Rattle.seat_book.specs.Tables.{status_at}
 use Rattle.table_engine.specs.declared.start.StartSeat.{StartSeat}
 use Rattle.table_engine.specs.Starts.{chips_of}
 use Rattle.tournament_rules.specs.Players.{start_seat, with_rest, paid, put_back, pay_one}
+use Rattle.tournament_rules.specs.Units.{is_whole_at, AreWhole}
 use Rattle.tournament_rules.specs.Valid.{is_lent}
 use Rattle.tournament_rules.proofs.Members.{eqb-swap, has_number, none_picked}
 use Rattle.tournament_rules.proofs.Restacked.{ChangesStacks}
@@ -251,28 +254,38 @@ lent_elsewhere table other players payees apart those differ = rw
     (put_back-in_turn (is_lent table) players payees apart those)
     (lent_elsewhere-in_turn table other players payees differ)
 
--- A test of all stacks at rest passes once stacks that pass it went back.
-pub all-put_back : (test : ℕ → Bool) (payees : List StartSeat) (players : List Seated)
-    → list_all (λ payee. test payee.stack) payees ≡ true → list_all (λ player. test player.stack) players ≡ true
-    → list_all (λ player. test player.stack) (put_back payees players) ≡ true
-all-put_back test payees [] whole all = refl
-all-put_back test payees (player ∷ players) whole all =
-    let parts = and_parts (test player.stack) (list_all (λ player. test player.stack) players) all in
-    and_from _ _ (one payees player whole parts.0) (all-put_back test payees players whole parts.1)
-  where
-    by_test : (b : Bool) (payee : StartSeat) (payees : List StartSeat) (player : Seated) → test payee.stack ≡ true
-        → test (paid payees player).stack ≡ true
-        → test (option_map_or (λ payee. with_rest player payee.stack)
-        (cond b (Some payee) (find (λ payee. payee.player == player.player) payees)) player).stack ≡ true
-    by_test true payee payees player his others = his
-    by_test false payee payees player his others = others
+whole-step : (tables : List TableStatus) (table : ℕ) (player : Seated) (players : List Seated)
+    (payees : List StartSeat) (b : Bool) → is_lent table player ≡ b → is_whole_at tables player ≡ true
+    → list_all (λ payee. payee.stack % (status_at tables table).unit == 0) payees ≡ true
+    → ((payees : List StartSeat) → list_all (λ payee. payee.stack % (status_at tables table).unit == 0) payees ≡ true
+    → AreWhole tables (paid_in_turn (is_lent table) payees players))
+    → AreWhole tables (cond b (first_paid payees player ∷ paid_in_turn (is_lent table) (drop 1 payees) players)
+    (player ∷ paid_in_turn (is_lent table) payees players))
+whole-step tables table player players [] true is his whole rest = and_from _ _ his (rest [] whole)
+whole-step tables table player players (payee ∷ payees) true is his whole rest =
+    let test : ℕ → Bool = λ number. payee.stack % (status_at tables number).unit == 0 in
+    let here = eqb-true player.place.table table (and_parts (sits_at table player) (player.stack == 0) is).0 in
+    let parts = and_parts (test table) (list_all (λ payee. payee.stack % (status_at tables table).unit == 0) payees)
+    whole in
+    and_from _ _ (ap test here ∙ parts.0) (rest payees parts.1)
+whole-step tables table player players payees false is his whole rest = and_from _ _ his (rest payees whole)
 
-    one : (payees : List StartSeat) (player : Seated) → list_all (λ payee. test payee.stack) payees ≡ true
-        → test player.stack ≡ true → test (paid payees player).stack ≡ true
-    one [] player whole his = his
-    one (payee ∷ payees) player whole his =
-        let parts = and_parts (test payee.stack) (list_all (λ payee. test payee.stack) payees) whole in
-        by_test (payee.player == player.player) payee payees player parts.0 (one payees player parts.1 his)
+whole-in_turn : (tables : List TableStatus) (table : ℕ) (players : List Seated) (payees : List StartSeat)
+    → AreWhole tables players → list_all (λ payee. payee.stack % (status_at tables table).unit == 0) payees ≡ true
+    → AreWhole tables (paid_in_turn (is_lent table) payees players)
+whole-in_turn tables table [] payees all whole = refl
+whole-in_turn tables table (player ∷ players) payees all whole =
+    let parts = and_parts (is_whole_at tables player) (list_all (is_whole_at tables) players) all in
+    whole-step tables table player players payees (is_lent table player) refl parts.0 whole
+    (λ payees whole. whole-in_turn tables table players payees parts.1 whole)
+
+-- Each stack is a multiple of its table's unit once such stacks went back to all who had nothing at rest at a table.
+pub whole-put_back : (tables : List TableStatus) (table : ℕ) (players : List Seated) (payees : List StartSeat)
+    → are_apart players ≡ true → ArePayees (is_lent table) players payees → AreWhole tables players
+    → list_all (λ payee. payee.stack % (status_at tables table).unit == 0) payees ≡ true
+    → AreWhole tables (put_back payees players)
+whole-put_back tables table players payees apart those all whole = rw
+    (put_back-in_turn (is_lent table) players payees apart those) (whole-in_turn tables table players payees all whole)
 
 put_back-none : (players : List Seated) → put_back [] players ≡ players
 put_back-none [] = refl

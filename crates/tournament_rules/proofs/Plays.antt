@@ -33,6 +33,9 @@ use Rattle.tournament_rules.proofs.Entries.{valid_first, valid_entered, start_no
 use Rattle.tournament_rules.proofs.Begins.{may_begin, valid_begun}
 use Rattle.tournament_rules.proofs.Balances.{valid_balanced}
 use Rattle.tournament_rules.proofs.Breaks.{valid_broken}
+use Rattle.tournament_rules.proofs.Levels.{valid_leveled}
+use Rattle.tournament_rules.proofs.Races.{valid_raced}
+use Rattle.tournament_rules.proofs.Rounds.{valid_with_hands, valid_round_ended}
 
 -- the hand of a start that is out, and its acts
 abbrev hand_from : Option HandStart → List ActOf → Option HandTerms
@@ -140,7 +143,7 @@ play_timed play table valid none free =
     }
   where
     by_start : (start : Option HandStart) (acts : List ActOf)
-        → ForSome start (IsStartAt play.book.plan play.book.level table)
+        → ForSome start (IsStartAt play.book.plan play.book.seating.tables table)
         → option_and_then (hand_refusal (events.Time table)) (hand_from start acts) ≡ None
         → ForSome (hand_from start acts) IsLawfulPlay
         → ForSome (hand_from start (acts_in_time (hand_from start acts))) IsLawfulPlay
@@ -238,6 +241,26 @@ play_keeps play (events.Balance from to) valid none = record {
 play_keeps play (events.Break table places names) valid none = record {
   book = valid_broken play.book table places names valid.book
       (passed-parts play (events.Break table places names) none).0;
+  room = valid.room;
+  plays = valid.plays;
+}
+play_keeps play events.Level valid none = record {
+  book = valid_leveled play.book valid.book (passed-parts play events.Level none).0;
+  room = valid.room;
+  plays = valid.plays;
+}
+play_keeps play (events.Race table row) valid none = record {
+  book = valid_raced play.book table row valid.book (passed-parts play (events.Race table row) none).0;
+  room = valid.room;
+  plays = valid.plays;
+}
+play_keeps play (events.Hands on) valid none = record {
+  book = valid_with_hands play.book on valid.book;
+  room = valid.room;
+  plays = valid.plays;
+}
+play_keeps play events.Round valid none = record {
+  book = valid_round_ended play.book valid.book;
   room = valid.room;
   plays = valid.plays;
 }

@@ -1,6 +1,6 @@
 -- Somebody stays at a table when a hand there is settled.
-use Rattle.std.proofs.Common.{◌≡◌, refl, ap, ℕ, suc, ◌%◌, ◌<◌, ◌≤◌, Bool, true, false, cond, ◌==◌, ◌&&◌, List, [], ◌∷◌, length, arith}
-use Rattle.std.specs.Prelude.{filter, count_by, nat_lt}
+use Rattle.std.proofs.Common.{◌≡◌, ◌∙◌, refl, ap, ℕ, suc, ◌%◌, ◌<◌, ◌≤◌, Bool, true, false, cond, ◌==◌, ◌&&◌, List, [], ◌∷◌, map, length, arith}
+use Rattle.std.specs.Prelude.{filter, count_by, nat_lt, Option, Some}
 use Rattle.std.proofs.lemmas.Bool.{and_parts, eqb-true}
 use Rattle.std.proofs.lemmas.Bool.Decides.{nat_tests}
 use Rattle.std.proofs.lemmas.List.{length-map}
@@ -9,10 +9,12 @@ use Rattle.seat_book.specs.declared.seated.Seated.{Seated}
 use Rattle.seat_book.specs.Players.{sits_at, are_apart}
 use Rattle.seat_book.specs.Counts.{count_at}
 use Rattle.seat_book.proofs.Passing.{count_by-cons}
+use Rattle.table_engine.specs.declared.start.HandStart.{HandStart}
 use Rattle.table_engine.specs.declared.start.StartSeat.{StartSeat}
 use Rattle.table_engine.specs.Starts.{chips_of, have_playable_stacks, is_playable_stack}
-use Rattle.tournament_rules.specs.Players.{paid, put_back}
-use Rattle.tournament_rules.specs.Valid.{is_lent}
+use Rattle.tournament_rules.specs.Books.{BookState, start_at, players_out}
+use Rattle.tournament_rules.specs.Players.{start_seat, paid, put_back}
+use Rattle.tournament_rules.specs.Valid.{IsValid, is_lent, without_stack}
 use Rattle.tournament_rules.proofs.Restacked.{count_changed}
 use Rattle.tournament_rules.proofs.Paying.{paid-stacks, ArePayees}
 use Rattle.tournament_rules.proofs.Stayed.{who_stay, count_apart, with_nothing, lent_after}
@@ -61,6 +63,25 @@ lent_sit table (player ∷ players) = by_test (is_lent table player) refl (lent_
         let his = here player.place.table player.stack is in
         omega (arith, one, his, rest)
     by_test false is rest = rest
+
+somebody_sits : (table : ℕ) (players : List Seated) (starters : List StartSeat)
+    → map start_seat (filter (is_lent table) players) ≡ map without_stack starters → 2 ≤ length starters
+    → 1 ≤ count_at players table
+somebody_sits table players starters lent two =
+    let parts = count_apart (sits_at table) (is_lent table) players in
+    let sit = lent_sit table players in
+    let size = ap length lent in
+    let here = length-map (filter (is_lent table) players) start_seat in
+    let there = length-map starters without_stack in
+    omega (arith, two, parts, sit, size, here, there)
+
+-- Somebody sits at a table where a hand is out.
+pub somebody_out : (book : BookState) (table : ℕ) (start : HandStart) → IsValid book
+    → start_at book.out table ≡ Some start → 1 ≤ count_at book.seating.players table
+somebody_out book table start valid is =
+    somebody_sits table book.seating.players start.seats
+    (valid.hands.lent table ∙ ap (λ (start : Option HandStart). map without_stack (players_out start)) is)
+    (valid.hands.starts table start is).lawful.two
 
 -- Players who can play have chips.
 some_chips : (unit : ℕ) (starters : List StartSeat) → have_playable_stacks unit starters ≡ true

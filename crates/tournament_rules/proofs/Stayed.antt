@@ -1,5 +1,5 @@
 -- What is so of the players who stay, once those who have nothing at rest at a table have left their seats.
-use Rattle.std.proofs.Common.{◌≡◌, ◌∙◌, refl, sym, ap, ℕ, ◌+◌, Bool, true, false, cond, ◌==◌, ◌&&◌, List, [], ◌∷◌, ◌++◌, map, get_or, arith}
+use Rattle.std.proofs.Common.{◌≡◌, ◌∙◌, refl, sym, ap, ℕ, ◌+◌, ◌≤◌, Bool, true, false, cond, ◌==◌, ◌&&◌, List, [], ◌∷◌, ◌++◌, map, get_or, arith}
 use Rattle.std.specs.Prelude.{not, nat_le, drop, filter, count_by, sum_by, slice_get, Option, Some}
 use Rattle.std.specs.List.{list_all, list_any, All}
 use Rattle.std.proofs.lemmas.Bool.{and_parts, and_from}
@@ -289,14 +289,22 @@ once_left entries table group leaving players busts once same = λ number.
     let before = once number in
     omega (arith, parts, out, rows, before)
 
-no_later : (bust group : ℕ) → nat_le bust group ≡ true → nat_le bust (group + 1) ≡ true
-no_later bust group past = grind (arith, nat_tests)
+no_later : (group next : ℕ) → group ≤ next → nat_le group next ≡ true
+no_later group next most = grind (arith, nat_tests)
 
 same_group : (group : ℕ) → nat_le group group ≡ true
 same_group group = grind (arith, nat_tests)
 
-next_group : (group : ℕ) → nat_le group (group + 1) ≡ true
-next_group group = grind (arith, nat_tests)
+-- Nobody is in a later group than those who go out next where that number does not fall.
+pub past_later : (busts : List Bust) (group next : ℕ) → group ≤ next
+    → list_all (λ bust. nat_le bust.group group) busts ≡ true → list_all (λ bust. nat_le bust.group next) busts ≡ true
+past_later [] group next most past = refl
+past_later (bust ∷ busts) group next most past =
+    let parts = and_parts (nat_le bust.group group) (list_all (λ bust. nat_le bust.group group) busts) past in
+    and_from _ _ (still bust.group group next most parts.0) (past_later busts group next most parts.1)
+  where
+    still : (one group next : ℕ) → group ≤ next → nat_le one group ≡ true → nat_le one next ≡ true
+    still one group next most past = grind (arith, nat_tests)
 
 all_in_group : (test : ℕ → Bool) (group : ℕ) (leaving : List StartSeat) → test group ≡ true
     → list_all (λ (bust : Bust). test bust.group) (map (bust_of group) leaving) ≡ true
@@ -304,23 +312,16 @@ all_in_group test group [] passes = refl
 all_in_group test group (starter ∷ leaving) passes =
     and_from _ _ passes (all_in_group test group leaving passes)
 
--- The groups do not fall once some more are out in the group of those who go out next, and that number then rises.
-pub grouped_left : (group : ℕ) (leaving : List StartSeat) (busts : List Bust) → AreGrouped busts group
-    → AreGrouped (busts ++ map (bust_of group) leaving) (group + 1)
-grouped_left group leaving busts grouped = record {
+-- The groups do not fall once some more are out in the group of those who go out next, and that number does not fall.
+pub grouped_left : (group next : ℕ) (leaving : List StartSeat) (busts : List Bust) → group ≤ next
+    → AreGrouped busts group → AreGrouped (busts ++ map (bust_of group) leaving) next
+grouped_left group next leaving busts most grouped = record {
   groups = pairs busts grouped.groups grouped.past;
-  past = list_all-append (λ (bust : Bust). nat_le bust.group (group + 1)) busts (map (bust_of group) leaving)
-      ∙ and_from _ _ (later busts grouped.past)
-      (all_in_group (λ other. nat_le other (group + 1)) group leaving (next_group group));
+  past = list_all-append (λ (bust : Bust). nat_le bust.group next) busts (map (bust_of group) leaving)
+      ∙ and_from _ _ (past_later busts group next most grouped.past)
+      (all_in_group (λ other. nat_le other next) group leaving (no_later group next most));
 }
   where
-    later : (busts : List Bust) → list_all (λ bust. nat_le bust.group group) busts ≡ true
-        → list_all (λ bust. nat_le bust.group (group + 1)) busts ≡ true
-    later [] past = refl
-    later (bust ∷ busts) past =
-        let parts = and_parts (nat_le bust.group group) (list_all (λ bust. nat_le bust.group group) busts) past in
-        and_from _ _ (no_later bust.group group parts.0) (later busts parts.1)
-
     in_one : (leaving : List StartSeat)
         → is_pairwise (λ (one other : Bust). nat_le one.group other.group) (map (bust_of group) leaving) ≡ true
     in_one [] = refl

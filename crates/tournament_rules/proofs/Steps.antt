@@ -37,6 +37,10 @@ accepted_more play (events.Settle table) = by_hand (hand_at play table)
     by_hand (Some hand) = omega arith
 accepted_more play (events.Balance from to) = omega arith
 accepted_more play (events.Break table places names) = omega arith
+accepted_more play events.Level = omega arith
+accepted_more play (events.Race table row) = omega arith
+accepted_more play (events.Hands on) = omega arith
+accepted_more play events.Round = omega arith
 accepted_more play events.Stop = omega arith
 
 some_so : {A : Type 0} (P : A → Type 0) (item : A) → P item → ForSome (Some item) P
@@ -77,6 +81,10 @@ valid_accepted draft None count (events.Time table) lawful valid counted accepte
 valid_accepted draft None count (events.Settle table) lawful valid counted accepted = absurd cc
 valid_accepted draft None count (events.Balance from to) lawful valid counted accepted = absurd cc
 valid_accepted draft None count (events.Break table places names) lawful valid counted accepted = absurd cc
+valid_accepted draft None count events.Level lawful valid counted accepted = absurd cc
+valid_accepted draft None count (events.Race table row) lawful valid counted accepted = absurd cc
+valid_accepted draft None count (events.Hands on) lawful valid counted accepted = absurd cc
+valid_accepted draft None count events.Round lawful valid counted accepted = absurd cc
 valid_accepted draft None count events.Stop lawful valid counted accepted = absurd cc
 valid_accepted draft (Some play) count event lawful valid counted accepted = record {
   draft = lawful;

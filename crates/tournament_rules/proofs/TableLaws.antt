@@ -27,6 +27,7 @@ use Rattle.tournament_rules.specs.Checks.{may_be_entered}
 use Rattle.tournament_rules.specs.Effects.{newcomer}
 use Rattle.tournament_rules.specs.States.{State, PlayState, answer_to, is_accepted, state_after, players_of, play_effect}
 use Rattle.tournament_rules.specs.Valid.{IsValid, IsValidPlay, is_lent, without_stack}
+use Rattle.tournament_rules.proofs.Remaining.{somebody_out}
 use Rattle.tournament_rules.proofs.Members.{has_number, any_without}
 use Rattle.tournament_rules.proofs.Fitting.{table_range}
 use Rattle.tournament_rules.proofs.Passed.{passed-parts, entry_passed}
@@ -141,26 +142,12 @@ pub no_hand : (book : BookState) (table : ℕ) → IsValid book → is_open book
     → start_at book.out table ≡ None
 no_hand book table valid closed = by_start (start_at book.out table) refl
   where
-    none_lent : filter (is_lent table) book.seating.players ≡ []
-    none_lent = filter-none (is_lent table) book.seating.players
-        (list_all-implied (λ player. not (sits_at table player)) (λ player. not (is_lent table player))
-        book.seating.players (λ player away. not_lent (sits_at table player) (player.stack == 0) away)
-        (none_by_count (sits_at table) book.seating.players (nobody_there book table closed)))
-      where
-        not_lent : (sits nothing : Bool) → not sits ≡ true → not (sits && nothing) ≡ true
-        not_lent true nothing away = absurd cc
-        not_lent false nothing away = refl
-
     by_start : (found : Option HandStart) → start_at book.out table ≡ found → found ≡ None
     by_start None is = refl
     by_start (Some start) is =
-        let two = (valid.hands.starts table start is).lawful.two in
-        let out = valid.hands.lent table
-        ∙ ap (λ (start : Option HandStart). map without_stack (players_out start)) is in
-        let none = ap (λ (players : List Seated). map start_seat players) none_lent in
-        let size = ap length (sym none ∙ out) in
-        let count = length-map start.seats without_stack in
-        absurd (omega (arith, two, size, count))
+        let sit = somebody_out book table start valid is in
+        let none = nobody_there book table closed in
+        absurd (omega (arith, sit, none))
 
 -- A table that is not open has no marks.
 pub no_marks : (book : BookState) (table : ℕ) → IsValid book → is_open book.seating.players table ≡ false
@@ -172,6 +159,18 @@ no_marks book table valid closed = by_marks (status_at book.seating.tables table
     by_marks None marked = refl
     by_marks (Some marks) marked =
         let one = marked marks refl in
+        let none = nobody_there book table closed in
+        absurd (omega (arith, one, none))
+
+-- No race is pending at a table that is not open.
+pub no_race : (book : BookState) (table : ℕ) → IsValid book → is_open book.seating.players table ≡ false
+    → (status_at book.seating.tables table).race ≡ None
+no_race book table valid closed = by_race (status_at book.seating.tables table).race (valid.units.due table)
+  where
+    by_race : (race : Option ℕ) → ForSome race (λ unit. 1 ≤ count_at book.seating.players table) → race ≡ None
+    by_race None due = refl
+    by_race (Some unit) due =
+        let one = due unit refl in
         let none = nobody_there book table closed in
         absurd (omega (arith, one, none))
 

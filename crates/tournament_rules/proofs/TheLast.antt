@@ -1,5 +1,5 @@
 -- Where one player alone is in, he has all chips that were sold.
-use Rattle.std.proofs.Common.{◌≡◌, ◌∙◌, refl, sym, ap, ℕ, suc, true, ◌==◌, List, [], ◌∷◌, length, map, arith}
+use Rattle.std.proofs.Common.{◌≡◌, ◌∙◌, refl, sym, ap, ℕ, suc, ◌+◌, true, ◌==◌, List, [], ◌∷◌, length, map, arith}
 use Rattle.std.specs.Prelude.{nat_lt, filter, sum_by, Option, Some, None}
 use Rattle.std.proofs.lemmas.Bool.{and_parts, eqb-true}
 use Rattle.std.proofs.lemmas.List.{length-map}
@@ -41,18 +41,20 @@ none_in_play (start ∷ out) none =
     let rest = none_in_play out (λ table. none (suc table)) in
     omega (arith, first, here, rest)
 
--- Where the tournament is over, the last player has all chips that were sold.
+-- Where the tournament is over, the last player has all chips that were sold and those that races gave, but for those
+-- that they took away.
 pub last_has_all : (book : BookState) → IsValid book → is_over_for_all book ≡ true
-    → map (λ player. player.stack) book.seating.players ≡ sold_by book ∷ []
+    → map (λ player. player.stack + book.removed) book.seating.players ≡ (sold_by book + book.added) ∷ []
 last_has_all book valid over =
     let one = eqb-true (length book.seating.players) 1
     (and_parts (nat_lt 0 (length book.busts)) (length book.seating.players == 1) over).1 in
     let none = none_in_play book.out (λ table. nothing_out book table valid one) in
-    let kept = valid.chips.kept in
+    let kept = valid.chips in
     by_players book.seating.players one (omega (arith, kept, none))
   where
-    by_players : (players : List Seated) → length players ≡ 1 → sold_by book ≡ sum_by stack_of players
-        → map (λ player. player.stack) players ≡ sold_by book ∷ []
+    by_players : (players : List Seated) → length players ≡ 1
+        → sum_by stack_of players + book.removed ≡ sold_by book + book.added
+        → map (λ player. player.stack + book.removed) players ≡ (sold_by book + book.added) ∷ []
     by_players [] one kept = absurd cc
     by_players (player ∷ []) one kept =
         let his = sum_by-cons stack_of player [] in

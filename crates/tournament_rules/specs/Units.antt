@@ -21,10 +21,13 @@ pub record IsUnitOf (unit : ℕ) (status : TableStatus) : Type 0 where
   pub new : ForSome status.race (λ new. new ≡ unit)
   pub race : ForSome status.race (λ new. IsRaceTo unit status.unit)
 
+-- whether a player's stack at rest is a multiple of the unit of his table
+abbrev pub is_whole_at : List TableStatus → Seated → Bool
+is_whole_at tables player = player.stack % (status_at tables player.place.table).unit == 0
+
 -- Each stack at rest is a multiple of the unit of its player's table.
 abbrev pub AreWhole : List TableStatus → List Seated → Type 0
-AreWhole tables players =
-    list_all (λ player. player.stack % (status_at tables player.place.table).unit == 0) players ≡ true
+AreWhole tables players = list_all (is_whole_at tables) players ≡ true
 
 -- A race is pending only where somebody sits.
 abbrev pub AreDue : List TableStatus → List Seated → Type 0

@@ -26,14 +26,16 @@ ghost use Rattle.tournament_rules.specs.Players.{is_among, is_in_hand, start_sea
 ghost use Rattle.tournament_rules.specs.Checks.{may_be_entered, is_over_for_all};
 ghost use Rattle.tournament_rules.specs.Dealing.{next_start};
 ghost use Rattle.tournament_rules.specs.States.{PlayState, first_state, first_play, hand_at, act_table, play_after, answer_to, answers, answers_in_play, state_after, run, players_of};
-ghost use Rattle.tournament_rules.specs.Chips.{sold, rest, play, sold_by};
+ghost use Rattle.tournament_rules.specs.Chips.{sold, removed, added, rest, play, sold_by};
 ghost use Rattle.tournament_rules.specs.Valid.{is_bust_of, without_stack};
 ghost use Rattle.tournament_rules.specs.Apart.{first_apart, answers_apart};
 
-/// After any list of events, lawful or not, the chips sold are those at rest and those in play.
+/// After any list of events, lawful or not, the chips at rest, those in play and those that races took away are those
+/// sold and those that races gave.
 pub fn chips_are_kept()
     ensures { (events : List Event)
-        → sold (run first_state events) ≡ rest (run first_state events) + play (run first_state events) }
+        → rest (run first_state events) + play (run first_state events) + removed (run first_state events)
+        ≡ sold (run first_state events) + added (run first_state events) }
 {}
 
 /// After any list of events, lawful or not, the players are listed by table, at one table in rising seat, and no two
@@ -111,11 +113,12 @@ pub fn groups_never_fall()
         is_pairwise (λ earlier later. nat_le earlier.group later.group) play.book.busts ≡ true) }
 {}
 
-/// After any list of events, where the tournament is over one player is in, with all chips that were sold.
+/// After any list of events, where the tournament is over one player is in, with all chips: those that were sold and
+/// those that races gave, but for those that races took away.
 pub fn the_last_player_has_all_chips()
     ensures { (events : List Event) → ForSome (run first_state events).play (λ play.
-        is_over_for_all play.book ≡ true → map (λ player. player.stack) play.book.seating.players
-        ≡ sold_by play.book ∷ []) }
+        is_over_for_all play.book ≡ true → map (λ player. player.stack + play.book.removed) play.book.seating.players
+        ≡ (sold_by play.book + play.book.added) ∷ []) }
 {}
 
 /// After any list of events, a hand that begins starts lawfully.
