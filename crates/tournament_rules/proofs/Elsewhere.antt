@@ -9,8 +9,8 @@ use Rattle.floor_events.specs.declared.event.Event.TheVariants as events
 use Rattle.tournament_rules.specs.Books.{start_at}
 use Rattle.tournament_rules.specs.States.{PlayState, hand_at, act_table, refusal_of, play_effect, play_after}
 
--- what is kept by an effect is kept by an event, whether it is refused or not
-kept_after : {A : Type 0} (read : PlayState → A) (play : PlayState) (event : Event)
+-- What is kept by an effect is kept by an event, whether it is refused or not
+pub kept_after : {A : Type 0} (read : PlayState → A) (play : PlayState) (event : Event)
     → read (play_effect play event) ≡ read play → read (play_after play event) ≡ read play
 kept_after {A} read play event kept = by_refusal (refusal_of play event)
   where

@@ -147,7 +147,7 @@ valid_first plan right =
         units = λ table there. record {
           own = λ none. unit_of_many (first_status plan) plan.tables table there;
           new = λ new at. let none = no_race table in absurd cc;
-          race = λ new at. let none = no_race table in absurd cc;
+          from = λ new at. let none = no_race table in absurd cc;
         };
         whole = refl;
         due = λ table new at. let none = no_race table in absurd cc;
@@ -279,8 +279,8 @@ valid_entered book name table seat valid none =
       where
         by_race : (race : Option ℕ) → status.race ≡ race → stack % status.unit ≡ 0
         by_race None none = ap (λ (unit : ℕ). stack % unit) (is.own none) ∙ whole
-        by_race (Some new) at = whole_times stack status.unit (unit_of_level book.plan.blinds book.level)
-            (next_times status.unit (unit_of_level book.plan.blinds book.level) (is.race new at).next) whole
+        by_race (Some new) at = whole_times stack status.unit new (next_times status.unit new (is.from new at).next)
+            (ap (λ (unit : ℕ). stack % unit) (is.new new at) ∙ whole)
 
     below : (count : ℕ) → count < 640 → nat_lt count 640 ≡ true
     below count room = grind (arith, nat_tests)

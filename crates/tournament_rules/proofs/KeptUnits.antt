@@ -51,7 +51,7 @@ unit_alike : (unit : ℕ) (before after : TableStatus) → after.unit ≡ before
 unit_alike unit before after same race is = record {
   own = λ none. same ∙ is.own (sym race ∙ none);
   new = λ new at. is.new new (sym race ∙ at);
-  race = λ new at. subst (λ (from : ℕ). IsRaceTo unit from) (sym same) (is.race new (sym race ∙ at));
+  from = λ new at. subst (λ (from : ℕ). IsRaceTo new from) (sym same) (is.from new (sym race ∙ at));
 }
 
 -- Stacks that are multiples of their tables' units are so where each table has the unit that it had.

@@ -53,7 +53,7 @@ level_passed book none =
     below levels level further = grind (arith, nat_tests)
 
 -- the tables of a seating once a level with this greater unit is current
-abbrev raised_tables : ℕ → Seating → List TableStatus
+abbrev pub raised_tables : ℕ → Seating → List TableStatus
 raised_tables unit seating = (raised unit seating).tables
 
 -- How each listed table stands then.
@@ -86,7 +86,7 @@ raised_past unit seating (suc below) beyond =
     ∙ sym (get_or_past seating.tables below fresh_status (omega (arith, beyond)))
 
 -- What is so of each table before, and of each listed one then, is so of each then.
-each_raised : (P : TableStatus → Type 0) (unit : ℕ) (seating : Seating) (table : ℕ)
+pub each_raised : (P : TableStatus → Type 0) (unit : ℕ) (seating : Seating) (table : ℕ)
     → P (raised_table unit (is_open seating.players table) (status_at seating.tables table))
     → P (status_at seating.tables table) → P (status_at (raised_tables unit seating) table)
 each_raised P unit seating zero here past = past
@@ -154,12 +154,15 @@ unit_raised : (before unit : ℕ) (opened : Bool) (status : TableStatus) → sta
 unit_raised before unit true status own next greater = record {
   own = λ none. absurd cc;
   new = λ new at. let same : unit ≡ new = cc in sym same;
-  race = λ new at. subst (λ (from : ℕ). IsRaceTo unit from) (sym own) (record { next = next; greater = greater });
+  from = λ new at.
+      let same : unit ≡ new = cc in
+      subst (λ (to : ℕ). IsRaceTo to status.unit) same
+      (subst (λ (from : ℕ). IsRaceTo unit from) (sym own) (record { next = next; greater = greater }));
 }
 unit_raised before unit false status own next greater = record {
   own = λ none. refl;
   new = λ new at. absurd cc;
-  race = λ new at. absurd cc;
+  from = λ new at. absurd cc;
 }
 
 due_raised : (unit count : ℕ) (opened : Bool) (status : TableStatus) → opened ≡ nat_lt 0 count

@@ -32,6 +32,7 @@ pub mod DealtBelow
 pub mod Drafts
 pub mod Plays
 pub mod Steps
+pub mod Kept
 pub mod Holds
 pub mod Layers
 pub mod Apart
@@ -41,3 +42,7 @@ pub mod Growing
 pub mod TheLast
 pub mod MoveLaws
 pub mod TableLaws
+pub mod RaceLaws
+pub mod RoundLaws
+pub mod GroupLaws
+pub mod ChipLaws

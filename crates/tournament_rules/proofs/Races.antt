@@ -412,7 +412,7 @@ module _ (book : BookState) (table : ℕ) (cards : List Card) (valid : IsValid b
         units = record {
           units = λ other listed. each_status (λ number status. is_between 1 book.plan.tables number ≡ true
               → IsUnitOf unit status) tables table (raced_off status) range.0 range.1
-              (λ here. record { own = λ none. new_unit; new = λ new at. absurd cc; race = λ new at. absurd cc })
+              (λ here. record { own = λ none. new_unit; new = λ new at. absurd cc; from = λ new at. absurd cc })
               other (valid.units.units other) listed;
           whole = whole-raced tables tables_after table after players unit_elsewhere
               (ap (λ (unit : ℕ). are_whole unit after) unit_here

@@ -292,7 +292,7 @@ once_left entries table group leaving players busts once same = λ number.
 no_later : (group next : ℕ) → group ≤ next → nat_le group next ≡ true
 no_later group next most = grind (arith, nat_tests)
 
-same_group : (group : ℕ) → nat_le group group ≡ true
+pub same_group : (group : ℕ) → nat_le group group ≡ true
 same_group group = grind (arith, nat_tests)
 
 -- Nobody is in a later group than those who go out next where that number does not fall.
@@ -306,7 +306,7 @@ past_later (bust ∷ busts) group next most past =
     still : (one group next : ℕ) → group ≤ next → nat_le one group ≡ true → nat_le one next ≡ true
     still one group next most past = grind (arith, nat_tests)
 
-all_in_group : (test : ℕ → Bool) (group : ℕ) (leaving : List StartSeat) → test group ≡ true
+pub all_in_group : (test : ℕ → Bool) (group : ℕ) (leaving : List StartSeat) → test group ≡ true
     → list_all (λ (bust : Bust). test bust.group) (map (bust_of group) leaving) ≡ true
 all_in_group test group [] passes = refl
 all_in_group test group (starter ∷ leaving) passes =

@@ -6,6 +6,7 @@ pub mod Moving
 pub mod Racing
 pub mod Effects
 pub mod States
+pub mod Kinds
 pub mod Chips
 pub mod Report
 pub mod Units

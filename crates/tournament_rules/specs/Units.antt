@@ -19,7 +19,7 @@ pub record IsRaceTo (unit from : ℕ) : Type 0 where
 pub record IsUnitOf (unit : ℕ) (status : TableStatus) : Type 0 where
   pub own : status.race ≡ None → status.unit ≡ unit
   pub new : ForSome status.race (λ new. new ≡ unit)
-  pub race : ForSome status.race (λ new. IsRaceTo unit status.unit)
+  pub from : ForSome status.race (λ new. IsRaceTo new status.unit)
 
 -- whether a player's stack at rest is a multiple of the unit of his table
 abbrev pub is_whole_at : List TableStatus → Seated → Bool

@@ -1,16 +1,16 @@
 //! Laws of the tournament, over every list of events, lawful or not.
 
-ghost use Rattle.std.specs.Prelude.{◌≡◌, ◌≢◌, ◌+◌, ◌<◌, ◌≤◌, ◌%◌, ℕ, nat_le, List, [], ◌∷◌, true, false, Some, None, length, map, filter, take, count_by, slice_get};
+ghost use Rattle.std.specs.Prelude.{◌≡◌, ◌≢◌, ◌+◌, ◌<◌, ◌≤◌, ◌%◌, ℕ, nat_le, List, [], ◌∷◌, true, false, Some, None, length, map, filter, take, drop, count_by, slice_get};
 ghost use Rattle.std.specs.List.{All};
 ghost use Rattle.std.specs.Option.{ForSome};
 ghost use Rattle.rulebook.specs.Pairs.{is_pairwise};
-ghost use Rattle.level_plan.specs.Plans.{PlanTerms, is_right};
+ghost use Rattle.level_plan.specs.Plans.{PlanTerms, is_right, unit_of_level};
 ghost use Rattle.level_plan.specs.Drafts.{plan_of};
 ghost use Rattle.card_set.specs.declared.card.Card.{Card};
 ghost use Rattle.card_set.specs.declared.card.CardRow.{CardRow};
 ghost use Rattle.betting_round.specs.declared.act.Act.{Act};
 ghost use Rattle.floor_events.specs.declared.event.Event.{Event};
-ghost use Rattle.floor_events.specs.declared.event.Event.TheVariants.{Go, Enter, Begin, Act as Acts, Balance, Break};
+ghost use Rattle.floor_events.specs.declared.event.Event.TheVariants.{Go, Enter, Begin, Act as Acts, Settle, Balance, Break, Level, Race, Hands};
 ghost use Rattle.floor_events.specs.declared.answer.Answer.TheVariants.{Ok};
 ghost use Rattle.seat_book.specs.declared.place.Place.{Place};
 ghost use Rattle.seat_book.specs.Players.{is_numbered, sits_at, players_at, are_in_order};
@@ -21,12 +21,14 @@ ghost use Rattle.balance_rule.specs.Halting.{is_halted};
 ghost use Rattle.balance_rule.specs.Moves.{Balance as ByBalance, Break as ByBreak, IsLawfulMove};
 ghost use Rattle.table_engine.specs.Starts.{IsLawfulStart};
 ghost use Rattle.table_engine.specs.Plays.{IsLawfulPlay};
-ghost use Rattle.tournament_rules.specs.Books.{start_at, players_out};
+ghost use Rattle.tournament_rules.specs.Books.{has_table, start_at, players_out};
 ghost use Rattle.tournament_rules.specs.Players.{is_among, is_in_hand, start_seat};
-ghost use Rattle.tournament_rules.specs.Checks.{may_be_entered, is_over_for_all};
+ghost use Rattle.tournament_rules.specs.Checks.{may_be_entered, is_over_for_all, is_playing};
 ghost use Rattle.tournament_rules.specs.Dealing.{next_start};
-ghost use Rattle.tournament_rules.specs.States.{PlayState, first_state, first_play, hand_at, act_table, play_after, answer_to, answers, answers_in_play, state_after, run, players_of};
+ghost use Rattle.tournament_rules.specs.States.{State, PlayState, first_state, first_play, hand_at, act_table, play_after, answer_to, answers, answers_in_play, state_after, run, players_of};
 ghost use Rattle.tournament_rules.specs.Chips.{sold, removed, added, rest, play, sold_by};
+ghost use Rattle.tournament_rules.specs.Kinds.{is_entry, is_race, is_level, ends_round, is_any_accepted};
+ghost use Rattle.tournament_rules.specs.Units.{IsRaceTo};
 ghost use Rattle.tournament_rules.specs.Valid.{is_bust_of, without_stack};
 ghost use Rattle.tournament_rules.specs.Apart.{first_apart, answers_apart};
 
@@ -36,6 +38,18 @@ pub fn chips_are_kept()
     ensures { (events : List Event)
         → rest (run first_state events) + play (run first_state events) + removed (run first_state events)
         ≡ sold (run first_state events) + added (run first_state events) }
+{}
+
+/// Chips are sold by an entry alone, and races alone take chips away and give some: what is sold, removed or added is
+/// the same after every other event, and after each that is refused.
+pub fn entries_and_races_alone_change_the_chips()
+    ensures sold { (state : State) (event : Event) → is_entry event ≡ false
+        → sold (state_after state event) ≡ sold state }
+    ensures removed { (state : State) (event : Event) → is_race event ≡ false
+        → removed (state_after state event) ≡ removed state }
+    ensures added { (state : State) (event : Event) → is_race event ≡ false
+        → added (state_after state event) ≡ added state }
+    ensures refused { (state : State) (event : Event) → answer_to state event ≢ Ok → state_after state event ≡ state }
 {}
 
 /// After any list of events, lawful or not, the players are listed by table, at one table in rising seat, and no two
@@ -62,6 +76,62 @@ pub fn stacks_are_lawful()
     ensures multiple { (events : List Event) → ForSome (run first_state events).play (λ play.
         All (λ player. player.stack % (status_at play.book.seating.tables player.place.table).unit ≡ 0)
         play.book.seating.players) }
+{}
+
+/// After any list of events, a table where no race is pending has the unit of the current level. A race that is pending
+/// goes to that unit, from a smaller one after which it may come next.
+pub fn units_follow_the_level()
+    ensures own { (events : List Event) (table : ℕ) → ForSome (run first_state events).play (λ play.
+        has_table play.book table ≡ true → (status_at play.book.seating.tables table).race ≡ None
+        → (status_at play.book.seating.tables table).unit ≡ unit_of_level play.book.plan.blinds play.book.level) }
+    ensures new { (events : List Event) (table : ℕ) → ForSome (run first_state events).play (λ play.
+        has_table play.book table ≡ true → ForSome (status_at play.book.seating.tables table).race (λ unit.
+        unit ≡ unit_of_level play.book.plan.blinds play.book.level)) }
+    ensures from { (events : List Event) (table : ℕ) → ForSome (run first_state events).play (λ play.
+        has_table play.book table ≡ true → ForSome (status_at play.book.seating.tables table).race (λ unit.
+        IsRaceTo unit (status_at play.book.seating.tables table).unit)) }
+{}
+
+/// A level changes no hand that is out and no stack at rest.
+pub fn a_level_changes_no_hand()
+    ensures hands { (play : PlayState) (table : ℕ) → hand_at (play_after play Level) table ≡ hand_at play table }
+    ensures players { (play : PlayState)
+        → (play_after play Level).book.seating.players ≡ play.book.seating.players }
+{}
+
+/// A chip race changes no other table: how it stands, who sits there and with which stacks. It changes no hand.
+pub fn a_race_changes_no_other_table()
+    ensures tables { (play : PlayState) (table other : ℕ) (row : CardRow) → other ≢ table
+        → status_at (play_after play (Race table row)).book.seating.tables other
+        ≡ status_at play.book.seating.tables other }
+    ensures players { (play : PlayState) (table other : ℕ) (row : CardRow) → other ≢ table
+        → players_at (play_after play (Race table row)).book.seating.players other
+        ≡ players_at play.book.seating.players other }
+    ensures hands { (play : PlayState) (table other : ℕ) (row : CardRow)
+        → hand_at (play_after play (Race table row)) other ≡ hand_at play other }
+{}
+
+/// After any list of events, a table where a race was accepted has no other one before a level is accepted.
+pub fn a_table_races_once_between_levels()
+    ensures { (before between : List Event) (table : ℕ) (row other : CardRow)
+        → answer_to (run first_state before) (Race table row) ≡ Ok
+        → is_any_accepted is_level (state_after (run first_state before) (Race table row)) between ≡ false
+        → answer_to (run (state_after (run first_state before) (Race table row)) between) (Race table other) ≢ Ok }
+{}
+
+/// After any list of events, a table that begins a hand while hand-for-hand is on begins no other before the end of a
+/// round is accepted. Nor does a table that plays as hand-for-hand is switched on.
+pub fn a_table_begins_once_in_a_round()
+    ensures once { (before between : List Event) (table : ℕ) (row other : CardRow)
+        → ForSome (run first_state before).play (λ play. play.book.seating.hands ≡ true
+        → answer_to (run first_state before) (Begin table row) ≡ Ok
+        → is_any_accepted ends_round (state_after (run first_state before) (Begin table row)) between ≡ false
+        → answer_to (run (state_after (run first_state before) (Begin table row)) between) (Begin table other) ≢ Ok) }
+    ensures playing { (before between : List Event) (table : ℕ) (row : CardRow)
+        → ForSome (run first_state before).play (λ play. is_playing play.book table ≡ true
+        → answer_to (run first_state before) (Hands true) ≡ Ok
+        → is_any_accepted ends_round (state_after (run first_state before) (Hands true)) between ≡ false
+        → answer_to (run (state_after (run first_state before) (Hands true)) between) (Begin table row) ≢ Ok) }
 {}
 
 /// After any list of events, the players who are in a hand are, in number, name and seat, those of its start, and
@@ -113,6 +183,27 @@ pub fn groups_never_fall()
         is_pairwise (λ earlier later. nat_le earlier.group later.group) play.book.busts ≡ true) }
 {}
 
+/// No group has players of two rounds. Those who go out while hand-for-hand is on, before the end of a round is
+/// accepted, are in one group. Those who go out after it are in later groups than all who were out before, and so are
+/// those who go out after a settle while hand-for-hand is off.
+pub fn a_group_is_of_one_round()
+    ensures one { (before during : List Event) → ForSome (run first_state before).play (λ earlier.
+        earlier.book.seating.hands ≡ true → is_any_accepted ends_round (run first_state before) during ≡ false
+        → ForSome (run (run first_state before) during).play (λ later.
+        All (λ bust. bust.group ≡ earlier.book.group) (drop (length earlier.book.busts) later.book.busts))) }
+    ensures rounds { (before after : List Event) (event : Event) → ForSome (run first_state before).play (λ earlier.
+        ends_round event ≡ true → answer_to (run first_state before) event ≡ Ok
+        → ForSome (run (state_after (run first_state before) event) after).play (λ later.
+        All (λ one. All (λ other. one.group < other.group) (drop (length earlier.book.busts) later.book.busts))
+        earlier.book.busts)) }
+    ensures settles { (before after : List Event) (table : ℕ) → ForSome (run first_state before).play (λ play.
+        play.book.seating.hands ≡ false → answer_to (run first_state before) (Settle table) ≡ Ok
+        → ForSome (state_after (run first_state before) (Settle table)).play (λ earlier.
+        ForSome (run (state_after (run first_state before) (Settle table)) after).play (λ later.
+        All (λ one. All (λ other. one.group < other.group) (drop (length earlier.book.busts) later.book.busts))
+        earlier.book.busts))) }
+{}
+
 /// After any list of events, where the tournament is over one player is in, with all chips: those that were sold and
 /// those that races gave, but for those that races took away.
 pub fn the_last_player_has_all_chips()
@@ -146,7 +237,7 @@ pub fn nobody_is_dealt_in_at_two_tables()
         → is_among number (players_out (start_at play.book.out other)) ≡ true → table ≡ other) }
 {}
 
-/// After any list of events, a table that is not open has no players, no hand and no marks.
+/// After any list of events, a table that is not open has no players, no hand, no marks and no pending race.
 pub fn a_table_that_is_not_open_is_bare()
     ensures players { (events : List Event) (table : ℕ) → ForSome (run first_state events).play (λ play.
         is_open play.book.seating.players table ≡ false → players_at play.book.seating.players table ≡ []) }
@@ -154,6 +245,8 @@ pub fn a_table_that_is_not_open_is_bare()
         is_open play.book.seating.players table ≡ false → start_at play.book.out table ≡ None) }
     ensures marks { (events : List Event) (table : ℕ) → ForSome (run first_state events).play (λ play.
         is_open play.book.seating.players table ≡ false → (status_at play.book.seating.tables table).marks ≡ None) }
+    ensures race { (events : List Event) (table : ℕ) → ForSome (run first_state events).play (λ play.
+        is_open play.book.seating.players table ≡ false → (status_at play.book.seating.tables table).race ≡ None) }
 {}
 
 /// After any list of events and a break that is accepted, nobody sits at the table that broke.

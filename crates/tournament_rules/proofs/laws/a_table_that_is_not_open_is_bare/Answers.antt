@@ -1,5 +1,5 @@
 use Rattle.tournament_rules.proofs.Steps.{valid_events}
-use Rattle.tournament_rules.proofs.TableLaws.{no_players, no_hand, no_marks}
+use Rattle.tournament_rules.proofs.TableLaws.{no_players, no_hand, no_marks, no_race}
 use Rattle.tournament_rules.proofs.laws.a_table_that_is_not_open_is_bare.Goals as goal
 
 pub returns-clause-players : goal.returns-clause-players
@@ -10,3 +10,6 @@ returns-clause-hand c = λ events table play is. no_hand play.book table ((valid
 
 pub returns-clause-marks : goal.returns-clause-marks
 returns-clause-marks c = λ events table play is. no_marks play.book table ((valid_events events).play play is).book
+
+pub returns-clause-race : goal.returns-clause-race
+returns-clause-race c = λ events table play is. no_race play.book table ((valid_events events).play play is).book
