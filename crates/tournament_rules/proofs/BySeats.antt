@@ -1,23 +1,23 @@
 -- The players of a table by its ten seats.
-use Rattle.std.proofs.Common.{◌≡◌, ◌∙◌, refl, sym, ap, subst, ℕ, zero, suc, ◌+◌, ◌-◌, ◌<◌, ◌≤◌, Bool, true, false, cond, ◌==◌, ◌&&◌, List, [], ◌∷◌, map, length, get_or, arith}
-use Rattle.std.specs.Prelude.{not, find, nat_lt, sum, sum_by, Option, Some, None}
-use Rattle.std.specs.List.{list_all, All}
+use Rattle.std.proofs.Common.{◌≡◌, ◌∙◌, refl, ap, subst, ℕ, zero, suc, ◌+◌, ◌<◌, ◌≤◌, Bool, true, false, cond, ◌==◌, ◌&&◌, List, [], ◌∷◌, length, get_or, arith}
+use Rattle.std.specs.Prelude.{not, sum, sum_by, Option, Some, None}
+use Rattle.std.specs.List.{list_all}
 use Rattle.std.specs.Option.{option_map_or}
-use Rattle.std.proofs.lemmas.Bool.{and_parts, eqb-true, eq-eqb, not-true}
+use Rattle.std.proofs.lemmas.Bool.{and_parts, eqb-true}
 use Rattle.std.proofs.lemmas.Bool.Decides.{nat_tests}
-use Rattle.std.proofs.lemmas.List.{get_or-map, length-map}
+use Rattle.std.proofs.lemmas.List.{get_or-map}
 use Rattle.std.proofs.lemmas.List.Sums.{sum_by-cons, sum-map}
 use Rattle.rulebook.specs.Seats.{walk}
 use Rattle.rulebook.specs.Pairs.{is_pairwise}
 use Rattle.seat_book.specs.declared.place.Place.{Place}
 use Rattle.seat_book.specs.declared.seated.Seated.{Seated}
 use Rattle.seat_book.specs.Places.{comes_before}
-use Rattle.seat_book.specs.Players.{sits_at, sits_in, player_at, are_in_order}
+use Rattle.seat_book.specs.Players.{sits_at, sits_in, player_at}
 use Rattle.seat_book.proofs.Passing.{find-none}
 use Rattle.seat_book.proofs.TakenSeats.{sits_in_seats}
 use Rattle.tournament_rules.specs.Racing.{stack_in, stacks_at}
 use Rattle.tournament_rules.proofs.Fitting.{table_range}
-use Rattle.tournament_rules.proofs.SitDown.{sits_before, in_order-pairs}
+use Rattle.tournament_rules.proofs.SitDown.{sits_before}
 
 -- the ten seats of a table
 abbrev pub ten_seats : List ℕ

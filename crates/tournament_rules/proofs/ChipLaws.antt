@@ -13,8 +13,8 @@ use Rattle.tournament_rules.specs.Books.{BookState}
 use Rattle.tournament_rules.specs.Effects.{first_book, settled, book_effect}
 use Rattle.tournament_rules.specs.Kinds.{is_entry, is_race}
 use Rattle.tournament_rules.specs.Chips.{sold, removed, added, sold_by}
-use Rattle.tournament_rules.specs.States.{State, PlayState, hand_of, answer_to, is_accepted, play_effect, accepted, state_after}
-use Rattle.tournament_rules.proofs.Ends.{IsLeft, left-void_first}
+use Rattle.tournament_rules.specs.States.{State, PlayState, hand_of, answer_to, is_accepted, accepted, state_after}
+use Rattle.tournament_rules.proofs.Ends.{left-void_first}
 
 -- Something of a book does not change by the end of a hand.
 abbrev at_settle : (BookState → ℕ) → Type 0

@@ -1,5 +1,5 @@
 -- No group has players of two rounds.
-use Rattle.std.proofs.Common.{◌≡◌, ◌∙◌, refl, sym, ap, subst, ℕ, ◌+◌, ◌<◌, ◌≤◌, Bool, true, false, ◌&&◌, List, [], ◌∷◌, ◌++◌, map, length, drop, arith}
+use Rattle.std.proofs.Common.{◌≡◌, ◌∙◌, refl, sym, ap, subst, ℕ, ◌+◌, ◌<◌, ◌≤◌, Bool, true, false, List, [], ◌∷◌, ◌++◌, map, length, drop, arith}
 use Rattle.std.specs.Prelude.{nat_le, if◌then◌else◌, Option, Some, None, option_map}
 use Rattle.std.specs.List.{list_all, All}
 use Rattle.std.specs.Option.{option_map_or}
@@ -20,9 +20,9 @@ use Rattle.tournament_rules.specs.Books.{BookState, start_at}
 use Rattle.tournament_rules.specs.Effects.{bust_of, broke_by, settled, book_effect, next_group}
 use Rattle.tournament_rules.specs.Kinds.{ends_round, is_any_accepted}
 use Rattle.tournament_rules.specs.States.{State, PlayState, acts_at, hand_at, hand_of, refusal_of, answer_to, is_accepted, play_effect, state_after, run}
-use Rattle.tournament_rules.specs.Valid.{IsValid, IsValidPlay, AreGrouped}
+use Rattle.tournament_rules.specs.Valid.{IsValidPlay}
 use Rattle.tournament_rules.proofs.Ends.{left-void_first}
-use Rattle.tournament_rules.proofs.Kept.{hands_kept, is_turn, run_keeps, run_some}
+use Rattle.tournament_rules.proofs.Kept.{hands_kept, is_turn, run_keeps}
 use Rattle.tournament_rules.proofs.MoveLaws.{not_refused}
 use Rattle.tournament_rules.proofs.Passed.{passed-parts, settle_passed, some_there}
 use Rattle.tournament_rules.proofs.RoundLaws.{no_turn}

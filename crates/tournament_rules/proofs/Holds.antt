@@ -7,11 +7,8 @@ use Rattle.std.proofs.lemmas.Bool.{and_parts, eqb-true}
 use Rattle.std.proofs.lemmas.Bool.Decides.{nat_tests}
 use Rattle.std.proofs.lemmas.Option.{same_Some}
 use Rattle.std.proofs.lemmas.List.Elements.{All-head, All-tail, All-nil, All-cons, All-weaker}
-use Rattle.level_plan.specs.Items.{is_between}
-use Rattle.level_plan.specs.Plans.{unit_of_level}
 use Rattle.seat_book.specs.declared.seated.Seated.{Seated}
 use Rattle.seat_book.specs.Players.{sits_at, is_numbered, are_in_order}
-use Rattle.seat_book.specs.Seatings.{sits_within}
 use Rattle.seat_book.specs.Tables.{status_at}
 use Rattle.table_engine.specs.declared.start.HandStart.{HandStart}
 use Rattle.tournament_rules.specs.Books.{BookState, start_at, players_out}

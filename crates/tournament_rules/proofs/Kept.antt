@@ -1,5 +1,5 @@
 -- What events keep of how a table stands, and what is so along a list of events.
-use Rattle.std.proofs.Common.{◌≡◌, ◌∙◌, refl, sym, subst, ℕ, zero, suc, ◌+◌, Bool, true, false, ◌&&◌, ◌||◌, List, [], ◌∷◌, get_or}
+use Rattle.std.proofs.Common.{◌≡◌, ◌∙◌, refl, sym, subst, ℕ, zero, suc, ◌+◌, Bool, true, false, ◌&&◌, List, [], ◌∷◌, get_or}
 use Rattle.std.specs.Prelude.{nat_lt, slice_set, if◌then◌else◌, Option, Some, None}
 use Rattle.std.specs.Option.{option_map_or}
 use Rattle.std.proofs.lemmas.Bool.{or_parts}
@@ -7,9 +7,7 @@ use Rattle.std.proofs.lemmas.Option.{same_Some}
 use Rattle.button_blinds.specs.declared.marks.Marks.{Marks}
 use Rattle.level_plan.specs.Plans.{unit_of_level}
 use Rattle.seat_book.specs.declared.place.Place.{Place}
-use Rattle.seat_book.specs.declared.seated.Seated.{Seated}
 use Rattle.seat_book.specs.declared.table_status.TableStatus.{TableStatus}
-use Rattle.seat_book.specs.Players.{players_at}
 use Rattle.seat_book.specs.Counts.{is_open}
 use Rattle.seat_book.specs.Tables.{fresh_status, status_at, with_status}
 use Rattle.seat_book.specs.Seatings.{Seating}
@@ -26,7 +24,7 @@ use Rattle.tournament_rules.specs.Effects.{with_table, playing_from, at_rest, fo
 use Rattle.tournament_rules.specs.Kinds.{is_level, is_any_accepted}
 use Rattle.tournament_rules.specs.Moving.{after_all, move_of}
 use Rattle.tournament_rules.specs.Racing.{raised_table, raised, raced_off}
-use Rattle.tournament_rules.specs.States.{State, PlayState, refusal_of, answer_to, answered, is_accepted, play_effect, accepted, state_after, run}
+use Rattle.tournament_rules.specs.States.{State, PlayState, refusal_of, answer_to, answered, is_accepted, play_effect, state_after, run}
 use Rattle.tournament_rules.proofs.Ends.{left-void_first}
 use Rattle.tournament_rules.proofs.Levels.{each_raised}
 use Rattle.tournament_rules.proofs.Rounds.{each_begun}

@@ -1,17 +1,15 @@
 -- What stays of units where no table's unit changes, and no pending race.
-use Rattle.std.proofs.Common.{◌≡◌, ◌∙◌, refl, sym, ap, subst, ℕ, zero, suc, ◌%◌, ◌≤◌, Bool, true, false, ◌==◌, ◌&&◌, cond, List, [], ◌∷◌, map, length, get_or, arith}
-use Rattle.std.specs.Prelude.{count_by, slice_set, Option, Some, None, is_some}
-use Rattle.std.specs.List.{list_all, list_any}
+use Rattle.std.proofs.Common.{◌≡◌, ◌∙◌, refl, sym, ap, subst, ℕ, zero, suc, ◌%◌, ◌≤◌, Bool, true, false, ◌==◌, cond, List, [], ◌∷◌, length, get_or, arith}
+use Rattle.std.specs.Prelude.{count_by, Option, Some, None, is_some}
+use Rattle.std.specs.List.{list_any}
 use Rattle.std.specs.Option.{ForSome}
 use Rattle.std.proofs.lemmas.Bool.{and_parts, and_from, or_parts}
-use Rattle.std.proofs.lemmas.List.Sums.{sum_by-set, sum_by-cons}
+use Rattle.std.proofs.lemmas.List.Sums.{sum_by-set}
 use Rattle.level_plan.specs.Items.{is_between}
 use Rattle.level_plan.specs.Plans.{PlanTerms, unit_of_level}
 use Rattle.seat_book.specs.declared.seated.Seated.{Seated}
 use Rattle.seat_book.specs.declared.table_status.TableStatus.{TableStatus}
 use Rattle.seat_book.specs.Tables.{fresh_status, status_at, with_status}
-use Rattle.seat_book.specs.Seatings.{Seating}
-use Rattle.balance_rule.specs.Moves.{is_race_pending}
 use Rattle.table_engine.specs.declared.start.HandStart.{HandStart}
 use Rattle.tournament_rules.specs.Books.{start_at}
 use Rattle.tournament_rules.specs.Units.{IsRaceTo, IsUnitOf, AreWhole, AreDue, AreUnits, is_due}

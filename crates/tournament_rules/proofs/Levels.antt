@@ -1,6 +1,6 @@
 -- A book is valid once the next level is current.
-use Rattle.std.proofs.Common.{◌≡◌, ◌∙◌, refl, sym, ap, subst, ℕ, zero, suc, ◌+◌, ◌*◌, ◌%◌, ◌<◌, ◌≤◌, ◌⊎◌, inl, inr, Bool, true, false, cond, ◌==◌, ◌&&◌, List, [], ◌∷◌, map, length, get_or, arith}
-use Rattle.std.specs.Prelude.{nat_lt, nat_le, count_by, if◌then◌else◌, Some, None, is_some}
+use Rattle.std.proofs.Common.{◌≡◌, ◌∙◌, refl, sym, ap, subst, ℕ, zero, suc, ◌+◌, ◌*◌, ◌%◌, ◌<◌, ◌≤◌, inl, inr, Bool, true, false, cond, ◌==◌, List, [], ◌∷◌, map, length, get_or, arith}
+use Rattle.std.specs.Prelude.{nat_lt, nat_le, if◌then◌else◌, Some, None}
 use Rattle.std.specs.List.{list_all, list_any, enumerate_from}
 use Rattle.std.specs.Option.{ForSome}
 use Rattle.std.proofs.lemmas.Bool.{and_parts, and_from, not-true, cases_lt}
@@ -8,7 +8,7 @@ use Rattle.std.proofs.lemmas.Bool.Decides.{nat_tests}
 use Rattle.std.proofs.lemmas.List.{get_or_past, get_or-map, length-map}
 use Rattle.std.proofs.lemmas.List.FromFn.{length-enumerate_from, get_or-enumerate_from}
 use Rattle.std.proofs.lemmas.List.Sums.{count_by-le-length}
-use Rattle.level_plan.specs.Items.{is_between, is_next_unit}
+use Rattle.level_plan.specs.Items.{is_next_unit}
 use Rattle.level_plan.specs.Plans.{unit_of_level}
 use Rattle.level_plan.proofs.Levels.{unit_of_level_above}
 use Rattle.seat_book.specs.declared.seated.Seated.{Seated}
@@ -20,10 +20,10 @@ use Rattle.seat_book.specs.Seatings.{Seating}
 use Rattle.seat_book.proofs.Passing.{count_by-cons}
 use Rattle.floor_events.specs.declared.event.Event.TheVariants.{Level}
 use Rattle.tournament_rules.specs.Books.{BookState}
-use Rattle.tournament_rules.specs.Checks.{book_checks, book_refusal, is_last_level}
+use Rattle.tournament_rules.specs.Checks.{book_checks, book_refusal}
 use Rattle.tournament_rules.specs.Effects.{leveled}
 use Rattle.tournament_rules.specs.Racing.{raised_table, raised}
-use Rattle.tournament_rules.specs.Units.{IsRaceTo, IsUnitOf, is_whole_at, AreWhole, is_due, most_of_race, most_of_level}
+use Rattle.tournament_rules.specs.Units.{IsRaceTo, IsUnitOf, is_whole_at, AreWhole, is_due}
 use Rattle.tournament_rules.specs.Valid.{IsValid, IsPlanned}
 use Rattle.tournament_rules.proofs.Entries.{right_has}
 use Rattle.tournament_rules.proofs.Fitting.{table_range, fitting_alike}

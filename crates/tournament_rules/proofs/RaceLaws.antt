@@ -1,6 +1,6 @@
 -- A race changes its own table alone, and between two levels a table races once at most.
 use Rattle.std.proofs.Common.{◌≡◌, ◌≢◌, ◌∙◌, refl, sym, ap, ℕ, zero, suc, ◌+◌, ◌-◌, Bool, true, false, cond, ◌==◌, List, [], ◌∷◌, map, get_or, arith}
-use Rattle.std.specs.Prelude.{nat_lt, filter, slice_set, if◌then◌else◌, Option, Some, None}
+use Rattle.std.specs.Prelude.{nat_lt, slice_set, if◌then◌else◌, Option, Some, None}
 use Rattle.std.proofs.lemmas.Bool.Decides.{nat_tests}
 use Rattle.floor_text.specs.declared.refusal.Refusal.TheVariants.{NoPlan}
 use Rattle.card_set.specs.declared.card.CardRow.{CardRow}
@@ -14,7 +14,7 @@ use Rattle.floor_events.specs.declared.event.Event.{Event}
 use Rattle.floor_events.specs.declared.event.Event.TheVariants.{Level, Race}
 use Rattle.tournament_rules.specs.Kinds.{is_level, is_any_accepted}
 use Rattle.tournament_rules.specs.Players.{with_rest}
-use Rattle.tournament_rules.specs.Racing.{raised_table, raised, raced_off, race_at, restacked}
+use Rattle.tournament_rules.specs.Racing.{raised, raced_off, race_at, restacked}
 use Rattle.tournament_rules.specs.States.{State, PlayState, hand_at, hand_of, answer_to, is_accepted, play_effect, play_after, state_after, run}
 use Rattle.tournament_rules.proofs.Elsewhere.{kept_after}
 use Rattle.tournament_rules.proofs.Fitting.{status_elsewhere}

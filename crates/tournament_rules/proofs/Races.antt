@@ -1,9 +1,9 @@
 -- A book is valid once the race that is pending at a table is made.
 use Rattle.std.proofs.Common.{◌≡◌, ◌∙◌, refl, sym, ap, subst, ℕ, zero, suc, ◌+◌, ◌-◌, ◌*◌, ◌%◌, ◌<◌, ◌≤◌, Bool, true, false, cond, ◌==◌, ◌&&◌, List, [], ◌∷◌, map, length, get_or, inl, inr, arith}
-use Rattle.std.specs.Prelude.{not, filter, sum, sum_by, count_by, nat_lt, slice_set, unwrap_or, if◌then◌else◌, Option, Some, None, is_some}
+use Rattle.std.specs.Prelude.{not, filter, sum, sum_by, count_by, nat_lt, unwrap_or, Option, Some, None, is_some}
 use Rattle.std.specs.List.{list_all, enumerate_from}
 use Rattle.std.specs.Option.{option_map_or, ForSome}
-use Rattle.std.proofs.lemmas.Bool.{and_parts, and_from, cases_Bool, eqb-true, eq-eqb, not-true}
+use Rattle.std.proofs.lemmas.Bool.{and_parts, and_from, eqb-true, eq-eqb, not-true}
 use Rattle.std.proofs.lemmas.Bool.Decides.{nat_tests}
 use Rattle.std.proofs.lemmas.List.{length-map}
 use Rattle.std.proofs.lemmas.List.FromFn.{length-enumerate_from}
@@ -23,7 +23,7 @@ use Rattle.seat_book.specs.declared.seated.Seated.{Seated}
 use Rattle.seat_book.specs.declared.table_status.TableStatus.{TableStatus}
 use Rattle.seat_book.specs.Players.{sits_at, player_at}
 use Rattle.seat_book.specs.Counts.{count_at}
-use Rattle.seat_book.specs.Tables.{fresh_status, status_at, with_status, IsStatusOf}
+use Rattle.seat_book.specs.Tables.{fresh_status, status_at, with_status}
 use Rattle.seat_book.proofs.TakenSeats.{sits_in_seats, seats_of_places}
 use Rattle.balance_rule.proofs.Movers.{found-place}
 use Rattle.level_plan.specs.Items.{is_between}
@@ -37,7 +37,7 @@ use Rattle.tournament_rules.specs.Players.{start_seat, with_rest}
 use Rattle.tournament_rules.specs.Racing.{unit_after, raced_off, stack_in, stacks_at, race_at, restacked}
 use Rattle.tournament_rules.specs.Units.{IsUnitOf, is_whole_at, AreWhole, is_due}
 use Rattle.tournament_rules.specs.Valid.{IsValid, is_lent}
-use Rattle.tournament_rules.proofs.BySeats.{ten_seats, player_in, walk-sum, walk-alike, none_later, seats-sum, stacks-at, stacks-sum}
+use Rattle.tournament_rules.proofs.BySeats.{player_in, walk-sum, walk-alike, none_later, seats-sum, stacks-at, stacks-sum}
 use Rattle.tournament_rules.proofs.Begins.{none_out, all_rest}
 use Rattle.tournament_rules.proofs.DealtIn.{none_first}
 use Rattle.tournament_rules.proofs.Entries.{right_has}

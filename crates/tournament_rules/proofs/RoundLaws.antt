@@ -42,7 +42,7 @@ not_on_again book on none =
     let all = none_holds (book_checks book (events.Hands true)) none in
     let going = and_parts _ _ all in
     let switch = and_parts _ _ going.1 in
-    let both = sym on ∙ not-true _ switch.0 in
+    let both : true ≡ false = sym on ∙ not-true _ switch.0 in
     cc
 
 -- No event but the end of a round switches hand-for-hand, or ends a round, while it is on.

@@ -1,18 +1,17 @@
 -- A book is valid once hand-for-hand is switched, and once a round of it ended.
-use Rattle.std.proofs.Common.{◌≡◌, refl, ap, ℕ, zero, suc, ◌+◌, ◌≤◌, Bool, true, false, cond, List, [], ◌∷◌, map, get_or, arith}
-use Rattle.std.specs.Prelude.{count_by, if◌then◌else◌}
+use Rattle.std.proofs.Common.{◌≡◌, refl, ℕ, zero, suc, ◌+◌, ◌≤◌, Bool, true, false, cond, List, [], ◌∷◌, map, get_or, arith}
+use Rattle.std.specs.Prelude.{count_by}
 use Rattle.std.specs.Option.{ForSome}
 use Rattle.std.proofs.lemmas.List.{length-map}
 use Rattle.std.proofs.lemmas.List.Sums.{sum_by-cons}
 use Rattle.seat_book.specs.declared.table_status.TableStatus.{TableStatus}
 use Rattle.seat_book.specs.Counts.{count_at}
 use Rattle.seat_book.specs.Tables.{fresh_status, status_at, IsStatusOf}
-use Rattle.seat_book.specs.Seatings.{Seating}
 use Rattle.hand_rounds.specs.Rounds.{begun_by, with_begun, begins_with}
 use Rattle.tournament_rules.specs.Books.{BookState}
 use Rattle.tournament_rules.specs.Effects.{with_hands, round_ended}
 use Rattle.tournament_rules.specs.Units.{is_due}
-use Rattle.tournament_rules.specs.Valid.{IsValid, AreGrouped}
+use Rattle.tournament_rules.specs.Valid.{IsValid}
 use Rattle.tournament_rules.proofs.Fitting.{fitting_alike}
 use Rattle.tournament_rules.proofs.KeptUnits.{KeepsUnits, out_kept, units_kept}
 use Rattle.tournament_rules.proofs.Stayed.{past_later}

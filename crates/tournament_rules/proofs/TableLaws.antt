@@ -1,11 +1,10 @@
 -- Nobody is in hands at two tables, a table where nobody sits is bare, and entries go to the tables with the fewest.
-use Rattle.std.proofs.Common.{◌≡◌, ◌≢◌, ◌∙◌, refl, sym, ap, ℕ, ◌+◌, ◌≤◌, Bool, true, false, cond, ◌==◌, ◌&&◌, ◌||◌, List, [], ◌∷◌, map, length, arith}
+use Rattle.std.proofs.Common.{◌≡◌, ◌≢◌, ◌∙◌, refl, sym, ap, ℕ, ◌+◌, ◌≤◌, Bool, true, false, cond, ◌==◌, ◌&&◌, ◌||◌, List, [], ◌∷◌, map, arith}
 use Rattle.std.specs.Prelude.{not, nat_lt, filter, count_by, Option, Some, None}
 use Rattle.std.specs.List.{list_all, list_any}
 use Rattle.std.specs.Option.{option_map_or, ForSome}
 use Rattle.std.proofs.lemmas.Bool.{and_parts, not-true, eqb-true}
 use Rattle.std.proofs.lemmas.Bool.Decides.{nat_tests}
-use Rattle.std.proofs.lemmas.List.{length-map}
 use Rattle.std.proofs.lemmas.List.Sums.{sum_by-insert}
 use Rattle.card_set.specs.declared.card.CardRow.{CardRow}
 use Rattle.button_blinds.specs.declared.marks.Marks.{Marks}
@@ -15,7 +14,7 @@ use Rattle.seat_book.specs.Places.{comes_before}
 use Rattle.seat_book.specs.Players.{sits_at, is_numbered, players_at, are_apart}
 use Rattle.seat_book.specs.Counts.{count_at, is_open}
 use Rattle.seat_book.specs.Tables.{status_at}
-use Rattle.seat_book.proofs.Passing.{filter-none, list_all-implied}
+use Rattle.seat_book.proofs.Passing.{filter-none}
 use Rattle.balance_rule.specs.Halting.{is_halted}
 use Rattle.table_engine.specs.declared.start.HandStart.{HandStart}
 use Rattle.table_engine.specs.declared.start.StartSeat.{StartSeat}
@@ -26,7 +25,7 @@ use Rattle.tournament_rules.specs.Players.{is_among, start_seat}
 use Rattle.tournament_rules.specs.Checks.{may_be_entered}
 use Rattle.tournament_rules.specs.Effects.{newcomer}
 use Rattle.tournament_rules.specs.States.{State, PlayState, answer_to, is_accepted, state_after, players_of, play_effect}
-use Rattle.tournament_rules.specs.Valid.{IsValid, IsValidPlay, is_lent, without_stack}
+use Rattle.tournament_rules.specs.Valid.{IsValid, IsValidPlay, is_lent}
 use Rattle.tournament_rules.proofs.Remaining.{somebody_out}
 use Rattle.tournament_rules.proofs.Members.{has_number, any_without}
 use Rattle.tournament_rules.proofs.Fitting.{table_range}

@@ -1,5 +1,4 @@
-use Rattle.tournament_rules.specs.States.{first_state, run, state_after}
-use Rattle.floor_events.specs.declared.event.Event.TheVariants.{Settle}
+use Rattle.tournament_rules.specs.States.{first_state, run}
 use Rattle.tournament_rules.proofs.GroupLaws.{one_group, rounds_apart, settles_apart}
 use Rattle.tournament_rules.proofs.Steps.{valid_events, valid_run}
 use Rattle.tournament_rules.proofs.laws.a_group_is_of_one_round.Goals as goal
