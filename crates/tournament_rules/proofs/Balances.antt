@@ -143,14 +143,16 @@ valid_balanced book from to valid none = by_move (balance_move book.seating from
         let number = found-numbered (sits_in big) players who.seated lawful.apart who.sits in
         let table : who.seated.place.table ≡ from = ap (λ (p : Place). p.table) there in
         let within = worst-within book.seating.seat_count (is_empty_seat players to)
-        (status_at book.seating.tables to).marks who.seat (let some = lawful.some_seats in omega (arith, some)) who.worst in
+        (status_at book.seating.tables to).marks who.seat (let some = lawful.some_seats in omega
+        (arith, some)) who.worst in
         let opened = and_parts (has_table book to) (nat_lt 0 (count_at players to)) may.to_open in
         let left = and_parts (has_table book from) (nat_lt 0 (count_at players from)) may.from_open in
         let range = table_range 1 book.plan.tables to opened.0 in
         let may_move : MayMove book who.seated place = record {
           found = number;
           rests = has_some who.seated.stack (who.seated.place.table == from) (eq-eqb who.seated.place.table from table)
-              (not_picked (is_lent from) (sits_in big) players who.seated (all_rest book from valid may.rests) who.sits);
+              (not_picked (is_lent from) (sits_in big) players who.seated
+              (all_rest book from valid may.rests) who.sits);
           within = is_place to who.seat book.seating.table_count book.seating.seat_count range.0
               (let tables = valid.tables.tables in let last = range.1 in omega (arith, tables, last)) within.0 within.1;
           free = empty-nobody players to who.seat (worst-empty book.seating.seat_count (is_empty_seat players to)

@@ -1,5 +1,5 @@
 -- Each hand that begins starts lawfully, and a book is valid once a hand has begun.
-use Rattle.std.proofs.Common.{◌≡◌, ◌∙◌, refl, sym, ap, subst, ℕ, zero, suc, ◌-◌, ◌*◌, ◌^◌, ◌<◌, ◌≤◌, Bool, true, false, ◌==◌, List, [], ◌∷◌, map, length, arith}
+use Rattle.std.proofs.Common.{◌≡◌, ◌∙◌, refl, sym, ap, subst, ℕ, zero, suc, ◌+◌, ◌-◌, ◌*◌, ◌^◌, ◌<◌, ◌≤◌, Bool, true, false, ◌==◌, List, [], ◌∷◌, map, length, arith}
 use Rattle.std.specs.Prelude.{not, nat_lt, filter, slice_get, slice_set, unwrap_or, Option, Some, None}
 use Rattle.std.specs.List.{list_all}
 use Rattle.std.specs.Option.{option_map_or, ForSome}
@@ -33,6 +33,7 @@ use Rattle.floor_events.specs.declared.event.Event.TheVariants.{Begin}
 use Rattle.tournament_rules.specs.Books.{BookState, has_table, start_at, players_out, blind_now}
 use Rattle.tournament_rules.specs.Players.{start_seat, is_dealt_in, dealt_seats, dealt_in}
 use Rattle.tournament_rules.specs.Checks.{book_checks, book_refusal, is_playing}
+use Rattle.tournament_rules.specs.Chips.{sold_by}
 use Rattle.tournament_rules.specs.Dealing.{next_at, next_start}
 use Rattle.tournament_rules.specs.Effects.{playing_from, begun_book}
 use Rattle.tournament_rules.specs.Valid.{IsValid, IsPlanned, IsStartAt, is_lent, without_stack}
@@ -104,18 +105,24 @@ all_rest book table valid rests =
 product_small : (entries stack : ℕ) → entries ≤ 640 → stack ≤ 1000000000 → entries * stack ≤ 640000000000
 product_small entries stack few small = grind arith
 
--- The chips of those who are dealt in are far from the end of their type.
-pub small_dealt : (book : BookState) (table : ℕ) (waiting : List Bool) → IsValid book
-    → chips_of (dealt_seats table waiting book.seating.players) < 2 ^ 53
-small_dealt book table waiting valid =
-    let kept = valid.chips in
+-- All chips that were sold and given are far from the end of their type.
+pub few_chips : (book : BookState) → IsValid book → sold_by book + book.added < 2 ^ 53
+few_chips book valid =
     let has = right_has book.plan valid.plan.right in
     let most = product_small (length book.entries) book.plan.stack valid.entries.few has.most_stack in
     let few = valid.units.few in
     let last = valid.plan.last in
     let levels = has.level_count in
+    omega (arith, most, few, last, levels)
+
+-- So are the chips of those who are dealt in.
+small_dealt : (book : BookState) (table : ℕ) (waiting : List Bool) → IsValid book
+    → chips_of (dealt_seats table waiting book.seating.players) < 2 ^ 53
+small_dealt book table waiting valid =
+    let kept = valid.chips in
+    let few = few_chips book valid in
     let gone = rest-dealt_in table waiting book.seating.players in
-    omega (arith, kept, most, few, last, levels, gone)
+    omega (arith, kept, few, gone)
 
 level_there : (blinds : List Blind) (index : ℕ) → index < length blinds
     → (blind : Blind) × (slice_get blinds index ≡ Some blind)

@@ -121,7 +121,8 @@ come_once : (places : List Place) → are_distinct is_same_place places ≡ true
     → count_by (is_same_place place) places ≤ 1
 come_once [] apart place = omega arith
 come_once (first ∷ places) apart place =
-    let parts = and_parts (list_all (λ other. not (is_same_place first other)) places) (are_distinct is_same_place places)
+    let parts = and_parts (list_all (λ other. not (is_same_place first other)) places)
+    (are_distinct is_same_place places)
     apart in
     let one = count_by-cons (is_same_place place) first places in
     by_test (is_same_place place first) refl parts.0 one (come_once places parts.1 place)
@@ -137,7 +138,8 @@ come_once (first ∷ places) apart place =
     none_else (other ∷ others) same apart =
         let parts = and_parts (not (is_same_place first other))
         (list_all (λ other. not (is_same_place first other)) others) apart in
-        let away = not-true _ (another place.table place.seat first.table first.seat other.table other.seat same parts.0) in
+        let away = not-true _
+        (another place.table place.seat first.table first.seat other.table other.seat same parts.0) in
         let one = count_by-cons (is_same_place place) other others in
         let none = ap (λ (b : Bool). cond {A = ℕ} b 1 0) away in
         let rest = none_else others same parts.1 in
@@ -206,7 +208,8 @@ find-filter keep test (item ∷ items) found is = by_test (keep item) is (find-f
 
 -- A place stays free while somebody takes another.
 still_free : (players after : List Seated) (place : Place) (places : List Place)
-    → ((other : Place) → is_same_place place other ≡ false → player_at players other ≡ None → player_at after other ≡ None)
+    → ((other : Place) → is_same_place place other ≡ false → player_at players other ≡ None → player_at after other
+    ≡ None)
     → list_all (λ other. is_empty_seat players other.table other.seat) places ≡ true
     → list_all (λ other. not (is_same_place place other)) places ≡ true
     → list_all (λ other. is_empty_seat after other.table other.seat) places ≡ true
@@ -248,7 +251,8 @@ module _ (book : BookState) (table : ℕ) (name : List ℕ) (place : Place) (pla
       let sits = (and_parts (sits_at table player) (is_called name player)
       (found-passes (λ other. sits_at table other && is_called name other) players player there)).0 in
       let his_table : player.place.table ≡ table = eqb-true player.place.table table sits in
-      let lent = not_picked (is_lent table) (λ other. sits_at table other && is_called name other) players player may.rest
+      let lent = not_picked (is_lent table)
+      (λ other. sits_at table other && is_called name other) players player may.rest
       there in
       let rests : (player.stack == 0) ≡ false = rw sits at lent in
       let within = and_parts (is_place_of book.seating.table_count book.seating.seat_count place)
@@ -314,7 +318,8 @@ module _ (book : BookState) (table : ℕ) (name : List ℕ) (place : Place) (pla
 
       by_find : (found : Option Seated) → find (is_called name) (players_at book.seating.players table) ≡ found
           → both (option_map_or (λ order. after_move order book.seating)
-          (option_map (λ player. record { player = player.player; from = player.place; to = place }) found) book.seating)
+          (option_map (λ player. record { player = player.player; from = player.place; to = place }) found)
+          book.seating)
       by_find None is =
           let within = and_parts (is_place_of book.seating.table_count book.seating.seat_count place)
           (list_all (is_place_of book.seating.table_count book.seating.seat_count) places) may.within in
@@ -424,7 +429,8 @@ may_take book table places names valid may =
           (let last = range.1 in omega (arith, last, count, size)));
       within = all-permuted (is_place_of book.seating.table_count book.seating.seat_count) fill places right
           (chosen-places book.seating table there fill may.drawn.is);
-      free = all-permuted (λ (place : Place). is_empty_seat book.seating.players place.table place.seat) fill places right
+      free = all-permuted (λ
+          (place : Place). is_empty_seat book.seating.players place.table place.seat) fill places right
           (chosen-empty book.seating table there fill may.drawn.is);
       once = λ place.
           let one = come_once fill (chosen-apart book.seating table there fill may.drawn.is) place in

@@ -98,7 +98,8 @@ removed-after state event kind =
     key-after (λ book. book.removed) state event (λ plan. refl) (λ book hand. removed-effect book hand event kind)
 
 -- No event but a race gives chips.
-pub added-after : (state : State) (event : Event) → is_race event ≡ false → added (state_after state event) ≡ added state
+pub added-after : (state : State) (event : Event) → is_race event ≡ false → added (state_after state event)
+    ≡ added state
 added-after state event kind =
     key-after (λ book. book.added) state event (λ plan. refl) (λ book hand. added-effect book hand event kind)
 

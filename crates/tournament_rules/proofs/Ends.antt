@@ -104,7 +104,8 @@ valid_closed book table start payees busts group accepted valid is back once gro
     let status = at_rest (status_at tables table) in
     let last : table ≤ length tables = omega (arith, range.1, count, size) in
     let keeps = keeps-set tables table status range.0 last refl refl in
-    let stays : 1 ≤ count_at (who_stay table players) table = somebody_stays table book.seating.players payees start.unit
+    let stays : 1 ≤ count_at
+    (who_stay table players) table = somebody_stays table book.seating.players payees start.unit
     start.seats apart those began.lawful.stacks began.lawful.two back.kept in
     record {
       plan = valid.plan;

@@ -256,10 +256,12 @@ valid_entered book name table seat valid none =
             (whole_at (status_at book.seating.tables table) book.plan.stack (valid.units.units table may.there)
             (whole_earlier book.plan.blinds book.level book.plan.late book.plan.stack has.levels valid.plan.first
             (early book.plan.late book.level may.early) has.most_late has.whole)));
-        due = due_more book.seating.tables book.seating.players (sit_down new book.seating.players) valid.units.due more;
+        due = due_more book.seating.tables book.seating.players
+            (sit_down new book.seating.players) valid.units.due more;
         few = valid.units.few;
       };
-      marked = marked_more book.seating.tables book.seating.players (sit_down new book.seating.players) valid.marked more;
+      marked = marked_more book.seating.tables book.seating.players
+          (sit_down new book.seating.players) valid.marked more;
       busts = valid.busts;
       counted = omega (arith, valid.counted);
       raised = omega (arith, valid.raised);

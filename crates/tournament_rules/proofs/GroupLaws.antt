@@ -36,7 +36,8 @@ record Grows (earlier later : BookState) : Type 0 where
   least : list_all (λ bust. nat_le earlier.group bust.group) more ≡ true
   group : earlier.group ≤ later.group
 
-grows_none : (earlier later : BookState) → later.busts ≡ earlier.busts → earlier.group ≤ later.group → Grows earlier later
+grows_none : (earlier later : BookState) → later.busts ≡ earlier.busts → earlier.group ≤ later.group
+    → Grows earlier later
 grows_none earlier later same group = record {
   more = [];
   is = same ∙ sym (append-nil earlier.busts);
@@ -216,7 +217,8 @@ rounds_apart state after event play later at valid kind taken ends =
     let mid = (play_effect play event).book in
     let raised = round_raises play event kind in
     let grows = run_grows (state_after state event) after (play_effect play event) later next ends in
-    let past = ap (list_all (λ (bust : Bust). nat_le bust.group play.book.group)) raised.busts ∙ valid.book.busts.past in
+    let past = ap (list_all (λ (bust : Bust). nat_le bust.group play.book.group)) raised.busts
+    ∙ valid.book.busts.past in
     let apart = groups_apart play.book.group mid later.book past (let risen = raised.group in omega (arith, risen))
     grows in
     subst (λ (busts : List Bust). All (λ (one : Bust). All (λ (other : Bust). one.group < other.group)

@@ -59,7 +59,8 @@ stacks_whole book valid = by_players book.seating.players valid.units.whole
     by_players : (players : List Seated) → AreWhole book.seating.tables players → All (IsWhole book) players
     by_players [] whole = All-nil (IsWhole book)
     by_players (player ∷ players) whole =
-        let parts = and_parts (is_whole_at book.seating.tables player) (list_all (is_whole_at book.seating.tables) players)
+        let parts = and_parts (is_whole_at book.seating.tables player) (list_all
+        (is_whole_at book.seating.tables) players)
         whole in
         let his = eqb-true (player.stack % (status_at book.seating.tables player.place.table).unit) 0 parts.0 in
         All-cons (IsWhole book) player players his (by_players players parts.1)
@@ -93,8 +94,8 @@ hand_players book valid table =
     let picked = in_hand-picked book.out table book.seating.players (in_hand-lent book valid) in
     ap (λ (found : List Seated). map start_seat found) picked ∙ valid.hands.lent table
 
--- The chips at rest, those in play and those that races took away are those sold and those that races gave, before there
--- is a plan and afterwards.
+-- The chips at rest, those in play and those that races took away are those sold and those that races gave, before
+-- there is a plan and afterwards.
 pub chips_kept : (play : Option PlayState) → ForSome play IsValidPlay
     → option_map_or (λ play. rest_in play.book) play 0 + option_map_or (λ play. play_of play.book) play 0
     + option_map_or (λ play. play.book.removed) play 0

@@ -110,7 +110,8 @@ status_kept P book hand events.Level table keeps is =
     unit : ℕ
     unit = unit_of_level book.plan.blinds (book.level + 1)
 
-    by_units : (greater : Bool) → P (status_at (if greater then raised unit book.seating else book.seating).tables table)
+    by_units : (greater : Bool) → P (status_at
+        (if greater then raised unit book.seating else book.seating).tables table)
     by_units true = each_raised P unit book.seating table
         (keeps.rises refl unit (is_open book.seating.players table) (status_at book.seating.tables table) is) is
     by_units false = is
@@ -171,7 +172,8 @@ hands_kept book hand events.Level same =
     by_units (nat_lt (unit_of_level book.plan.blinds book.level) (unit_of_level book.plan.blinds (book.level + 1)))
   where
     by_units : (greater : Bool)
-        → (if greater then raised (unit_of_level book.plan.blinds (book.level + 1)) book.seating else book.seating).hands
+        → (if greater then raised (unit_of_level book.plan.blinds
+        (book.level + 1)) book.seating else book.seating).hands
         ≡ book.seating.hands
     by_units true = refl
     by_units false = refl
@@ -191,10 +193,12 @@ pub run_keeps : (P : PlayState → Type 0) (test : Event → Bool)
 run_keeps P test keeps state [] play later at after none is = subst P (same_Some play later (sym at ∙ after)) is
 run_keeps P test keeps state (event ∷ events) play later at after none is =
     by_answer (is_accepted (answer_to state event)) refl
-    (or_parts (test event && is_accepted (answer_to state event)) (is_any_accepted test (state_after state event) events)
+    (or_parts (test event && is_accepted (answer_to state event)) (is_any_accepted test
+    (state_after state event) events)
     none)
     (λ next there so. run_keeps P test keeps (state_after state event) events next later there after
-    (or_parts (test event && is_accepted (answer_to state event)) (is_any_accepted test (state_after state event) events)
+    (or_parts (test event && is_accepted (answer_to state event)) (is_any_accepted test
+    (state_after state event) events)
     none).1 so)
   where
     not_picked : (b c : Bool) → c ≡ true → (b && c) ≡ false → b ≡ false

@@ -205,5 +205,6 @@ broken_left book table places names valid may =
     elsewhere (place ∷ places) all =
         let parts = and_parts (is_other_open book.seating table place.table)
         (list_all (λ place. is_other_open book.seating table place.table) places) all in
-        let his = and_parts (nat_lt 0 (count_at book.seating.players place.table)) (not (place.table == table)) parts.0 in
+        let his = and_parts (nat_lt 0 (count_at book.seating.players place.table)) (not
+        (place.table == table)) parts.0 in
         and_from _ _ his.1 (elsewhere places parts.1)

@@ -204,7 +204,8 @@ valid_leveled book valid none = by_units (nat_lt before unit) refl
     same_unit : nat_lt before unit ≡ false → before ≡ unit
     same_unit no_more =
         let times = next_times before unit next in
-        let some = unit_of_level_above book.plan.blinds (book.level + 1) (right_has book.plan valid.plan.right).levels in
+        let some = unit_of_level_above book.plan.blinds (book.level + 1)
+        (right_has book.plan valid.plan.right).levels in
         no_less before unit times.0 times.1 some no_more
       where
         no_less : (before unit times : ℕ) → unit ≡ before * times → 0 < unit → nat_lt before unit ≡ false
@@ -237,7 +238,8 @@ valid_leveled book valid none = by_units (nat_lt before unit) refl
         let tables = seating.tables in
         let players = seating.players in
         let after = raised_tables unit seating in
-        let some = unit_of_level_above book.plan.blinds (book.level + 1) (right_has book.plan valid.plan.right).levels in
+        let some = unit_of_level_above book.plan.blinds (book.level + 1)
+        (right_has book.plan valid.plan.right).levels in
         let greater = above before unit more in
         let size : length after ≡ length tables = length-map (enumerate_from 1 tables)
         (λ row. raised_table unit (is_open players row.0) row.1) ∙ length-enumerate_from 1 tables in
@@ -248,7 +250,8 @@ valid_leveled book valid none = by_units (nat_lt before unit) refl
               (λ table. each_raised (IsStatusOf seating.seat_count) unit seating table
               (fresh_lawful seating.seat_count unit (is_open players table) (status_at tables table) some
               (valid.tables.lawful.statuses table)) (valid.tables.lawful.statuses table))
-              (λ table. key_raised (λ status. status.playing) unit seating table (λ opened status. plays opened status));
+              (λ table. key_raised (λ status. status.playing) unit seating table
+              (λ opened status. plays opened status));
           hands = record {
             starts = λ table start is. start_kept book.plan tables after table (Some start)
                 (open-kept unit seating table (somebody_out book table start valid is))

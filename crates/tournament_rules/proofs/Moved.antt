@@ -43,7 +43,8 @@ pub stands_among : (player : Seated) (players : List Seated) → are_apart playe
     → player_of players player.player ≡ Some player → StandsAmong player players
 stands_among player [] apart found = absurd cc
 stands_among player (first ∷ players) apart found =
-    let parts = and_parts (list_all (λ other. not (is_numbered first.player other)) players) (are_apart players) apart in
+    let parts = and_parts (list_all (λ other. not (is_numbered first.player other)) players)
+    (are_apart players) apart in
     by_number (is_numbered player.player first) refl parts.0 (stands_among player players parts.1)
   where
     by_number : (b : Bool) → is_numbered player.player first ≡ b

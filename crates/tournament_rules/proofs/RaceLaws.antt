@@ -120,7 +120,8 @@ races_once state between play table row other at taken none again =
     (none-due play.book.seating.hands event kind) is)
     (state_after state (Race table row)) between (play_effect play (Race table row)) later.0 next later.1 none
     (raced-here play.book.seating.tables table) in
-    let free = not_refused (run (state_after state (Race table row)) between) later.0 (Race table other) later.1 again in
+    let free = not_refused (run (state_after state (Race table row)) between) later.0
+    (Race table other) later.1 again in
     let due = (race_passed later.0.book table other (passed-parts later.0 (Race table other) free).0).due in
     let both = sym raced ∙ due in
     cc

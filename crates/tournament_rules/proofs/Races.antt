@@ -1,5 +1,5 @@
 -- A book is valid once the race that is pending at a table is made.
-use Rattle.std.proofs.Common.{◌≡◌, ◌∙◌, refl, sym, ap, subst, ℕ, zero, suc, ◌+◌, ◌-◌, ◌*◌, ◌%◌, ◌<◌, ◌≤◌, Bool, true, false, cond, ◌==◌, ◌&&◌, List, [], ◌∷◌, map, length, get_or, inl, inr, arith}
+use Rattle.std.proofs.Common.{◌≡◌, ◌∙◌, refl, sym, ap, subst, ℕ, zero, suc, ◌+◌, ◌-◌, ◌*◌, ◌%◌, ◌^◌, ◌<◌, ◌≤◌, Bool, true, false, cond, ◌==◌, ◌&&◌, List, [], ◌∷◌, map, length, get_or, inl, inr, arith}
 use Rattle.std.specs.Prelude.{not, filter, sum, sum_by, count_by, nat_lt, unwrap_or, Option, Some, None, is_some}
 use Rattle.std.specs.List.{list_all, enumerate_from}
 use Rattle.std.specs.Option.{option_map_or, ForSome}
@@ -7,7 +7,8 @@ use Rattle.std.proofs.lemmas.Bool.{and_parts, and_from, eqb-true, eq-eqb, not-tr
 use Rattle.std.proofs.lemmas.Bool.Decides.{nat_tests}
 use Rattle.std.proofs.lemmas.List.{length-map}
 use Rattle.std.proofs.lemmas.List.FromFn.{length-enumerate_from}
-use Rattle.std.proofs.lemmas.List.Sums.{sum_by-cons, sum_by-set, sum_by-le}
+use Rattle.std.proofs.lemmas.List.Sums.{sum_by-cons, sum_by-set, sum_by-le, sum_by-le-sum_by}
+use Rattle.std.proofs.Math.Nat.{mul-mod_right}
 use Rattle.rulebook.specs.Seats.{walk}
 use Rattle.rulebook.specs.Pairs.{is_pairwise}
 use Rattle.card_set.specs.declared.card.Card.{Card}
@@ -21,12 +22,13 @@ use Rattle.chip_race.proofs.SeatLaws.{stays_in, stays_empty, chips_change, whole
 use Rattle.seat_book.specs.declared.place.Place.{Place}
 use Rattle.seat_book.specs.declared.seated.Seated.{Seated}
 use Rattle.seat_book.specs.declared.table_status.TableStatus.{TableStatus}
-use Rattle.seat_book.specs.Players.{sits_at, player_at}
+use Rattle.seat_book.specs.Players.{sits_at, sits_in, player_at}
 use Rattle.seat_book.specs.Counts.{count_at}
 use Rattle.seat_book.specs.Tables.{fresh_status, status_at, with_status}
+use Rattle.seat_book.proofs.Passing.{found-all}
 use Rattle.seat_book.proofs.TakenSeats.{sits_in_seats, seats_of_places}
 use Rattle.balance_rule.proofs.Movers.{found-place}
-use Rattle.level_plan.specs.Items.{is_between}
+use Rattle.level_plan.specs.Items.{is_between, is_next_unit}
 use Rattle.level_plan.specs.Plans.{unit_of_level}
 use Rattle.level_plan.proofs.Levels.{unit_of_level_above}
 use Rattle.floor_events.specs.declared.event.Event.TheVariants.{Race}
@@ -37,16 +39,16 @@ use Rattle.tournament_rules.specs.Players.{start_seat, with_rest}
 use Rattle.tournament_rules.specs.Racing.{unit_after, raced_off, stack_in, stacks_at, race_at, restacked}
 use Rattle.tournament_rules.specs.Units.{IsUnitOf, is_whole_at, AreWhole, is_due}
 use Rattle.tournament_rules.specs.Valid.{IsValid, is_lent}
-use Rattle.tournament_rules.proofs.BySeats.{player_in, walk-sum, walk-alike, none_later, seats-sum, stacks-at, stacks-sum}
-use Rattle.tournament_rules.proofs.Begins.{none_out, all_rest}
-use Rattle.tournament_rules.proofs.DealtIn.{none_first}
+use Rattle.tournament_rules.proofs.BySeats.{ten_seats, player_in, walk-sum, walk-alike, none_later, seats-sum, stacks-at, stacks-sum}
+use Rattle.tournament_rules.proofs.Begins.{none_out, all_rest, few_chips}
+use Rattle.tournament_rules.proofs.DealtIn.{none_first, nothing_whole}
 use Rattle.tournament_rules.proofs.Entries.{right_has}
 use Rattle.tournament_rules.proofs.Fitting.{table_range, status_here, status_elsewhere, each_status, seating_changed}
 use Rattle.tournament_rules.proofs.Paying.{stack_of}
 use Rattle.tournament_rules.proofs.Passed.{none_holds, is_so, some_there}
 use Rattle.tournament_rules.proofs.Restacked.{ChangesStacks, count_changed, entered_changed}
 use Rattle.tournament_rules.proofs.SitDown.{sits_before, in_order-pairs}
-use Rattle.tournament_rules.proofs.Units.{small_unit}
+use Rattle.tournament_rules.proofs.Units.{next_times, small_unit}
 
 -- What is so of a race that is not refused.
 pub record MayRace (book : BookState) (table : ℕ) (cards : List Card) : Type 0 where
@@ -204,7 +206,8 @@ whole-raced tables after table stacks (player ∷ players) same whole size withi
     let parts = and_parts (is_whole_at tables player) (list_all (is_whole_at tables) players) all in
     let seat = table_range 1 10 player.place.seat here.0 in
     and_from _ _ (by_table (sits_at table player) refl parts.0
-    (is_whole-at (status_at after table).unit stacks (player.place.seat - 1) whole (omega (arith, size, seat.0, seat.1))))
+    (is_whole-at (status_at after table).unit stacks (player.place.seat - 1) whole (omega
+    (arith, size, seat.0, seat.1))))
     (whole-raced tables after table stacks players same whole size here.1 parts.1)
   where
     turned : (one other : ℕ) → (one == other) ≡ false → (other == one) ≡ false
@@ -219,6 +222,41 @@ whole-raced tables after table stacks (player ∷ players) same whole size withi
     by_table false is his now =
         ap (λ (unit : ℕ). player.stack % unit == 0)
         (same player.place.table (turned player.place.table table is)) ∙ his
+
+-- A race from the old unit to the new one may be made of these stacks.
+pub record CanRace (stacks : List ℕ) (old new : ℕ) : Type 0 where
+  pub unit : 1 ≤ old
+  pub multiple : new % old ≡ 0
+  pub least : 2 * old ≤ new
+  pub most : new ≤ 6 * old
+  pub whole : are_whole old stacks ≡ true
+  pub fits : sum stacks < 2 ^ 53
+
+-- A greater unit that may come next is two to six times the one before.
+next_bounds : (before unit : ℕ) → is_next_unit before unit ≡ true → before < unit
+    → (2 * before ≤ unit) × (unit ≤ 6 * before)
+next_bounds before unit next greater = (grind (arith, nat_tests), grind (arith, nat_tests))
+
+-- The stacks in the seats of a table are whole chips of its unit.
+stacks-whole : (tables : List TableStatus) (table : ℕ) (players : List Seated) → AreWhole tables players
+    → are_whole (status_at tables table).unit (stacks_at players table) ≡ true
+stacks-whole tables table players whole = by_seats ten_seats
+  where
+    unit : ℕ
+    unit = (status_at tables table).unit
+
+    by_player : (seat : ℕ) (found : Option Seated) → player_in players table seat ≡ found
+        → (option_map_or (λ player. player.stack) found 0 % unit == 0) ≡ true
+    by_player seat None is = nothing_whole unit
+    by_player seat (Some player) is =
+        let here = found-place players (record { table = table; seat = seat }) player is in
+        ap (λ (place : Place). player.stack % (status_at tables place.table).unit == 0) (sym here)
+        ∙ found-all (sits_in (record { table = table; seat = seat })) (is_whole_at tables) players player whole is
+
+    by_seats : (seats : List ℕ)
+        → are_whole unit (map (λ seat. stack_in players (record { table = table; seat = seat })) seats) ≡ true
+    by_seats [] = refl
+    by_seats (seat ∷ seats) = and_from _ _ (by_player seat (player_in players table seat) refl) (by_seats seats)
 
 -- There are as many stacks after a race as before.
 stacks-length : (stacks : List ℕ) (old new : ℕ) (cards : List Card)
@@ -246,7 +284,8 @@ added-few stacks old new cards some =
       | inr one ↦ omega (arith, one)
     ]
 
-module _ (book : BookState) (table : ℕ) (cards : List Card) (valid : IsValid book) (may : MayRace book table cards) where
+module _ (book : BookState) (table : ℕ) (cards : List Card) (valid : IsValid book)
+    (may : MayRace book table cards) where
   abbrev players : List Seated
   players = book.seating.players
 
@@ -325,7 +364,8 @@ module _ (book : BookState) (table : ℕ) (cards : List Card) (valid : IsValid b
       let walked = walk-sum after 0 value (λ index inside.
       let number : 0 + index + 1 - 1 ≡ index = omega arith in ap (λ (n : ℕ). get_or after n 0) number) in
       let ten = ap (λ (count : ℕ). sum_by value (walk suc count 0)) size in
-      sym walked ∙ (ten ∙ (walk-alike 10 0 value (λ seat. option_map_or (by_seat after) (player_in players table seat) 0)
+      sym walked ∙ (ten ∙ (walk-alike 10 0 value (λ seat. option_map_or (by_seat after)
+      (player_in players table seat) 0)
       (λ seat low high. by_player seat (omega (arith, low)) (omega (arith, high)) (player_in players table seat) refl)
       ∙ seats-sum (by_seat after) table players ordered within))
     where
@@ -361,7 +401,8 @@ module _ (book : BookState) (table : ℕ) (cards : List Card) (valid : IsValid b
     where
       by_number : (table : ℕ) → 1 ≤ table → table ≤ length book.seating.tables
           → (status_at book.seating.tables table).race ≡ Some may.unit
-          → count_by is_due (with_status book.seating.tables table (raced_off (status_at book.seating.tables table))) + 1
+          → count_by is_due (with_status book.seating.tables table (raced_off
+          (status_at book.seating.tables table))) + 1
           ≡ count_by is_due book.seating.tables
       by_number zero first last due = absurd (omega (arith, first))
       by_number (suc below) first last due =
@@ -369,6 +410,32 @@ module _ (book : BookState) (table : ℕ) (cards : List Card) (valid : IsValid b
           (raced_off (status_at book.seating.tables (suc below))) fresh_status (omega (arith, last)) in
           let one = ap (λ (race : Option ℕ). cond {A = ℕ} (is_some race) 1 0) due in
           omega (arith, sum, one)
+
+  -- What the race is made of is as it needs.
+  pub can_race : CanRace before status.unit (unit_after status)
+  can_race =
+      let to = (valid.units.units table there).from may.unit may.due in
+      let times = next_times status.unit may.unit to.next in
+      let new : unit_after status ≡ may.unit =
+      ap (λ (race : Option ℕ). unwrap_or race status.unit) may.due in
+      let bounds = next_bounds status.unit may.unit to.next to.greater in
+      let rest = sum_by-le-sum_by (λ (player : Seated). cond (sits_at table player) player.stack 0) stack_of players
+      (λ player. at_most (sits_at table player) player.stack) in
+      let here = stacks-sum table players ordered within in
+      let kept = valid.chips in
+      let all = few_chips book valid in
+      record {
+        unit = own;
+        multiple = ap (λ (n : ℕ). n % status.unit) (new ∙ times.1) ∙ mul-mod_right status.unit times.0;
+        least = omega (arith, new, bounds.0);
+        most = omega (arith, new, bounds.1);
+        whole = stacks-whole book.seating.tables table players valid.units.whole;
+        fits = omega (arith, rest, here, kept, all);
+      }
+    where
+      at_most : (sits : Bool) (stack : ℕ) → cond sits stack 0 ≤ stack
+      at_most true stack = omega arith
+      at_most false stack = omega arith
 
   -- A book is valid once the race that is pending at a table is made.
   pub valid_after : IsValid (raced book table cards)
@@ -385,7 +452,8 @@ module _ (book : BookState) (table : ℕ) (cards : List Card) (valid : IsValid b
         tables = record {
           lawful = seating_changed book.seating table (raced_off status) (restacked table after) lawful range.0
               (let last = range.1 in let all = lawful.tables in omega (arith, last, all))
-              (record { marks = stands.marks; unit = some_unit; race = λ new at. absurd cc }) (raced-stacks table after);
+              (record { marks = stands.marks; unit = some_unit; race = λ new at. absurd cc })
+              (raced-stacks table after);
           tables = valid.tables.tables;
           seats = valid.tables.seats;
           room = valid.tables.room;
@@ -399,7 +467,8 @@ module _ (book : BookState) (table : ℕ) (cards : List Card) (valid : IsValid b
               let unit = each_status (λ number status. start_at book.out number ≡ Some start → start.unit ≡ status.unit)
               tables table (raced_off status) range.0 range.1 (λ out. absurd cc) other (λ out. began.unit) is in
               record { here = began.here; lawful = began.lawful; seats = began.seats; unit = unit };
-          lent = λ other. ap (λ (found : List Seated). map start_seat found) (keeps_lent other) ∙ valid.hands.lent other;
+          lent = λ other. ap (λ (found : List Seated). map start_seat found) (keeps_lent other)
+              ∙ valid.hands.lent other;
         };
         busts = valid.busts;
         chips =

@@ -98,7 +98,8 @@ some_chips unit (starter ∷ starters) playable two =
     above stack is = grind (arith, nat_tests)
 
 -- Where chips went back to those who had nothing at rest at a table, somebody there has some.
-pub somebody_stays : (table : ℕ) (players : List Seated) (payees : List StartSeat) (unit : ℕ) (starters : List StartSeat)
+pub somebody_stays : (table : ℕ) (players : List Seated) (payees : List StartSeat) (unit : ℕ)
+    (starters : List StartSeat)
     → are_apart players ≡ true → ArePayees (is_lent table) players payees
     → have_playable_stacks unit starters ≡ true → 2 ≤ length starters → chips_of payees ≡ chips_of starters
     → 1 ≤ count_at (who_stay table (put_back payees players)) table

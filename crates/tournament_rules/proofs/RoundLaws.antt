@@ -41,9 +41,11 @@ unfolding book_refusal
 not_on_again book on none =
     let all = none_holds (book_checks book (events.Hands true)) none in
     let going = and_parts _ _ all in
-    let switch = and_parts _ _ going.1 in
-    let both : true ≡ false = sym on ∙ not-true _ switch.0 in
-    cc
+    let off = not-true book.seating.hands (and_parts _ _ going.1).0 in
+    both_ways on off
+  where
+    both_ways : {b : Bool} → b ≡ true → b ≡ false → ⊥
+    both_ways one other = let both = sym one ∙ other in absurd cc
 
 -- No event but the end of a round switches hand-for-hand, or ends a round, while it is on.
 pub no_turn : (play : PlayState) (event : Event) → ends_round event ≡ false → refusal_of play event ≡ None
@@ -88,7 +90,8 @@ waits : (state : State) (between : List Event) (play : PlayState) (table : ℕ) 
     → answer_to (run state between) (events.Begin table row) ≢ Ok
 waits state between play table row at has none again =
     let later = run_some state between play at in
-    let still = run_keeps (HasBegun table) ends_round (begun_kept table) state between play later.0 at later.1 none has in
+    let still = run_keeps (HasBegun table) ends_round
+    (begun_kept table) state between play later.0 at later.1 none has in
     let free = not_refused (run state between) later.0 (events.Begin table row) later.1 again in
     let may = may_begin later.0.book table row (passed-parts later.0 (events.Begin table row) free).0 in
     let fresh : (status_at later.0.book.seating.tables table).begun ≡ false = rw still.on at may.fresh in

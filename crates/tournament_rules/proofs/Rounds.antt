@@ -29,23 +29,12 @@ each_begun P test tables (suc below) keeps is = by_list tables below is
     by_list (status ∷ tables) zero is = keeps status is
     by_list (status ∷ tables) (suc below) is = by_list tables below is
 
--- A table keeps what does not depend on whether it has begun.
-pub key_begun : {K : Type 0} (key : TableStatus → K) (test : TableStatus → Bool) (tables : List TableStatus) (table : ℕ)
-    → ((status : TableStatus) (begun : Bool) → key (record status { begun = begun }) ≡ key status)
-    → key (status_at (map (begun_by test) tables) table) ≡ key (status_at tables table)
-key_begun key test tables zero same = refl
-key_begun key test tables (suc below) same = by_list tables below
-  where
-    by_list : (tables : List TableStatus) (below : ℕ)
-        → key (get_or (map (begun_by test) tables) below fresh_status) ≡ key (get_or tables below fresh_status)
-    by_list [] below = refl
-    by_list (status ∷ tables) zero = same status (test status)
-    by_list (status ∷ tables) (suc below) = by_list tables below
-
 keeps-begun : (test : TableStatus → Bool) (tables : List TableStatus) → KeepsUnits tables (map (begun_by test) tables)
 keeps-begun test tables = record {
-  unit = λ table. key_begun (λ status. status.unit) test tables table (λ status begun. refl);
-  race = λ table. key_begun (λ status. status.race) test tables table (λ status begun. refl);
+  unit = λ table. each_begun (λ status. status.unit ≡ (status_at tables table).unit) test tables table
+      (λ status is. is) refl;
+  race = λ table. each_begun (λ status. status.race ≡ (status_at tables table).race) test tables table
+      (λ status is. is) refl;
   due = by_list tables;
 }
   where
@@ -82,7 +71,8 @@ valid_switched book test hands group valid least most =
           (λ table. each_begun (IsStatusOf book.seating.seat_count) test tables table
           (λ status is. record { marks = is.marks; unit = is.unit; race = is.race })
           (valid.tables.lawful.statuses table))
-          (λ table. key_begun (λ status. status.playing) test tables table (λ status begun. refl));
+          (λ table. each_begun (λ status. status.playing ≡ (status_at tables table).playing) test tables table
+          (λ status is. is) refl);
       hands = out_kept book.plan tables after players book.out valid.hands keeps.unit;
       busts = record {
         groups = valid.busts.groups;
@@ -91,8 +81,8 @@ valid_switched book test hands group valid least most =
       chips = valid.chips;
       units = units_kept book.plan book.level book.added tables after players players valid.units keeps
           valid.units.whole valid.units.due;
-      marked = λ table. each_begun (λ status. ForSome status.marks (λ marks. 1 ≤ count_at players table)) test tables table
-          (λ status is. is) (valid.marked table);
+      marked = λ table. each_begun (λ status. ForSome status.marks (λ marks. 1 ≤ count_at players table)) test tables
+          table (λ status is. is) (valid.marked table);
       counted = let counted = valid.counted in omega (arith, counted);
       raised = let raised = valid.raised in omega (arith, raised, most);
     }

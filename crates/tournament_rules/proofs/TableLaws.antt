@@ -44,7 +44,8 @@ lent_sits : (number table : ℕ) (players : List Seated)
     → list_any (has_number number) (map start_seat (filter (is_lent table) players)) ≡ true
     → list_any (sits_numbered number table) players ≡ true
 lent_sits number table [] among = absurd cc
-lent_sits number table (player ∷ players) among = by_test (is_lent table player) refl among (lent_sits number table players)
+lent_sits number table (player ∷ players) among = by_test (is_lent table player) refl among
+    (lent_sits number table players)
   where
     either : (his here sits later : Bool) → (his || later) ≡ true → sits ≡ true → (later ≡ true → here ≡ true)
         → ((his && sits) || here) ≡ true
@@ -69,7 +70,8 @@ lent_sits number table (player ∷ players) among = by_test (is_lent table playe
         later false is = is
 
 -- Where none has a number, none of that number sits at a table.
-none_sits : (number table : ℕ) (players : List Seated) → list_all (λ other. not (is_numbered number other)) players ≡ true
+none_sits : (number table : ℕ) (players : List Seated) → list_all (λ other. not (is_numbered number other)) players
+    ≡ true
     → list_any (sits_numbered number table) players ≡ false
 none_sits number table [] none = refl
 none_sits number table (player ∷ players) none =
@@ -83,7 +85,8 @@ one_table : (number table other : ℕ) (players : List Seated) → are_apart pla
     → table ≡ other
 one_table number table other [] apart here there = absurd cc
 one_table number table other (player ∷ players) apart here there =
-    let parts = and_parts (list_all (λ other. not (is_numbered player.player other)) players) (are_apart players) apart in
+    let parts = and_parts (list_all (λ other. not (is_numbered player.player other)) players)
+    (are_apart players) apart in
     by_number (is_numbered number player) refl parts.0 here there (one_table number table other players parts.1)
   where
     his : (at : ℕ) → list_all (λ other. not (is_numbered number other)) players ≡ true
@@ -227,7 +230,8 @@ left_after state play table places names is valid accepted =
     let none = not_refused state play (Break table places names) is accepted in
     let may = break_passed play.book table places names (passed-parts play (Break table places names) none).0 in
     let taken = ap is_accepted accepted in
-    let next : (state_after state (Break table places names)).play ≡ Some (play_effect play (Break table places names)) =
+    let next : (state_after state (Break table places names)).play ≡ Some (play_effect play
+    (Break table places names)) =
     rw (taken, is) refl in
     ap (λ (play : Option PlayState). players_at (option_map_or (λ play. play.book.seating.players) play []) table) next
     ∙ broken_left play.book table places names valid.book may

@@ -10,10 +10,12 @@ returns-clause-one c = λ before during earlier is on none later after.
 
 pub returns-clause-rounds : goal.returns-clause-rounds
 returns-clause-rounds c = λ before after event earlier is kind taken later ends.
-    rounds_apart (run first_state before) after event earlier later is ((valid_events before).play earlier is) kind taken
+    rounds_apart (run first_state before) after event earlier later is
+    ((valid_events before).play earlier is) kind taken
     ends
 
 pub returns-clause-settles : goal.returns-clause-settles
 returns-clause-settles c = λ before after table play is off taken earlier middle later ends.
-    settles_apart (run first_state before) after table play earlier later is ((valid_events before).play play is) off taken
+    settles_apart (run first_state before) after table play earlier later is
+    ((valid_events before).play play is) off taken
     middle ends
