@@ -206,6 +206,16 @@ round_raises play (events.Hands false) kind = record { busts = refl; group = ref
 round_raises play events.Round kind = record { busts = refl; group = refl }
 round_raises play _ kind = absurd cc
 
+-- An accepted end of a round raises the group by one.
+pub group_rises : (state : State) (event : Event) (play later : PlayState) → state.play ≡ Some play
+    → ends_round event ≡ true → answer_to state event ≡ Ok → (state_after state event).play ≡ Some later
+    → later.book.group ≡ play.book.group + 1
+group_rises state event play later at kind taken after =
+    let accepted = ap is_accepted taken in
+    let next : (state_after state event).play ≡ Some (play_effect play event) = rw (accepted, at) refl in
+    let same : play_effect play event ≡ later = same_Some (play_effect play event) later (sym next ∙ after) in
+    ap (λ (play : PlayState). play.book.group) (sym same) ∙ (round_raises play event kind).group
+
 -- Who goes out after the end of a round is in a later group than all who went out before.
 pub rounds_apart : (state : State) (after : List Event) (event : Event) (play later : PlayState)
     → state.play ≡ Some play → IsValidPlay play → ends_round event ≡ true → answer_to state event ≡ Ok

@@ -184,13 +184,17 @@ pub fn groups_never_fall()
 {}
 
 /// No group has players of two rounds. Those who go out while hand-for-hand is on, before the end of a round is
-/// accepted, are in one group. Those who go out after it are in later groups than all who were out before, and so are
-/// those who go out after a settle while hand-for-hand is off.
+/// accepted, are in one group. Each accepted end of a round raises the group by one, so those who go out after it are
+/// in later groups than all who were out before. So are those who go out after a settle while hand-for-hand is off.
 pub fn a_group_is_of_one_round()
     ensures one { (before during : List Event) → ForSome (run first_state before).play (λ earlier.
         earlier.book.seating.hands ≡ true → is_any_accepted ends_round (run first_state before) during ≡ false
         → ForSome (run (run first_state before) during).play (λ later.
         All (λ bust. bust.group ≡ earlier.book.group) (drop (length earlier.book.busts) later.book.busts))) }
+    ensures rises { (before : List Event) (event : Event) → ForSome (run first_state before).play (λ earlier.
+        ends_round event ≡ true → answer_to (run first_state before) event ≡ Ok
+        → ForSome (state_after (run first_state before) event).play (λ later.
+        later.book.group ≡ earlier.book.group + 1)) }
     ensures rounds { (before after : List Event) (event : Event) → ForSome (run first_state before).play (λ earlier.
         ends_round event ≡ true → answer_to (run first_state before) event ≡ Ok
         → ForSome (run (state_after (run first_state before) event) after).play (λ later.
