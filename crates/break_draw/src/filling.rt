@@ -1,6 +1,6 @@
 //! The seats that a broken table's players take.
 
-ghost use Rattle.std.specs.Prelude.{◌≡◌, ◌<◌, ◌≤◌, ◌+◌, ◌↔◌, ◌||◌, if◌then◌else◌, ℕ, IsTrue, true, length, Some, Err, IfOk};
+ghost use Rattle.std.specs.Prelude.{◌≡◌, ◌<◌, ◌≤◌, ◌+◌, ◌↔◌, ◌||◌, if◌then◌else◌, ℕ, IsTrue, true, length, None, Some, Err, IfSome, IfOk};
 ghost use Rattle.std.specs.List.{list_all};
 ghost use Rattle.std.specs.Option.{ForSome};
 ghost use Rattle.button_blinds.specs.SeatSets.{has_seat, seat_count};
@@ -12,7 +12,7 @@ ghost use Rattle.balance_rule.specs.Filling.{is_other_open, other_open_tables, e
 ghost use Rattle.break_draw.specs.declared.faults.DrawFault.TheVariants.{NoRoom};
 ghost use Rattle.break_draw.specs.Counting.{HasCounts};
 
-use crate::DrawFault;
+use crate::{DrawFault, FillSeats};
 use balance_rule::empty_seat_after;
 use button_blinds::SeatSet;
 use seat_book::{Place, SeatBook};
@@ -141,23 +141,36 @@ fn next_to_fill(book: &SeatBook, table: u8, counts: &[u8; MOST_TABLES], chosen: 
 }
 
 /// The seats that a table's players take when it breaks, as many as it has players, chosen one at a time: at the other
-/// open table with the fewest players, of more such at that with the lowest number, its lowest empty seat. `NoRoom`
-/// comes exactly where the other open tables have fewer empty seats than the table has players.
+/// open table with the fewest players, of more such at that with the lowest number, its lowest empty seat. `None` comes
+/// exactly where the other open tables have fewer empty seats than the table has players. It takes no memory.
+pub fn fill_seats(book: &SeatBook, table: u8) -> Option<FillSeats>
+    requires { IsTableOf book.now.table_count table }
+    ensures fill { IfSome result (λ fill. fill_seats book.now table ≡ Some fill) }
+    ensures no_room { (result ≡ None) ↔ IsTrue (lacks_room book.now table) }
+{
+    let players = book.count(table);
+    if empty_elsewhere(book, table) < u16::from(players) {
+        return None;
+    }
+    let mut counts = counts_of(book);
+    let mut fill = FillSeats::new();
+    for _chosen in 0..players {
+        let place = next_to_fill(book, table, &counts, fill.places());
+        counts[usize::from(place.table - 1)] += 1;
+        fill.push(place);
+    }
+    Some(fill)
+}
+
+/// The seats that a table's players take when it breaks, in turn, as a list. `NoRoom` comes exactly where the other open
+/// tables have fewer empty seats than the table has players.
 pub fn fill_list(alloc: Global, book: &SeatBook, table: u8) -> Result<Vec<Place>, DrawFault>
     requires { IsTableOf book.now.table_count table }
     ensures fill { IfOk result (λ fill. fill_seats book.now table ≡ Some fill.items) }
     ensures no_room { (result ≡ Err NoRoom) ↔ IsTrue (lacks_room book.now table) }
 {
-    let players = book.count(table);
-    if empty_elsewhere(book, table) < u16::from(players) {
-        return Err(DrawFault::NoRoom);
+    match fill_seats(book, table) {
+        Some(fill) => Ok(Vec::from_slice(alloc, fill.places())?),
+        None => Err(DrawFault::NoRoom),
     }
-    let mut counts = counts_of(book);
-    let mut fill = Vec::with_capacity(alloc, usize::from(players))?;
-    for _chosen in 0..players {
-        let place = next_to_fill(book, table, &counts, &fill);
-        counts[usize::from(place.table - 1)] += 1;
-        fill.push(place)?;
-    }
-    Ok(fill)
 }

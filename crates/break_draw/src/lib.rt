@@ -1,13 +1,15 @@
 //! The break of a table: which seats its players take, and the draw of who takes which.
 //!
-//! It stands on floor_text, button_blinds, seat_book and balance_rule, and on `rand` and `rand_chacha`. `fill_list`
-//! chooses the seats, `draw` puts seats and names into an order by a seed, and `check_draw` says whether an order is
-//! one. `fill_list` and `draw` alone take memory. `generator` makes the generator of any draw of a tournament.
+//! It stands on floor_text, button_blinds, seat_book and balance_rule, and on `rand` and `rand_chacha`. `fill_seats`
+//! chooses the seats, and `fill_list` makes a list of them; `draw` puts seats and names into an order by a seed, and
+//! `check_draw` says whether an order is one. `fill_list` and `draw` alone take memory. `generator` makes the generator
+//! of any draw of a tournament.
 #![tactic(auto)]
 
 mod checks;
 mod draws;
 mod faults;
+mod fill;
 mod filling;
 mod laws;
 mod random;
@@ -17,7 +19,8 @@ mod tests;
 pub use checks::check_draw;
 pub use draws::draw;
 pub use faults::DrawFault;
-pub use filling::fill_list;
+pub use fill::FillSeats;
+pub use filling::{fill_list, fill_seats};
 pub use laws::{
     a_break_leaves_the_tables_even, a_draw_passes_its_check, a_fill_list_has_empty_seats_elsewhere,
 };

@@ -1,22 +1,22 @@
-use Rattle.std.proofs.Common.{◌≡◌, ◌∙◌, ◌+◌, ◌<◌, ap, subst, List, ◌++◌, ◌∷◌, [], length, get_or, length-set, arith}
+use Rattle.std.proofs.Common.{◌∙◌, ◌+◌, ◌<◌, ap, subst, List, length, get_or, length-set, arith}
 use Rattle.seat_book.specs.declared.place.Place.{Place}
 use Rattle.balance_rule.specs.Filling.{count_with}
 use Rattle.break_draw.proofs.Room.{filled-length, filled-more}
 use Rattle.break_draw.proofs.Counting.{counts-after, count-read}
-use Rattle.break_draw.proofs.filling.fill_list.Goals as goal
+use Rattle.break_draw.proofs.filling.fill_seats.Goals as goal
 
 pub next_to_fill-place-requires-clause-filled : goal.next_to_fill-place-requires-clause-filled
 next_to_fill-place-requires-clause-filled c =
     rw (
-      c.deref.ensures.value,
-      filled-length c.args.book.now c.args.table c.loop-chosen._chosen c.loop-chosen.fill.items
+      c.places.ensures,
+      filled-length c.args.book.now c.args.table c.loop-chosen._chosen c.loop-chosen.fill
           c.loop-chosen.invariant.chosen,
     ) c.loop-chosen.invariant.chosen
 
 pub next_to_fill-place-requires-clause-room : goal.next_to_fill-place-requires-clause-room
 next_to_fill-place-requires-clause-room c =
-    let len = ap length c.deref.ensures.value in
-    let chosen = filled-length c.args.book.now c.args.table c.loop-chosen._chosen c.loop-chosen.fill.items
+    let len = ap length c.places.ensures in
+    let chosen = filled-length c.args.book.now c.args.table c.loop-chosen._chosen c.loop-chosen.fill
     c.loop-chosen.invariant.chosen in
     omega (
       arith,
@@ -26,6 +26,18 @@ next_to_fill-place-requires-clause-room c =
       c.if-empty_elsewhere-from.false,
       c.from.ensures,
       c.empty_elsewhere.ensures,
+    )
+
+pub push-requires : goal.push-requires
+push-requires c =
+    let chosen = filled-length c.args.book.now c.args.table c.loop-chosen._chosen c.loop-chosen.fill
+    c.loop-chosen.invariant.chosen in
+    omega (
+      arith,
+      chosen,
+      c.loop-chosen-test.true,
+      c.count-players.ensures.most,
+      c.counts_of-counts.ensures.lawful.most_seats,
     )
 
 pub bounds-counts-from : goal.bounds-counts-from
@@ -39,12 +51,12 @@ bounds-counts-from c = omega (
 
 pub overflow_add-counts : goal.overflow_add-counts
 overflow_add-counts c =
-    let read = count-read c.args.book.now.table_count c.args.book.now.players c.loop-chosen.fill.items
+    let read = count-read c.args.book.now.table_count c.args.book.now.players c.loop-chosen.fill
     c.next_to_fill-place.result.table c.from-in-loop-chosen.result c.loop-chosen.counts c.loop-chosen.invariant.counts
     c.next_to_fill-place.ensures.table c.from-in-loop-chosen.ensures in
-    let room : count_with c.args.book.now.players c.loop-chosen.fill.items c.next_to_fill-place.result.table
+    let room : count_with c.args.book.now.players c.loop-chosen.fill c.next_to_fill-place.result.table
     < c.args.book.now.seat_count = subst (λ (chosen : List Place). count_with c.args.book.now.players chosen
-    c.next_to_fill-place.result.table < c.args.book.now.seat_count) c.deref.ensures.value
+    c.next_to_fill-place.result.table < c.args.book.now.seat_count) c.places.ensures
     c.next_to_fill-place.ensures.room in
     omega (arith, read, room, c.counts_of-counts.ensures.lawful.most_seats)
 
@@ -59,13 +71,12 @@ bounds-counts-from-in-loop-chosen c = omega (
 
 pub loop-chosen-preserved : goal.loop-chosen-preserved
 loop-chosen-preserved c =
-    let next = rw c.deref.ensures.value at c.next_to_fill-place.ensures.next in
-    let items : c.push.new.self.items ≡ c.loop-chosen.fill.items ++ c.next_to_fill-place.result ∷ [] =
-    c.in_ok-push.ensures.items in
+    let next = rw c.places.ensures at c.next_to_fill-place.ensures.next in
+    let items = c.push.ensures in
     record {
-      chosen = rw items (filled-more c.args.book.now c.args.table c.loop-chosen._chosen c.loop-chosen.fill.items
+      chosen = rw items (filled-more c.args.book.now c.args.table c.loop-chosen._chosen c.loop-chosen.fill
           c.next_to_fill-place.result c.loop-chosen.invariant.chosen next);
-      counts = rw items (counts-after c.args.book.now.table_count c.args.book.now.players c.loop-chosen.fill.items
+      counts = rw items (counts-after c.args.book.now.table_count c.args.book.now.players c.loop-chosen.fill
           c.next_to_fill-place.result c.loop-chosen.counts c.from-in-loop-chosen.result c.loop-chosen.invariant.counts
           c.next_to_fill-place.ensures.table (omega (
             arith,
