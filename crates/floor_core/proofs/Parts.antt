@@ -1,5 +1,5 @@
 -- What a book and its hands refuse.
-use Rattle.std.proofs.Common.{◌≡◌, ◌∙◌, refl, sym, ap, subst, ℕ, List, map}
+use Rattle.std.proofs.Common.{◌≡◌, ◌∙◌, refl, sym, ap, subst, ℕ, true, List, map}
 use Rattle.std.specs.Prelude.{Option, Some, None, Result}
 use Rattle.std.specs.Option.{option_and_then, option_or}
 use Rattle.rulebook.specs.Checks.{first_that_holds}
@@ -9,11 +9,13 @@ use Rattle.table_engine.specs.declared.record.ActFault.{ActFault}
 use Rattle.table_engine.specs.Acts.{IsAnswer}
 use Rattle.table_engine.specs.Hands.{HandTerms}
 use Rattle.floor_events.specs.declared.event.Event.{Event}
+use Rattle.floor_events.specs.declared.event.Event.TheVariants as events
 use Rattle.floor_events.specs.declared.event.Event.TheVariants.{Act as Acts, Settle}
 use Rattle.tournament_rules.specs.Books.{BookState}
 use Rattle.tournament_rules.specs.Checks.{book_refusal, before_act_checks, before_hand_checks}
 use Rattle.tournament_rules.specs.States.{PlayState, refusal_of}
 use Rattle.tournament_rules.specs.Apart.{start_of, seen_of, hand_for, hand_refusal}
+use Rattle.floor_core.specs.Orders.{leaves_hands}
 use Rattle.tournament_rules.proofs.Layers.{hand_for-read}
 use Rattle.tournament_rules.proofs.Passed.{refusal-parts}
 
@@ -44,6 +46,23 @@ by_book_alone book hands event tied none = in_parts book hands event tied ∙ rw
     no_more : (refusal : Option Refusal) → option_or refusal None ≡ refusal
     no_more None = refl
     no_more (Some found) = refl
+
+-- An order that leaves the hands as they are is refused by the book alone.
+pub by_order : (book : BookState) (hands : List (Option HandTerms)) (event : Event) → map start_of hands ≡ book.out
+    → leaves_hands event ≡ true → refusal_of (seen book hands) event ≡ book_refusal book event
+by_order book hands event tied leaves = by_book_alone book hands event tied (about_none event leaves)
+  where
+    about_none : (event : Event) → leaves_hands event ≡ true → hand_for hands event ≡ None
+    about_none (events.Plan line) leaves = refl
+    about_none events.Go leaves = refl
+    about_none (events.Enter name table seat) leaves = refl
+    about_none (events.Begin table row) leaves = refl
+    about_none (events.Act table name act) leaves = absurd cc
+    about_none (events.Time table) leaves = absurd cc
+    about_none (events.Settle table) leaves = absurd cc
+    about_none (events.Balance from to) leaves = refl
+    about_none (events.Break table places names) leaves = refl
+    about_none events.Stop leaves = refl
 
 -- What the book does not refuse is refused by the hand alone.
 pub by_hand : (book : BookState) (hands : List (Option HandTerms)) (event : Event) → map start_of hands ≡ book.out

@@ -9,6 +9,7 @@ ghost use Rattle.seat_book.specs.Players.{players_in, player_at, with_stack};
 ghost use Rattle.floor_core.specs.Seats.{has_lawful_seat, dealt_of};
 ghost use Rattle.button_blinds.specs.SeatSets.{has_seat};
 ghost use Rattle.seat_book.specs.Counts.{count_at};
+ghost use Rattle.balance_rule.specs.Halting.{is_halted};
 ghost use Rattle.table_engine.specs.Acts.{IsAnswer};
 ghost use Rattle.floor_events.specs.declared.event.Event.TheVariants as events;
 ghost use Rattle.tournament_rules.specs.Books.{blind_now};
@@ -19,6 +20,7 @@ ghost use Rattle.tournament_rules.specs.Effects.{begun_book};
 
 use crate::BookFault;
 use crate::book::Book;
+use balance_rule::halted;
 use button_blinds::{NextMarks, SeatSet, next_marks};
 use card_set::{CardRow, Deck, Game};
 use floor_text::{List, Refusal};
@@ -119,6 +121,14 @@ struct Ready {
 }
 
 impl Book {
+    /// Tells whether a table is halted.
+    fn is_halted(&self, table: u8) -> bool
+        requires { IsTableOf self.now.seating.table_count table }
+        ensures { result ≡ is_halted self.now.seating table }
+    {
+        halted(&self.seats, table)
+    }
+
     /// Checks that a hand may begin at a table, and gives the table's number.
     fn check_table(&self, table: u64) -> Result<u8, Refusal>
         ensures checked { IsChecked (table_checks self.now table) result }
@@ -126,18 +136,17 @@ impl Book {
         ensures within { IfOk result (IsTableOf self.now.seating.table_count) }
         ensures two { IfOk result (λ number. 2 ≤ count_at self.now.seating.players number) }
     {
-        let Some(number) = self.table_number(table) else {
+        let Some(number) = self.open_table(table) else {
             return Err(Refusal::NoTable);
         };
-        let count = self.seats.count(number);
-        if count == 0 {
-            return Err(Refusal::NoTable);
-        }
         if self.seats.status(number).playing {
             return Err(Refusal::Playing);
         }
-        if count == 1 {
+        if self.seats.count(number) == 1 {
             return Err(Refusal::Lone);
+        }
+        if self.is_halted(number) {
+            return Err(Refusal::Halted);
         }
         Ok(number)
     }

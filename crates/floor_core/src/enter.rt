@@ -1,13 +1,14 @@
 //! A player enters.
 
-ghost use Rattle.std.specs.Prelude.{◌≡◌, ◌<◌, ◌≤◌, ◌^◌, ◌++◌, ◌∷◌, [], false, length, is_some, IfSome, IfOk, OnOk, OnErr};
+ghost use Rattle.std.specs.Prelude.{◌≡◌, ◌<◌, ◌≤◌, ◌^◌, ◌++◌, ◌∷◌, [], ◌&&◌, nat_lt, false, length, is_some, IfSome, IfOk, OnOk, OnErr};
 ghost use Rattle.rulebook.specs.Checks.{IsChecked, first_that_holds};
 ghost use Rattle.entry_list.specs.Entries.{is_known};
 ghost use Rattle.seat_book.specs.Places.{IsTableOf, IsPlaceOf};
+ghost use Rattle.seat_book.specs.Counts.{count_at};
 ghost use Rattle.tournament_rules.specs.Books.{has_seat_number};
 ghost use Rattle.table_engine.specs.Acts.{IsAnswer};
 ghost use Rattle.floor_events.specs.declared.event.Event.TheVariants as events;
-ghost use Rattle.tournament_rules.specs.Checks.{may_be_entered, is_taken, newcomer_checks, seat_checks, entry_checks, room_checks, enter_checks, book_refusal};
+ghost use Rattle.tournament_rules.specs.Checks.{may_be_entered, is_taken, is_not_fewest, newcomer_checks, seat_checks, entry_checks, room_checks, enter_checks, book_refusal};
 ghost use Rattle.tournament_rules.specs.Effects.{entered};
 
 use crate::BookFault;
@@ -79,6 +80,29 @@ impl Book {
         self.seats.at(place).is_some()
     }
 
+    /// Tells whether a table may be entered and has fewer players than so many.
+    fn has_fewer(&self, table: u8, players: u8) -> bool
+        requires { IsTableOf self.now.seating.table_count table }
+        ensures { result ≡ (may_be_entered self.now table && nat_lt (count_at self.now.seating.players table) players) }
+    {
+        let count = self.seats.count(table);
+        (self.begun == 0 || count > 0) && count < players
+    }
+
+    /// Tells whether another table that may be entered has fewer players than this one.
+    fn is_not_fewest(&self, table: u8) -> bool
+        requires { IsTableOf self.now.seating.table_count table }
+        ensures { result ≡ is_not_fewest self.now table }
+    {
+        let players = self.seats.count(table);
+        for below in 0..self.seats.table_count() {
+            if self.has_fewer(below + 1, players) {
+                return true;
+            }
+        }
+        false
+    }
+
     /// Checks that a player may sit down at that table, in that seat, and gives the place.
     fn check_seat(&self, table: u64, seat: u64) -> Result<Place, Refusal>
         ensures checked { IsChecked (seat_checks self.now table seat) result }
@@ -98,6 +122,9 @@ impl Book {
         };
         if self.is_taken(place) {
             return Err(Refusal::SeatTaken);
+        }
+        if self.is_not_fewest(number) {
+            return Err(Refusal::NotFewest);
         }
         Ok(place)
     }

@@ -6,10 +6,14 @@
 #![tactic(auto)]
 
 mod act;
+mod balance;
 mod begin;
 mod book;
+mod breaking;
 mod bust;
 mod enter;
+mod leaving;
+mod moving;
 mod order;
 mod pay;
 mod plan;

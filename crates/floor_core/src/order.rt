@@ -24,14 +24,20 @@ impl Book {
     {
         match event {
             Event::Enter { name, table, seat } => self.enter(*name, *table, *seat),
+            Event::Balance { from, to } => self.balance(*from, *to),
+            Event::Break {
+                table,
+                seats,
+                names,
+            } => self.break_table(*table, seats.items(), names.items()),
             Event::Stop => self.stop(),
             _ => Ok(()),
         }
     }
 
-    /// Takes an order, which is `enter` or `stop`, answers it by the first check that holds, and carries it out where
-    /// none does. A refused order and want of memory change nothing, and memory is wanted only for an order that
-    /// meets no check.
+    /// Takes an order, which is `enter`, `balance`, `break` or `stop`, answers it by the first check that holds, and
+    /// carries it out where none does. A refused order and want of memory change nothing, and memory is wanted only
+    /// for an order that meets no check.
     pub fn order(&mut self, event: &Event) -> Result<Answer, AllocError>
         requires few { self.old.accepted < 2 ^ 60 }
         requires order { is_order event.now ≡ true }

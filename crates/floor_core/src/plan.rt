@@ -4,22 +4,11 @@ ghost use Rattle.std.specs.Prelude.{◌≡◌, if◌then◌else◌, IfOk, OnOk, 
 ghost use Rattle.floor_events.specs.declared.answer.Answer.TheVariants as answers;
 ghost use Rattle.floor_events.specs.declared.event.Event.TheVariants as events;
 ghost use Rattle.level_plan.specs.Drafts.{draft_after};
-ghost use Rattle.tournament_rules.specs.States.{is_not_built, is_accepted, planning_answer};
+ghost use Rattle.tournament_rules.specs.States.{is_accepted, planning_answer};
 
 use floor_events::Answer;
-use floor_text::Refusal;
 use level_plan::{Plan, PlanDraft, PlanFault, PlanLine};
 use std::alloc::AllocError;
-
-/// Tells whether a plan line gives what is not carried out yet: more tables than one.
-fn is_not_built(line: &PlanLine) -> bool
-    ensures { result ≡ is_not_built line.now }
-{
-    match line {
-        PlanLine::Tables(tables) => 2 <= *tables && *tables <= 64,
-        _ => false,
-    }
-}
 
 /// Takes a line of the plan. A refusal and want of memory leave the draft as it was.
 pub(crate) fn take_line(draft: &mut PlanDraft, line: &PlanLine) -> Result<Answer, AllocError>
@@ -29,9 +18,6 @@ pub(crate) fn take_line(draft: &mut PlanDraft, line: &PlanLine) -> Result<Answer
     ensures err { OnErr result (draft.new ≡ draft.old) }
     ensures lawful { OnErr result (planning_answer draft.old (events.Plan line.now) ≡ answers.Ok) }
 {
-    if is_not_built(line) && !draft.is_wrong(line) {
-        return Ok(Answer::No(Refusal::NotBuilt));
-    }
     match draft.line(line) {
         Ok(()) => Ok(Answer::Ok),
         Err(PlanFault::Wrong(item)) => Ok(Answer::PlanWrong(item)),

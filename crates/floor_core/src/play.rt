@@ -11,6 +11,7 @@ ghost use Rattle.tournament_rules.specs.States.{first_play, refusal_of, play_eff
 ghost use Rattle.tournament_rules.specs.Checks.{end_checks};
 ghost use Rattle.tournament_rules.specs.Valid.{IsValid};
 ghost use Rattle.tournament_rules.specs.Apart.{hand_in};
+ghost use Rattle.floor_core.specs.Orders.{leaves_hands};
 
 use crate::BookFault;
 use crate::book::Book;
@@ -121,15 +122,15 @@ impl Play {
         Ok(())
     }
 
-    /// A player enters.
-    #[tactic(auto, using(tournament_rules::proofs::Layers::layers), unfolding(tournament_rules::specs::States::refusal_of))]
-    fn enter(&mut self, name: Name, table: u64, seat: u64) -> Result<(), BookFault>
-        requires { self.old.book.accepted < 2 ^ 60 }
-        ensures answer { IsAnswer (refusal_of self.old (events.Enter name table seat)) result }
-        ensures state { OnOk result (self.new ≡ play_effect self.old (events.Enter name table seat)) }
+    /// Takes an order that leaves the hands as they are.
+    fn order(&mut self, event: &Event) -> Result<(), BookFault>
+        requires few { self.old.book.accepted < 2 ^ 60 }
+        requires order { leaves_hands event.now ≡ true }
+        ensures answer { IsAnswer (refusal_of self.old event.now) result }
+        ensures state { OnOk result (self.new ≡ play_effect self.old event.now) }
         ensures err { OnErr result (self.new ≡ self.old) }
     {
-        self.book.carry_out(&Event::Enter { name, table, seat })
+        self.book.carry_out(event)
     }
 
     /// Carries an event out, where it is not refused. An error leaves all as it was.
@@ -144,7 +145,7 @@ impl Play {
         let _ = self.book.seats();
         match event {
             Event::Plan(_) | Event::Go => Err(BookFault::No(Refusal::PlanLate)),
-            Event::Enter { name, table, seat } => self.enter(*name, *table, *seat),
+            Event::Enter { .. } | Event::Balance { .. } | Event::Break { .. } => self.order(event),
             Event::Begin { table, row } => self.begin(*table, row),
             Event::Act { table, name, act } => self.act(*table, *name, *act),
             Event::Time { table } => self.time(*table),

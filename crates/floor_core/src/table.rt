@@ -1,11 +1,12 @@
 //! Numbers of tables and seats: a number of a line becomes a table's number once, where its check is made.
 
-ghost use Rattle.std.specs.Prelude.{◌≡◌, ◌<◌, length, is_some, Some, IfSome, IfOk, IsSome};
+ghost use Rattle.std.specs.Prelude.{◌≡◌, ◌<◌, ◌≤◌, length, is_some, Some, IfSome, IfOk, IsSome};
 ghost use Rattle.table_engine.specs.declared.start.HandStart.{HandStart};
 ghost use Rattle.rulebook.specs.Checks.{IsChecked};
 ghost use Rattle.seat_book.specs.Places.{IsTableOf};
+ghost use Rattle.seat_book.specs.Counts.{count_at};
 ghost use Rattle.tournament_rules.specs.Books.{has_table, start_at};
-ghost use Rattle.tournament_rules.specs.Checks.{going_checks, playing_checks};
+ghost use Rattle.tournament_rules.specs.Checks.{is_table_open, going_checks, playing_checks};
 
 use crate::book::Book;
 use floor_text::Refusal;
@@ -32,6 +33,20 @@ impl Book {
         } else {
             None
         }
+    }
+
+    /// Makes a table's number of a number of a line, where such a table is open.
+    pub(crate) fn open_table(&self, table: u64) -> Option<u8>
+        ensures there { is_some result ≡ is_table_open self.now table }
+        ensures same { IfSome result (λ number. number ≡ table) }
+        ensures within { IfSome result (IsTableOf self.now.seating.table_count) }
+        ensures opened { IfSome result (λ number. 1 ≤ count_at self.now.seating.players number) }
+    {
+        let number = self.table_number(table)?;
+        if self.seats.count(number) == 0 {
+            return None;
+        }
+        Some(number)
     }
 
     /// Checks that there is such a table and that a hand is played there, and gives the table's number.

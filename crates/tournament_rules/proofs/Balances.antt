@@ -74,14 +74,15 @@ balance_passed book from to none =
     wide here there is = grind (arith, nat_tests)
 
 -- Who moves by a balance, and where he sits then.
-record Mover (seating : Seating) (from to : ℕ) (order : Move) : Type 0 where
-  seated : Seated
-  seat : ℕ
-  sits : player_at seating.players (record { table = from; seat = next_big_seat seating from }) ≡ Some seated
-  worst : worst_empty_seat seating to ≡ Some seat
-  is : record { player = seated.player; from = seated.place; to = record { table = to; seat = seat } } ≡ order
+pub record Mover (seating : Seating) (from to : ℕ) (order : Move) : Type 0 where
+  pub seated : Seated
+  pub seat : ℕ
+  pub sits : player_at seating.players (record { table = from; seat = next_big_seat seating from }) ≡ Some seated
+  pub worst : worst_empty_seat seating to ≡ Some seat
+  pub is : record { player = seated.player; from = seated.place; to = record { table = to; seat = seat } } ≡ order
 
-mover : (seating : Seating) (from to : ℕ) (order : Move) → balance_move seating from to ≡ Some order
+-- Where a balance has a move, there is a player who moves.
+pub mover : (seating : Seating) (from to : ℕ) (order : Move) → balance_move seating from to ≡ Some order
     → Mover seating from to order
 mover seating from to order is = by_parts (next_big_player seating from) refl (worst_empty_seat seating to) refl is
   where

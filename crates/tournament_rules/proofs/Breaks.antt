@@ -207,7 +207,7 @@ find-filter keep test (item ∷ items) found is = by_test (keep item) is (find-f
     by_test false is later = later is
 
 -- A place stays free while somebody takes another.
-still_free : (players after : List Seated) (place : Place) (places : List Place)
+pub still_free : (players after : List Seated) (place : Place) (places : List Place)
     → ((other : Place) → is_same_place place other ≡ false → player_at players other ≡ None → player_at after other
     ≡ None)
     → list_all (λ other. is_empty_seat players other.table other.seat) places ≡ true

@@ -1,0 +1,122 @@
+//! Two tables are balanced.
+
+ghost use Rattle.std.specs.Prelude.{◌≡◌, ◌<◌, ◌≤◌, ◌^◌, ◌&&◌, ◌++◌, ◌∷◌, [], not, Some, None, option_map, IfOk, OnOk, OnErr};
+ghost use Rattle.rulebook.specs.Checks.{IsChecked};
+ghost use Rattle.seat_book.specs.Places.{IsTableOf, IsPlaceOf};
+ghost use Rattle.seat_book.specs.Players.{player_at, player_of};
+ghost use Rattle.seat_book.specs.Counts.{count_at};
+ghost use Rattle.balance_rule.specs.Balance.{balance_move};
+ghost use Rattle.table_engine.specs.Acts.{IsAnswer};
+ghost use Rattle.floor_text.specs.declared.refusal.Refusal.TheVariants as refusals;
+ghost use Rattle.floor_events.specs.declared.event.Event.TheVariants as events;
+ghost use Rattle.tournament_rules.specs.Checks.{is_table_open, going_checks, leaving_checks, all_balance_checks, book_refusal};
+ghost use Rattle.tournament_rules.specs.Effects.{balanced};
+
+use crate::BookFault;
+use crate::book::Book;
+use crate::moving::reseat;
+use balance_rule::{Move, balance_order};
+use entry_list::MOST_ENTRIES;
+use floor_text::Refusal;
+use seat_book::{SeatBook, Seated};
+
+/// The two tables of a balance, which are open.
+#[derive(Clone, Copy)]
+struct OpenTables {
+    /// The number of the table that a player leaves.
+    from: u8,
+    /// The number of the table where he sits down.
+    to: u8,
+}
+
+/// Gives the player of a move, who sits where it begins.
+fn mover(seats: &SeatBook, order: Move) -> Seated
+    requires within { IsPlaceOf seats.now.table_count seats.now.seat_count order.from }
+    requires sits { option_map (λ seated. seated.player) (player_at seats.now.players order.from) ≡ Some order.player }
+    ensures player { player_at seats.now.players order.from ≡ Some result }
+    ensures entry { result.player < MOST_ENTRIES }
+    ensures number { result.player ≡ order.player }
+    ensures place { result.place ≡ order.from }
+{
+    let (player, name, stack) = seats.at(order.from).unwrap();
+    Seated {
+        place: order.from,
+        player,
+        name,
+        stack,
+    }
+}
+
+impl Book {
+    /// Checks that both tables are open, and gives their numbers.
+    fn check_open(&self, from: u64, to: u64) -> Result<OpenTables, Refusal>
+        ensures checked { IsChecked
+            ((refusals.NoTable, not (is_table_open self.now from && is_table_open self.now to)) ∷ []) result }
+        ensures from { IfOk result (λ tables. tables.from ≡ from) }
+        ensures to { IfOk result (λ tables. tables.to ≡ to) }
+        ensures from_within { IfOk result (λ tables. IsTableOf self.now.seating.table_count tables.from) }
+        ensures to_within { IfOk result (λ tables. IsTableOf self.now.seating.table_count tables.to) }
+        ensures from_open { IfOk result (λ tables. 1 ≤ count_at self.now.seating.players tables.from) }
+        ensures to_open { IfOk result (λ tables. 1 ≤ count_at self.now.seating.players tables.to) }
+    {
+        let Some(from) = self.open_table(from) else {
+            return Err(Refusal::NoTable);
+        };
+        let Some(to) = self.open_table(to) else {
+            return Err(Refusal::NoTable);
+        };
+        Ok(OpenTables { from, to })
+    }
+
+    /// Makes the checks of a balance before those of the counts, and gives the tables' numbers.
+    fn check_to_balance(&self, from: u64, to: u64) -> Result<OpenTables, Refusal>
+        ensures checked { IsChecked (going_checks self.now
+            ++ (refusals.NoTable, not (is_table_open self.now from && is_table_open self.now to))
+            ∷ leaving_checks self.now from) result }
+        ensures from { IfOk result (λ tables. tables.from ≡ from) }
+        ensures to { IfOk result (λ tables. tables.to ≡ to) }
+        ensures from_within { IfOk result (λ tables. IsTableOf self.now.seating.table_count tables.from) }
+        ensures to_within { IfOk result (λ tables. IsTableOf self.now.seating.table_count tables.to) }
+        ensures from_open { IfOk result (λ tables. 1 ≤ count_at self.now.seating.players tables.from) }
+        ensures to_open { IfOk result (λ tables. 1 ≤ count_at self.now.seating.players tables.to) }
+    {
+        self.check_going()?;
+        let tables = self.check_open(from, to)?;
+        self.check_leaving(tables.from)?;
+        Ok(tables)
+    }
+
+    /// Makes the checks of a balance, and gives the move of the player who leaves the one table for the other.
+    fn check_balance(&self, from: u64, to: u64) -> Result<Move, Refusal>
+        ensures checked { IsChecked (all_balance_checks self.now from to) result }
+        ensures order { IfOk result (λ order. balance_move self.now.seating from to ≡ Some order) }
+        ensures sits { IfOk result (λ order. option_map (λ seated. seated.player)
+            (player_at self.now.seating.players order.from) ≡ Some order.player) }
+        ensures here { IfOk result
+            (λ order. IsPlaceOf self.now.seating.table_count self.now.seating.seat_count order.from) }
+        ensures within { IfOk result
+            (λ order. IsPlaceOf self.now.seating.table_count self.now.seating.seat_count order.to) }
+        ensures free { IfOk result (λ order. player_at self.now.seating.players order.to ≡ None) }
+    {
+        let tables = self.check_to_balance(from, to)?;
+        let order = balance_order(&self.seats, tables.from, tables.to)?;
+        self.check_round()?;
+        Ok(order)
+    }
+
+    /// Two tables are balanced: the player who would be the next big blind at the one sits down at the other, with his
+    /// stack. An error leaves the book as it was. It takes no memory.
+    #[tactic(auto, using(tournament_rules::proofs::Balances::valid_balanced), unfolding(tournament_rules::specs::Checks::book_refusal))]
+    pub(crate) fn balance(&mut self, from: u64, to: u64) -> Result<(), BookFault>
+        requires { self.old.accepted < 2 ^ 60 }
+        ensures answer { IsAnswer (book_refusal self.old (events.Balance from to)) result }
+        ensures state { OnOk result (self.new ≡ balanced self.old from to) }
+        ensures err { OnErr result (self.new ≡ self.old) }
+    {
+        let order = self.check_balance(from, to)?;
+        let player = mover(&self.seats, order);
+        reseat(&mut self.seats, player, order.to);
+        self.accepted += 1;
+        Ok(())
+    }
+}
