@@ -20,7 +20,7 @@ def is_closed_table(tournament, event):
     if event.word in ("act", "time", "settle"):
         return not tournament.is_table(event.args[0])
     if event.word == "enter":
-        return not tournament.may_be_entered(event.args[1])
+        return event.args[1] not in tournament.counts_to_enter()
     named = event.args[:2] if event.word == "balance" else event.args[:1]
     return not all(tournament.is_open(table) for table in named)
 
@@ -28,8 +28,8 @@ def is_closed_table(tournament, event):
 def is_not_fewest(tournament, event):
     """11: another table that could be entered has a lower count."""
     _, table, _ = event.args
-    return any(tournament.may_be_entered(other) and tournament.count(other) < tournament.count(table)
-               for other in tournament.tables)
+    counts = tournament.counts_to_enter()
+    return min(counts.values()) < counts[table]
 
 
 def is_race_due(tournament, event):

@@ -123,9 +123,9 @@ class Maker:
         """Mostly somebody new, at a table with few players, in an empty seat."""
         book, rng = self.book, self.rng
         table = self.a_table()
-        allowed = [each for each in book.tables if book.may_be_entered(each)]
-        if allowed and not self.odds(10):
-            table = min(allowed, key=lambda each: (book.count(each), rng.random()))
+        counts = book.counts_to_enter()
+        if counts and not self.odds(10):
+            table = min(counts, key=lambda each: (counts[each], rng.random()))
         seat = rng.randint(1, book.plan.get("seats", 6))
         if book.level and not self.odds(8):
             seat = rng.choice([each for each in range(1, book.plan["seats"] + 1) if (table, each) not in book.seats]

@@ -1,4 +1,5 @@
 """The tournament: its state, what each event makes of it, and the report."""
+from collections import Counter
 from dataclasses import dataclass, field
 
 from rules.built import BUILT
@@ -37,11 +38,16 @@ class Tournament:
     # -- what is read off the lists --
 
     def players_at(self, table):
-        """The players of a table by seat."""
-        return {seat: player for (at, seat), player in sorted(self.seats.items()) if at == table}
+        """The players of a table by seat, in rising seat."""
+        return dict(sorted((seat, player) for (at, seat), player in self.seats.items() if at == table))
+
+    def counts(self):
+        """How many players sit at each table of the plan."""
+        counts = Counter(at for at, _ in self.seats)
+        return {table: counts[table] for table in self.tables}
 
     def count(self, table):
-        return len(self.players_at(table))
+        return sum(at == table for at, _ in self.seats)
 
     def is_table(self, table):
         return 1 <= table <= self.plan["tables"]
@@ -49,11 +55,11 @@ class Tournament:
     def is_open(self, table):
         return self.count(table) > 0
 
-    def open_tables(self):
-        return sorted({table for table, _ in self.seats})
-
     def open_counts(self):
-        return {table: self.count(table) for table in self.open_tables()}
+        return {table: count for table, count in self.counts().items() if count > 0}
+
+    def open_tables(self):
+        return list(self.open_counts())
 
     def is_playing(self, table):
         return self.is_table(table) and self.tables[table].hand is not None
@@ -76,9 +82,10 @@ class Tournament:
         """Somebody is out and exactly one player is in."""
         return bool(self.busts) and len(self.seats) == 1
 
-    def may_be_entered(self, table):
-        """Any table of the plan before the first hand of the tournament, and an open one afterwards."""
-        return self.is_table(table) and (self.hands_begun == 0 or self.is_open(table))
+    def counts_to_enter(self):
+        """The counts of the tables that may be entered: before the first hand of the tournament any table of the plan,
+        and an open one afterwards."""
+        return self.counts() if self.hands_begun == 0 else self.open_counts()
 
     def next_big_at(self, table):
         return next_big(self.tables[table].marks, self.plan["seats"], list(self.players_at(table)))
