@@ -1,13 +1,11 @@
 """What of the whole product the program has today.
 
-What is not there yet is answered as `docs/FORMATS.md` says: its line is in no grammar, or it is refused with 99 as the
-last check. A part that the program gets is one word in BUILT.
+What is not there yet is answered as `docs/FORMATS.md` says: its line is in no grammar. A part that the program gets is
+one word in BUILT.
 """
 
 # Each part of the product that is still to come, and what is answered while it is not there.
 PARTS = {
-    "tables": "`tables N` with N from 2 to 64: 99",
-    "moves": "`balance` and `break`: no lines of the grammar",
     "levels": "`level` and `race`: no lines of the grammar",
     "rounds": "`hands` and `round`: no lines of the grammar",
     "notes": "lines that begin with `*`: no lines of the grammar",

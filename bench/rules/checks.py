@@ -1,5 +1,4 @@
 """The checks of the events: what each number says, and their order for each event."""
-from rules.built import BUILT
 from rules.plan import PLAN_ITEMS, wrong_item
 
 MOST_ENTRIES = 640
@@ -11,7 +10,7 @@ NAMES = {
     22: "HandOver", 23: "NotOver", 24: "CheckFacing", 25: "NothingToCall", 26: "BetFacing", 27: "NothingToRaise",
     28: "TooSmall", 29: "PastStack", 30: "PastPot", 31: "NotReopened", 32: "NotUnit", 33: "NotFullest",
     34: "NotShortest", 35: "EvenEnough", 36: "NotNextToBreak", 37: "NoRoom", 38: "DrawWrong", 39: "LastLevel",
-    40: "RoundOpen", 41: "SwitchWrong", 42: "NoRace", 43: "Over", 44: "ListFull", 99: "NotBuilt",
+    40: "RoundOpen", 41: "SwitchWrong", 42: "NoRace", 43: "Over", 44: "ListFull",
 }
 
 
@@ -96,11 +95,6 @@ def is_refused_with(number):
     return condition
 
 
-def is_not_built(tournament, event):
-    """99: what is answered so as long as its part is not there."""
-    return "tables" not in BUILT and event.args[0] > 1
-
-
 def first_table(tournament, event):
     return tournament.tables[event.args[0]]
 
@@ -140,7 +134,6 @@ CONDITIONS = {
     42: lambda t, e: first_table(t, e).pending is None,
     43: lambda t, e: t.is_over(),
     44: lambda t, e: len(t.entries) == MOST_ENTRIES,
-    99: is_not_built,
 }
 
 BETTING = [24, 25, 26, 27, 28, 29, 30, 31, 32]
@@ -148,7 +141,6 @@ CONDITIONS |= {number: is_refused_with(number) for number in BETTING}
 
 # The checks of each event, in the order in which they are made.
 CHECKS = {word: [3, 4] for word in PLAN_ITEMS + ("go",)} | {
-    "tables": [3, 4, 99],
     "enter": [2, 5, 6, 8, 9, 10, 11, 12, 43, 44],
     "begin": [2, 5, 8, 13, 15, 16, 17, 18, 19],
     "act": [2, 5, 7, 8, 14, 20, 21, 22, *BETTING],

@@ -104,7 +104,7 @@ GRAMMAR = {
     "late": (None, [number]), "blinds": (None, [number, number, number]), "go": (None, []),
     "enter": (None, [name, number, number]), "begin": (None, [number, row]), "settle": (None, [number]),
     "stop": (None, []), "time": (None, [number]),
-    "balance": ("moves", [number, number]), "break": ("moves", [number, list_of(place), list_of(name)]),
+    "balance": (None, [number, number]), "break": (None, [number, list_of(place), list_of(name)]),
     "level": ("levels", []), "race": ("levels", [number, row]),
     "hands": ("rounds", [one_of("on", "off")]), "round": ("rounds", []),
 }

@@ -44,7 +44,7 @@ class Maker:
         blinds = self.levels(unit)
         stack = blinds[-1][2] * rng.choice([1, 2, 3, 5, 8, 20, 20, 50, 50, 100])
         game = rng.choice(["holdem", "omaha", "hilo"])
-        tables = rng.choice([1, 1, 2, 2, 3, 4, 6]) if "tables" in BUILT else 1
+        tables = rng.choice([1, 1, 2, 2, 3, 4, 6])
         shares = sorted((rng.randint(1, 300) for _ in range(rng.randint(1, 5))), reverse=True)
         while sum(shares) > 1000:
             shares.pop()
@@ -226,7 +226,7 @@ class Maker:
         ended = [table for table in playing if self.hand_at(table).is_over()]
         few = len(book.seats) < min(len(book.tables) * book.plan.get("seats", 6), 2 + rng.randrange(12))
         later = {part: 1 if part in BUILT else 0.2 for part in PARTS}
-        several = later["moves"] * (1 if len(book.tables) > 1 else 0.1)
+        several = 1 if len(book.tables) > 1 else 0.1
         word = self.pick(
             (30 if few else 3, self.enter), (14 if len(playing) < len(book.tables) and not few else 2, self.begin),
             (60 if len(playing) > len(ended) else 3, self.act), (40 if ended else 1.5, self.settle),
@@ -273,7 +273,7 @@ class Maker:
             self.put(f"enter p{len(self.book.entries)} 1 {seat}")
 
     def make(self):
-        if self.odds(0.3) and "tables" in BUILT:
+        if self.odds(0.3):
             self.crowd()
             return "\n".join(self.lines).encode()
         if self.odds(0.1):
