@@ -2,8 +2,8 @@
 """Compares the program with the model over lists of events that are made from a seed, lawful and unlawful.
 
 Each answer, each line of the report, the status and err are compared. A list that tells the two apart is made as short
-as it can be, and is printed with both texts. At the end it says how many lists, lines and hands there were, and how
-often each answer came. The status is 1 where a list told them apart.
+as it can be, and is printed with both texts. At the end it says how many lists, lines and hands there were, how often
+each answer came, and how many balances and breaks were accepted. The status is 1 where a list told them apart.
 
 Usage: bench/made_lists.py [--lists N] [--seed N] [--unproved] [--program PATH] [--built PART,PART..]
 
@@ -24,6 +24,7 @@ from rules.step import replayed
 from rules.tournament import Tournament
 
 TOP = os.path.dirname(os.path.dirname(os.path.abspath(__file__)))
+MOVES = ("enter", "balance", "break", "level", "race", "hands", "round")
 PROGRAM = os.path.join(TOP, "crates", "floor_replay", "out", "floor_replay")
 
 
@@ -71,24 +72,28 @@ def shortest(program, text):
     return b"".join(line + b"\n" for line in lines)
 
 
-def count_void(text, given):
-    """How many hands began and were not settled."""
-    words = Counter(line.split()[0] for line, answer in zip(lines_of(text), given) if answer == "ok")
-    return words[b"begin"] - words[b"settle"]
+def accepted_words(text, given):
+    """How often each first word of a line was accepted."""
+    return Counter(line.split()[0].decode() for line, answer in zip(lines_of(text), given) if answer == "ok")
 
 
 def count(texts):
     """Says how many lines, hands, showdowns and players who go out there are, and how often each answer comes."""
-    answers, games, counts = Counter(), Counter(), Counter()
+    answers, games, counts, words, tables = Counter(), Counter(), Counter(), Counter(), Counter()
     for text in texts:
         book = Tournament()
         given, _ = replayed(text, book)
         games[book.plan.get("game", "no game")] += book.showdowns
-        counts.update(hands=book.hands_begun, out=len(book.busts), over=book.is_over(), void=count_void(text, given))
+        counts.update(hands=book.hands_begun, out=len(book.busts), over=book.is_over())
+        tables[len(book.tables)] += 1
+        words.update(accepted_words(text, given))
         answers.update(" ".join(answer.split()[:3]) for answer in given)
-    print(f"{len(texts)} lists, {answers.total()} lines, {counts['hands']} hands begun, {counts['void']} of them void "
-          f"or open at the end, {counts['out']} players out, {counts['over']} tournaments over")
+    print(f"{len(texts)} lists, {answers.total()} lines, {counts['hands']} hands begun, "
+          f"{words['begin'] - words['settle']} of them void or open at the end, {counts['out']} players out, "
+          f"{counts['over']} tournaments over")
     print("showdowns:", ", ".join(f"{game} {games[game]}" for game in ("holdem", "omaha", "hilo")))
+    print("tables:", ", ".join(f"{number} in {tables[number]} lists" for number in sorted(tables)))
+    print("accepted:", ", ".join(f"{word} {words[word]}" for word in MOVES if words[word]))
     for answer in sorted(answers, key=lambda answer: int(answer.split()[1]) if answer != "ok" else 0):
         print(f"{answers[answer]:9} {answer}")
 

@@ -3,6 +3,7 @@ import random
 
 from rules.built import BUILT, PARTS
 from rules.cards import SORTED_DECK, text_of
+from rules.crowds import crowd, crowd_at_one_table, hall
 from rules.lines import event_of_line
 from rules.step import apply
 from rules.tournament import Tournament
@@ -133,7 +134,7 @@ class Maker:
         if self.odds(3):
             seat = rng.choice([0, 11, 9007199254740991])
         self.entered += 1
-        new = PLAYERS[len(book.entries)] if len(book.entries) < len(PLAYERS) else f"p{self.entered}"
+        new = next((player for player in PLAYERS if player not in book.entries), f"p{self.entered}")
         return f"enter {new if not self.odds(7) else self.a_player()} {table} {seat}"
 
     def begin(self):
@@ -184,8 +185,8 @@ class Maker:
         pot = hand.pot_bound(seat)
         other = self.rng.choice(sorted(hand.live))
         short_of_all = max(least, hand.put[other] + hand.behind(other) - self.rng.randint(1, 4) * unit)
-        near = self.rng.choice([least, least, least, short_of_all, short_of_all, most, hand.level, pot or least, pot or most,
-                                hand.full_raise, self.rng.randrange(most + 1) // unit * unit])
+        near = self.rng.choice([least, least, least, short_of_all, short_of_all, most, hand.level, pot or least,
+                                pot or most, hand.full_raise, self.rng.randrange(most + 1) // unit * unit])
         beside = self.pick((60, 0), (10, unit), (10, -unit), (6, 1), (4, -1), (6, unit // 2), (4, 2 * unit))
         return max(0, near + beside)
 
@@ -193,27 +194,57 @@ class Maker:
         over = [table for table in sorted(self.book.playing_tables()) if self.hand_at(table).is_over()]
         return f"settle {self.rng.choice(over) if over and not self.odds(4) else self.a_table()}"
 
+    def is_uneven(self):
+        """Whether two open tables differ by two players or more."""
+        counts = self.book.open_counts().values()
+        return bool(counts) and max(counts) - min(counts) > 1
+
     def balance(self):
-        counts = self.book.open_counts()
-        if not counts or self.odds(20):
+        """Mostly from a fullest table that plays no hand to one with the fewest players."""
+        counts, rng = self.book.open_counts(), self.rng
+        if not counts or self.odds(12):
             return f"balance {self.a_table()} {self.a_table()}"
-        return f"balance {max(counts, key=counts.get)} {min(counts, key=counts.get)}"
+        fullest = [table for table in counts if counts[table] == max(counts.values())]
+        resting = [table for table in fullest if not self.book.is_playing(table)]
+        fewest = [table for table in counts if counts[table] == min(counts.values())]
+        others = list(counts)
+        source = rng.choice(self.pick((80, resting or fullest), (12, others), (8, fullest)))
+        return f"balance {source} {rng.choice(self.pick((85, fewest), (15, others)))}"
 
     def break_table(self):
-        """Mostly the fill list and the players in another order, now and then with something changed."""
+        """Mostly the table with the highest number, by its seats to fill and its players, each in any order."""
         book, rng = self.book, self.rng
-        table = max(book.open_tables(), default=1) if not self.odds(12) else self.a_table()
-        places = list(book.fill_list(table) or []) if book.is_open(table) and len(book.open_tables()) > 1 else []
+        table = max(book.open_tables(), default=1) if not self.odds(8) else self.a_table()
+        has_list = book.is_open(table) and len(book.open_tables()) > 1
+        places = book.fill_list(table) if has_list else None
         names = list(book.players_at(table).values())
+        if not places or not names:
+            places, names = [(rng.randint(1, 4), rng.randint(1, 10))], names or [self.a_player()]
         rng.shuffle(places)
         rng.shuffle(names)
-        if not places or self.odds(10):
-            places.append((self.rng.randint(1, 4), self.rng.randint(1, 10)))
-        if not names or self.odds(10):
-            names.append(self.a_player())
-        if self.odds(8):
-            names[0] = self.a_player()
+        if self.odds(25):
+            places, names = self.wrong_draw(list(places), list(names))
         return f"break {table} {','.join(f'{to}.{seat}' for to, seat in places)} {','.join(names)}"
+
+    def wrong_draw(self, places, names):
+        """One of the two lists with a member too few, too many, twice, or of elsewhere."""
+        book, rng = self.book, self.rng
+        anywhere = (rng.randint(1, len(book.tables) or 1), rng.randint(1, book.plan.get("seats", 6)))
+        members, stranger = (places, anywhere) if self.odds(50) else (names, self.a_player())
+        if self.odds(20) and members is names:
+            stranger = "nobody"
+        change = rng.choice(["fewer", "more", "twice", "again", "other"])
+        if change == "fewer" and len(members) > 1:
+            members.pop()
+        elif change == "more":
+            members.append(stranger)
+        elif change == "twice":
+            members.append(members[0])
+        elif change == "again":
+            members[0] = members[-1]
+        else:
+            members[0] = stranger
+        return places, names
 
     def race(self):
         racing = [table for table in self.book.tables if self.book.tables[table].pending]
@@ -231,53 +262,18 @@ class Maker:
             (30 if few else 3, self.enter), (14 if len(playing) < len(book.tables) and not few else 2, self.begin),
             (60 if len(playing) > len(ended) else 3, self.act), (40 if ended else 1.5, self.settle),
             (4 if playing else 0.5, lambda: f"time {rng.choice(playing or [self.a_table()])}"),
-            (6 * several, self.balance), (4 * several, self.break_table), (later["levels"], lambda: "level"),
+            ((12 if self.is_uneven() else 2) * several, self.balance), (4 * several, self.break_table),
+            (later["levels"], lambda: "level"),
             (later["levels"] * (8 if book.has_race() else 0.7), self.race), (0.7 * later["rounds"], lambda: "hands on"),
             (later["rounds"], lambda: "hands off"),
             (later["rounds"] * (6 if book.hand_for_hand else 0.7), lambda: "round"),
             (0.2, lambda: "stop"), (0.5, self.wrong_plan_line))
         return word()
 
-    def crowd(self):
-        """640 players enter, one goes out, and another wants his seat."""
-        self.short_plan(64)
-        for number in range(640):
-            self.put(f"enter p{number} {number % 64 + 1} {number // 64 + 1}")
-        self.put("enter q 1 1")
-        self.put(f"begin 1 {self.a_deck()}")
-        for line in 8 * ["time 1"] + ["settle 1", "enter q 1 2", "enter q 1 3", "stop"]:
-            self.put(line)
-
-    def short_plan(self, tables):
-        """A plan of tables of ten whose stacks are the small blind."""
-        for line in ["game holdem", f"tables {tables}", "seats 10", "stack 100", "buyin 1", "late 1",
-                     "blinds 100 200 100", "shares 1000", "go"]:
-            self.put(line)
-
-    def crowd_at_one_table(self):
-        """The first to act folds and others mostly call, and newcomers take the seats of those who are out."""
-        self.short_plan(1)
-        while len(self.book.entries) < 640:
-            free = [seat for seat in range(1, 11) if (1, seat) not in self.book.seats]
-            for seat in free:
-                self.put(f"enter p{len(self.book.entries)} 1 {seat}")
-            self.put(f"begin 1 {self.a_deck()}")
-            hand, is_first = self.hand_at(1), True
-            while (due := hand.due()) is not None:
-                faces = hand.put[due] < hand.level
-                folds = is_first or (faces and self.odds(25))
-                self.put(f"act 1 {hand.names[due]} {'fold' if folds else 'call' if faces else 'check'}")
-                is_first = False
-            self.put("settle 1")
-        for seat in range(1, 11):
-            self.put(f"enter p{len(self.book.entries)} 1 {seat}")
-
     def make(self):
-        if self.odds(0.3):
-            self.crowd()
-            return "\n".join(self.lines).encode()
-        if self.odds(0.1):
-            self.crowd_at_one_table()
+        special = self.pick((0.5, crowd), (0.1, crowd_at_one_table), (6, hall), (93.4, None))
+        if special:
+            special(self)
             return "\n".join(self.lines).encode()
         if self.odds(3):
             for _ in range(self.rng.randint(1, 12)):

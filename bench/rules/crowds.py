@@ -1,0 +1,111 @@
+"""Made lists with more players than a list of single events comes to: full tables, and halls of many tables."""
+
+MOST_LINES = 1200
+
+
+def crowd(maker):
+    """640 players enter at 64 tables, some go out, and others want their seats."""
+    short_plan(maker, 64)
+    for number in range(640):
+        maker.put(f"enter p{number} {number % 64 + 1} {number // 64 + 1}")
+    maker.put("enter q 1 1")
+    for table in range(1, 11):
+        maker.put(f"begin {table} {maker.a_deck()}")
+        for line in 8 * [f"time {table}"] + [f"settle {table}", f"enter q {table} 2", f"enter q {table} 3"]:
+            maker.put(line)
+    maker.put("stop")
+
+
+def short_plan(maker, tables):
+    """A plan of tables of ten whose stacks are the small blind."""
+    for line in ["game holdem", f"tables {tables}", "seats 10", "stack 100", "buyin 1", "late 1", "blinds 100 200 100",
+                 "shares 1000", "go"]:
+        maker.put(line)
+
+
+def crowd_at_one_table(maker):
+    """The first to act folds and others mostly call, and newcomers take the seats of those who are out."""
+    short_plan(maker, 1)
+    book = maker.book
+    while len(book.entries) < 640:
+        free = [seat for seat in range(1, 11) if (1, seat) not in book.seats]
+        for seat in free:
+            maker.put(f"enter p{len(book.entries)} 1 {seat}")
+        maker.put(f"begin 1 {maker.a_deck()}")
+        hand, is_first = maker.hand_at(1), True
+        while (due := hand.due()) is not None:
+            faces = hand.put[due] < hand.level
+            folds = is_first or (faces and maker.odds(25))
+            maker.put(f"act 1 {hand.names[due]} {'fold' if folds else 'call' if faces else 'check'}")
+            is_first = False
+        maker.put("settle 1")
+    for seat in range(1, 11):
+        maker.put(f"enter p{len(book.entries)} 1 {seat}")
+
+
+def hall(maker):
+    """Up to 64 tables are filled, and hands, balances and breaks make them fewer, with other events between."""
+    hall_plan(maker)
+    fill(maker)
+    few = some_tables(maker)
+    while len(maker.lines) < MOST_LINES and not maker.book.is_over():
+        if maker.odds(6):
+            few = some_tables(maker)
+        maker.pick((30, lambda: whole_hand(maker, few)),
+                   (18 if maker.is_uneven() else 3, lambda: maker.put(maker.balance())),
+                   (6, lambda: maker.put(maker.break_table())), (6, lambda: maker.put(maker.enter())),
+                   (12, lambda: maker.put(maker.natural())))()
+        if maker.book.stopped:
+            break
+    for _ in range(5):
+        maker.put(maker.natural())
+
+
+def hall_plan(maker):
+    """Many tables, and stacks of a few blinds, so that many players go out."""
+    rng = maker.rng
+    for line in [f"game {rng.choice(['holdem', 'omaha', 'hilo'])}", f"tables {rng.choice([3, 5, 8, 16, 33, 64, 64])}",
+                 f"seats {rng.randint(2, 10)}", f"stack {rng.choice([1, 2, 3, 5, 10]) * 100}", "buyin 10", "late 1",
+                 "blinds 100 200 100", "shares 500 300 200", "go"]:
+        maker.put(line)
+
+
+def fill(maker):
+    """Players enter by the fewest; tables break before the first hand, and are opened again by others."""
+    book, rng = maker.book, maker.rng
+    room = len(book.tables) * book.plan["seats"]
+    wanted = min(room, rng.choice([2, 3, 4]) * len(book.tables), rng.randint(20, 200))
+    while len(book.seats) < wanted:
+        maker.put(maker.enter())
+        if maker.odds(4):
+            maker.put(maker.break_table())
+
+
+def some_tables(maker):
+    """A few of the open tables, where hands are played now."""
+    tables = maker.book.open_tables()
+    return maker.rng.sample(tables, min(len(tables), maker.rng.randint(1, 4)))
+
+
+def whole_hand(maker, few):
+    """A hand at one of a few tables, now and then elsewhere or where it is not allowed, mostly played to its end."""
+    book, rng = maker.book, maker.rng
+    table = maker.pick((6, lambda: rng.choice(few)), (2, lambda: rng.choice(book.open_tables())),
+                       (1, lambda: min(counts := book.open_counts(), key=counts.get)))()
+    maker.put(f"begin {table} {maker.a_row()}")
+    hand = maker.hand_at(table)
+    while hand and not hand.is_over() and not maker.odds(1):
+        maker.put(quick_act(maker, table, hand))
+    if hand and hand.is_over() and not maker.odds(4):
+        maker.put(f"settle {table}")
+
+
+def quick_act(maker, table, hand):
+    """Mostly a fold, or an act that puts in all chips or as many as the pot allows."""
+    due = hand.due()
+    faces = hand.put[due] < hand.level
+    most = "allin"
+    if hand.is_past_pot(due, hand.put[due] + hand.behind(due)) and maker.odds(95):
+        most = f"{'raise' if hand.level else 'bet'} {hand.pot_bound(due)}"
+    act = maker.pick((35, "fold" if faces else "check"), (25, "call" if faces else "check"), (30, most), (10, None))
+    return f"act {table} {hand.names[due]} {act}" if act else f"time {table}"
