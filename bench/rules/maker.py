@@ -12,6 +12,10 @@ PLAYERS = ["ann", "bob", "cat", "dan", "eve", "fay", "gus", "hal", "ida", "jim",
 CARDS = [text_of([card]) for card in SORTED_DECK]
 
 
+def break_line(table, places, names):
+    return f"break {table} {','.join(f'{to}.{seat}' for to, seat in places)} {','.join(names)}"
+
+
 class Maker:
     """Makes one list. It plays the list on the model as it goes, so that it knows what would be lawful."""
 
@@ -19,13 +23,13 @@ class Maker:
         self.rng = random.Random(seed)
         self.book = Tournament()
         self.lines = []
+        self.answers = []
         self.entered = 0
         self.is_wild = self.odds(40)
 
     def put(self, line):
         event = event_of_line(line.encode())
-        if event:
-            apply(self.book, event)
+        self.answers.append(apply(self.book, event) if event else "no 1 Syntax")
         self.lines.append(line)
 
     def odds(self, percent):
@@ -216,15 +220,19 @@ class Maker:
         book, rng = self.book, self.rng
         table = max(book.open_tables(), default=1) if not self.odds(8) else self.a_table()
         has_list = book.is_open(table) and len(book.open_tables()) > 1
-        places = book.fill_list(table) if has_list else None
-        names = list(book.players_at(table).values())
-        if not places or not names:
+        places, names = self.right_draw(table) if has_list else ([], [])
+        if not places:
             places, names = [(rng.randint(1, 4), rng.randint(1, 10))], names or [self.a_player()]
-        rng.shuffle(places)
-        rng.shuffle(names)
         if self.odds(25):
-            places, names = self.wrong_draw(list(places), list(names))
-        return f"break {table} {','.join(f'{to}.{seat}' for to, seat in places)} {','.join(names)}"
+            places, names = self.wrong_draw(places, names)
+        return break_line(table, places, names)
+
+    def right_draw(self, table):
+        """The seats to fill, none where there is no room, and the players of a table, each in any order."""
+        places, names = self.book.fill_list(table) or [], list(self.book.players_at(table).values())
+        self.rng.shuffle(places)
+        self.rng.shuffle(names)
+        return places, names
 
     def wrong_draw(self, places, names):
         """One of the two lists with a member too few, too many, twice, or of elsewhere."""
