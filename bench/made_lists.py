@@ -3,7 +3,8 @@
 
 Each answer, each line of the report, the status and err are compared. A list that tells the two apart is made as short
 as it can be, and is printed with both texts. At the end it says how many lists, lines and hands there were, how often
-each answer came, and how many balances and breaks were accepted. The status is 1 where a list told them apart.
+each answer came, and how many entries, moves, levels, races and rounds were accepted. The status is 1 where a list told
+them apart.
 
 Usage: bench/made_lists.py [--lists N] [--seed N] [--unproved] [--program PATH] [--built PART,PART..]
 

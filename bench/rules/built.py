@@ -6,8 +6,6 @@ one word in BUILT.
 
 # Each part of the product that is still to come, and what is answered while it is not there.
 PARTS = {
-    "levels": "`level` and `race`: no lines of the grammar",
-    "rounds": "`hands` and `round`: no lines of the grammar",
     "notes": "lines that begin with `*`: no lines of the grammar",
     "places": "`* out` lines: not in the report",
 }

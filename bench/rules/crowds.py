@@ -47,16 +47,17 @@ def hall(maker):
     """Up to 64 tables are filled, and hands, balances and breaks make them fewer, with other events between."""
     hall_plan(maker)
     fill(maker)
-    few = some_tables(maker)
-    while len(maker.lines) < MOST_LINES and not maker.book.is_over():
+    book, few = maker.book, some_tables(maker)
+    while len(maker.lines) < MOST_LINES and not book.is_over() and not book.stopped:
         if maker.odds(6):
             few = some_tables(maker)
-        maker.pick((30, lambda: whole_hand(maker, few)),
+        maker.pick((30, lambda: whole_hand(maker, some_table(maker, few))),
                    (18 if maker.is_uneven() else 3, lambda: maker.put(maker.balance())),
                    (6, lambda: maker.put(maker.break_table())), (6, lambda: maker.put(maker.enter())),
-                   (12, lambda: maker.put(maker.natural())))()
-        if maker.book.stopped:
-            break
+                   (12, lambda: maker.put(maker.natural())), (1, lambda: next_level(maker)),
+                   (25 if book.has_race() else 0.5, lambda: maker.put(maker.race())),
+                   (2 if len(book.open_tables()) < 9 else 0.2, lambda: a_round(maker)),
+                   (6 if book.hand_for_hand else 0, lambda: maker.put("hands off")))()
     for _ in range(5):
         maker.put(maker.natural())
 
@@ -64,9 +65,12 @@ def hall(maker):
 def hall_plan(maker):
     """Many tables, and stacks of a few blinds, so that many players go out."""
     rng = maker.rng
+    blinds = maker.levels(rng.choice([5, 25, 100]))
+    late = rng.randint(1, len(blinds))
+    stack = blinds[late - 1][2] * rng.choice([1, 2, 3, 5, 10, 20, 40])
     for line in [f"game {rng.choice(['holdem', 'omaha', 'hilo'])}", f"tables {rng.choice([3, 5, 8, 16, 33, 64, 64])}",
-                 f"seats {rng.randint(2, 10)}", f"stack {rng.choice([1, 2, 3, 5, 10]) * 100}", "buyin 10", "late 1",
-                 "blinds 100 200 100", "shares 500 300 200", "go"]:
+                 f"seats {rng.randint(2, 10)}", f"stack {stack}", "buyin 10", f"late {late}",
+                 *(f"blinds {small} {big} {unit}" for small, big, unit in blinds), "shares 500 300 200", "go"]:
         maker.put(line)
 
 
@@ -87,17 +91,44 @@ def some_tables(maker):
     return maker.rng.sample(tables, min(len(tables), maker.rng.randint(1, 4)))
 
 
-def whole_hand(maker, few):
-    """A hand at one of a few tables, now and then elsewhere or where it is not allowed, mostly played to its end."""
-    book, rng = maker.book, maker.rng
-    table = maker.pick((6, lambda: rng.choice(few)), (2, lambda: rng.choice(book.open_tables())),
-                       (1, lambda: min(counts := book.open_counts(), key=counts.get)))()
+def some_table(maker, few):
+    """Mostly one of a few tables, now and then another, or one with the fewest players, which may be halted."""
+    counts = maker.book.open_counts()
+    return maker.rng.choice(maker.pick((6, few), (2, list(counts)), (1, [min(counts, key=counts.get)])))
+
+
+def whole_hand(maker, table):
+    """A hand that is mostly played to its end, where one may begin."""
     maker.put(f"begin {table} {maker.a_row()}")
     hand = maker.hand_at(table)
     while hand and not hand.is_over() and not maker.odds(1):
         maker.put(quick_act(maker, table, hand))
     if hand and hand.is_over() and not maker.odds(4):
         maker.put(f"settle {table}")
+
+
+def next_level(maker):
+    """The next level, and most of the races that are pending then, in any order."""
+    maker.put("level")
+    racing = [table for table in maker.book.tables if maker.book.tables[table].pending]
+    maker.rng.shuffle(racing)
+    for table in racing:
+        if maker.odds(90):
+            maker.put(f"race {table} {maker.a_row()}")
+
+
+def a_round(maker):
+    """Hand for hand: hands at the tables where none has begun, and mostly the end of the round."""
+    book = maker.book
+    if not book.hand_for_hand:
+        maker.put("hands on")
+    tables = [table for table in book.open_tables() if table not in book.round or maker.odds(10)]
+    maker.rng.shuffle(tables)
+    for table in tables[:9]:
+        whole_hand(maker, table)
+        if maker.odds(15):
+            maker.put(maker.pick((1, maker.balance), (1, maker.break_table), (1, lambda: "round"))())
+    maker.put(maker.pick((40, "round"), (55, "hands off"), (5, "hands on")))
 
 
 def quick_act(maker, table, hand):

@@ -74,11 +74,6 @@ def act_of(words):
     return Act(one_of("bet", "raise")(kind), number(amount))
 
 
-def needs(part):
-    if part not in BUILT:
-        raise ValueError
-
-
 def event_of_words(words):
     """The event of a line's words; ValueError outside of the grammar."""
     word, rest = words[0], words[1:]
@@ -89,24 +84,19 @@ def event_of_words(words):
     if word == "act":
         table, player, *act = rest
         return Event(word, (number(table), name(player), act_of(act)))
-    part, readers = GRAMMAR.get(word, (None, None))
+    readers = GRAMMAR.get(word)
     if readers is None or len(readers) != len(rest):
         raise ValueError
-    if part:
-        needs(part)
     return Event(word, tuple(reader(each) for reader, each in zip(readers, rest)))
 
 
-# The first word of a line, the part that brings it, if it is not there from the start, and how its fields are read.
+# The first word of a line, and how its fields are read.
 GRAMMAR = {
-    "game": (None, [one_of("holdem", "omaha", "hilo")]),
-    "tables": (None, [number]), "seats": (None, [number]), "stack": (None, [number]), "buyin": (None, [number]),
-    "late": (None, [number]), "blinds": (None, [number, number, number]), "go": (None, []),
-    "enter": (None, [name, number, number]), "begin": (None, [number, row]), "settle": (None, [number]),
-    "stop": (None, []), "time": (None, [number]),
-    "balance": (None, [number, number]), "break": (None, [number, list_of(place), list_of(name)]),
-    "level": ("levels", []), "race": ("levels", [number, row]),
-    "hands": ("rounds", [one_of("on", "off")]), "round": ("rounds", []),
+    "game": [one_of("holdem", "omaha", "hilo")], "tables": [number], "seats": [number], "stack": [number],
+    "buyin": [number], "late": [number], "blinds": [number, number, number], "go": [],
+    "enter": [name, number, number], "begin": [number, row], "settle": [number], "time": [number],
+    "balance": [number, number], "break": [number, list_of(place), list_of(name)], "level": [], "race": [number, row],
+    "hands": [one_of("on", "off")], "round": [], "stop": [],
 }
 
 

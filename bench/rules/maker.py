@@ -1,7 +1,6 @@
 """Makes lists of events from a seed, lawful and unlawful, so that each answer comes often."""
 import random
 
-from rules.built import BUILT, PARTS
 from rules.cards import SORTED_DECK, text_of
 from rules.crowds import crowd, crowd_at_one_table, hall
 from rules.lines import event_of_line
@@ -264,17 +263,15 @@ class Maker:
         playing = sorted(book.playing_tables())
         ended = [table for table in playing if self.hand_at(table).is_over()]
         few = len(book.seats) < min(len(book.tables) * book.plan.get("seats", 6), 2 + rng.randrange(12))
-        later = {part: 1 if part in BUILT else 0.2 for part in PARTS}
         several = 1 if len(book.tables) > 1 else 0.1
         word = self.pick(
             (30 if few else 3, self.enter), (14 if len(playing) < len(book.tables) and not few else 2, self.begin),
             (60 if len(playing) > len(ended) else 3, self.act), (40 if ended else 1.5, self.settle),
             (4 if playing else 0.5, lambda: f"time {rng.choice(playing or [self.a_table()])}"),
             ((12 if self.is_uneven() else 2) * several, self.balance), (4 * several, self.break_table),
-            (later["levels"], lambda: "level"),
-            (later["levels"] * (8 if book.has_race() else 0.7), self.race), (0.7 * later["rounds"], lambda: "hands on"),
-            (later["rounds"], lambda: "hands off"),
-            (later["rounds"] * (6 if book.hand_for_hand else 0.7), lambda: "round"),
+            (1, lambda: "level"), (8 if book.has_race() else 0.7, self.race), (0.7, lambda: "hands on"),
+            (2.5 if book.hand_for_hand else 0.7, lambda: "hands off"),
+            (6 if book.hand_for_hand else 0.7, lambda: "round"),
             (0.2, lambda: "stop"), (0.5, self.wrong_plan_line))
         return word()
 
