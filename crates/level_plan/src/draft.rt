@@ -164,6 +164,14 @@ impl PlanDraft {
         if let Some(item) = self.fault() {
             return Err(PlanFault::Wrong(item));
         }
+        Ok(self.plan()?)
+    }
+
+    /// Makes the plan of a draft of which nothing is missing or wrong.
+    fn plan(&self) -> Result<Plan, AllocError>
+        requires { go_fault self.now ≡ None }
+        ensures { IfOk result (λ plan. plan ≡ plan_of self.now) }
+    {
         let blinds = copy_of(self.alloc, &self.blinds)?;
         let shares = copy_of(self.alloc, self.shares.as_ref().unwrap())?;
         Ok(Plan {

@@ -1,22 +1,8 @@
-use crate::{Blind, PlanDraft, PlanFault, PlanItem, PlanLine};
+use crate::{PlanDraft, PlanFault, PlanItem, PlanLine};
 use card_set::Game;
 use floor_text::List;
 use std::alloc::{AllocError, Global};
 use std::test::Fail;
-
-/// What a draft of which nothing is given answers to a line.
-fn answer(alloc: Global, line: &PlanLine) -> Result<(), PlanFault> {
-    PlanDraft::new(alloc).line(line)
-}
-
-/// The answer that is wanted to a line of this item.
-fn wanted(item: PlanItem, is_right: bool) -> Result<(), PlanFault> {
-    if is_right {
-        Ok(())
-    } else {
-        Err(PlanFault::Wrong(item))
-    }
-}
 
 /// A line of these shares.
 fn shares(alloc: Global, numbers: &[u64]) -> Result<PlanLine, AllocError> {
@@ -59,33 +45,35 @@ fn draft_but(
     Ok(draft)
 }
 
+/// Whether a draft of which nothing is given takes a line.
+fn takes(alloc: Global, line: &PlanLine) -> bool {
+    PlanDraft::new(alloc).line(line).is_ok()
+}
+
 #[test]
 fn numbers_are_held_to_their_bounds(rt: HostRuntime) {
-    let alloc = rt.alloc();
-    for (n, is_right) in [(0, false), (1, true), (64, true), (65, false)] {
-        let answer = answer(alloc, &PlanLine::Tables(n));
-        assert_eq!(rt; answer, wanted(PlanItem::Tables, is_right), "tables {n}");
-    }
-    for (n, is_right) in [(1, false), (2, true), (10, true), (11, false)] {
-        let answer = answer(alloc, &PlanLine::Seats(n));
-        assert_eq!(rt; answer, wanted(PlanItem::Seats, is_right), "seats {n}");
-    }
-    for (n, is_right) in [
-        (0, false),
-        (1, true),
-        (1_000_000_000, true),
-        (1_000_000_001, false),
+    for (line, is_right) in &[
+        (PlanLine::Tables(0), false),
+        (PlanLine::Tables(1), true),
+        (PlanLine::Tables(64), true),
+        (PlanLine::Tables(65), false),
+        (PlanLine::Seats(1), false),
+        (PlanLine::Seats(2), true),
+        (PlanLine::Seats(10), true),
+        (PlanLine::Seats(11), false),
+        (PlanLine::Stack(0), false),
+        (PlanLine::Stack(1), true),
+        (PlanLine::Stack(1_000_000_000), true),
+        (PlanLine::Stack(1_000_000_001), false),
+        (PlanLine::Buyin(0), true),
+        (PlanLine::Buyin(1_000_000_000), true),
+        (PlanLine::Buyin(1_000_000_001), false),
+        (PlanLine::Late(0), false),
+        (PlanLine::Late(1), true),
+        (PlanLine::Late(40), true),
+        (PlanLine::Late(41), false),
     ] {
-        let answer = answer(alloc, &PlanLine::Stack(n));
-        assert_eq!(rt; answer, wanted(PlanItem::Stack, is_right), "stack {n}");
-    }
-    for (n, is_right) in [(0, true), (1_000_000_000, true), (1_000_000_001, false)] {
-        let answer = answer(alloc, &PlanLine::Buyin(n));
-        assert_eq!(rt; answer, wanted(PlanItem::Buyin, is_right), "buyin {n}");
-    }
-    for (n, is_right) in [(0, false), (1, true), (40, true), (41, false)] {
-        let answer = answer(alloc, &PlanLine::Late(n));
-        assert_eq!(rt; answer, wanted(PlanItem::Late, is_right), "late {n}");
+        assert!(rt; takes(rt.alloc(), line) == *is_right, "{line:?}");
     }
 }
 
@@ -103,41 +91,37 @@ fn blinds_are_multiples_of_their_unit(rt: HostRuntime) {
         (25, 60, 25, false),
         (u64::MAX, u64::MAX, u64::MAX, false),
     ] {
-        let answer = answer(rt.alloc(), &PlanLine::Blinds { small, big, unit });
-        assert_eq!(rt;
-            answer,
-            wanted(PlanItem::Blinds, is_right),
-            "{small} {big} {unit}"
-        );
+        let line = PlanLine::Blinds { small, big, unit };
+        assert!(rt; takes(rt.alloc(), &line) == is_right, "{line:?}");
     }
 }
 
 #[test]
 fn a_unit_is_one_to_six_times_the_last(rt: HostRuntime) -> Result<(), Fail> {
-    for (unit, is_right) in [
-        (100, true),
-        (200, true),
-        (600, true),
-        (700, false),
-        (150, false),
-        (50, false),
+    for (before, unit, is_right) in [
+        (1, 100, true),
+        (1, 200, true),
+        (1, 600, true),
+        (1, 700, false),
+        (1, 150, false),
+        (1, 50, false),
+        (39, 100, true),
+        (40, 100, false),
     ] {
         let mut draft = PlanDraft::new(rt.alloc());
-        draft.line(&level(100))?;
-        let answer = draft.line(&level(unit));
-        assert_eq!(rt; answer, wanted(PlanItem::Blinds, is_right), "unit {unit}");
+        for _ in 0..before {
+            draft.line(&level(100))?;
+        }
+        assert!(rt;
+            draft.line(&level(unit)).is_ok() == is_right,
+            "{before} {unit}"
+        );
     }
-    let mut draft = PlanDraft::new(rt.alloc());
-    for _ in 0..40 {
-        draft.line(&level(100))?;
-    }
-    assert_eq!(rt; draft.line(&level(100)), wanted(PlanItem::Blinds, false));
     Ok(())
 }
 
 #[test]
 fn shares_fall_and_stay_within_the_pool(rt: HostRuntime) -> Result<(), Fail> {
-    let alloc = rt.alloc();
     let many = [15; 65];
     for (numbers, is_right) in [
         ([].as_slice(), false),
@@ -153,28 +137,28 @@ fn shares_fall_and_stay_within_the_pool(rt: HostRuntime) -> Result<(), Fail> {
         (&[500, 300, 201], false),
         (&[u64::MAX, u64::MAX], false),
     ] {
-        let answer = answer(alloc, &shares(alloc, numbers)?);
-        assert_eq!(rt; answer, wanted(PlanItem::Shares, is_right), "{numbers:?}");
+        let line = shares(rt.alloc(), numbers)?;
+        assert!(rt; takes(rt.alloc(), &line) == is_right, "{numbers:?}");
     }
     Ok(())
 }
 
 #[test]
 fn an_item_is_given_once(rt: HostRuntime) -> Result<(), Fail> {
-    let alloc = rt.alloc();
-    let lines = [
-        (PlanLine::Game(Game::Hilo), PlanItem::Game),
-        (PlanLine::Tables(4), PlanItem::Tables),
-        (PlanLine::Seats(8), PlanItem::Seats),
-        (PlanLine::Stack(20_000), PlanItem::Stack),
-        (PlanLine::Buyin(300), PlanItem::Buyin),
-        (PlanLine::Late(1), PlanItem::Late),
-        (shares(alloc, &[1000])?, PlanItem::Shares),
-    ];
-    let mut draft = PlanDraft::new(alloc);
-    for (line, item) in &lines {
-        assert_eq!(rt; draft.line(line), Ok(()));
-        assert_eq!(rt; draft.line(line), wanted(*item, false));
+    let mut draft = PlanDraft::new(rt.alloc());
+    for line in &[
+        PlanLine::Game(Game::Hilo),
+        PlanLine::Tables(4),
+        PlanLine::Seats(8),
+        PlanLine::Stack(20_000),
+        PlanLine::Buyin(300),
+        PlanLine::Late(1),
+        shares(rt.alloc(), &[1000])?,
+    ] {
+        assert!(rt;
+            draft.line(line).is_ok() && draft.line(line).is_err(),
+            "{line:?}"
+        );
     }
     Ok(())
 }
@@ -182,53 +166,37 @@ fn an_item_is_given_once(rt: HostRuntime) -> Result<(), Fail> {
 #[test]
 fn a_right_plan_is_given_back(rt: HostRuntime) -> Result<(), Fail> {
     let plan = draft_but(rt.alloc(), None, 10_000, 2)?.go()?;
-    assert_eq!(rt; plan.game, Game::Omaha);
     let numbers = [plan.tables, plan.seats, plan.stack, plan.buyin, plan.late];
-    assert_eq!(rt; numbers, [3, 9, 10_000, 200, 2]);
-    let first = Blind {
-        small: 25,
-        big: 50,
-        unit: 25,
-    };
-    let second = Blind {
-        small: 100,
-        big: 200,
-        unit: 100,
-    };
-    assert_eq!(rt; plan.blinds.items(), [first, second].as_slice());
-    assert_eq!(rt; plan.shares.items(), [500, 300, 200].as_slice());
+    let units = [
+        plan.blinds.items().len() as u64,
+        plan.shares.items().len() as u64,
+    ];
+    assert!(rt; plan.game == Game::Omaha && numbers == [3, 9, 10_000, 200, 2] && units == [2, 3]);
     Ok(())
 }
 
 #[test]
 fn the_end_names_the_first_wrong_item(rt: HostRuntime) -> Result<(), Fail> {
-    let alloc = rt.alloc();
-    assert_eq!(rt;
-        PlanDraft::new(alloc).go().err(),
-        Some(PlanFault::Wrong(PlanItem::Game))
-    );
-    for item in [
-        PlanItem::Game,
-        PlanItem::Tables,
-        PlanItem::Seats,
-        PlanItem::Stack,
-        PlanItem::Buyin,
-        PlanItem::Late,
-        PlanItem::Blinds,
-        PlanItem::Shares,
+    for (missing, stack, late, wrong) in [
+        (Some(PlanItem::Game), 10_050, 3, Some(PlanItem::Game)),
+        (Some(PlanItem::Tables), 10_050, 3, Some(PlanItem::Tables)),
+        (Some(PlanItem::Seats), 10_050, 3, Some(PlanItem::Seats)),
+        (Some(PlanItem::Stack), 10_050, 3, Some(PlanItem::Stack)),
+        (Some(PlanItem::Buyin), 10_050, 3, Some(PlanItem::Buyin)),
+        (Some(PlanItem::Late), 10_050, 3, Some(PlanItem::Late)),
+        (Some(PlanItem::Blinds), 10_050, 3, Some(PlanItem::Blinds)),
+        (Some(PlanItem::Shares), 10_050, 3, Some(PlanItem::Shares)),
+        (None, 10_050, 1, None),
+        (None, 10_050, 2, Some(PlanItem::Stack)),
+        (None, 10_100, 2, None),
+        (None, 10_100, 3, Some(PlanItem::Late)),
+        (None, 10_050, 3, Some(PlanItem::Late)),
     ] {
-        let draft = draft_but(alloc, Some(item), 10_050, 3)?;
-        assert_eq!(rt; draft.go().err(), Some(PlanFault::Wrong(item)));
-    }
-    for (stack, late, wrong) in [
-        (10_050, 1, None),
-        (10_050, 2, Some(PlanFault::Wrong(PlanItem::Stack))),
-        (10_100, 2, None),
-        (10_100, 3, Some(PlanFault::Wrong(PlanItem::Late))),
-        (10_050, 3, Some(PlanFault::Wrong(PlanItem::Late))),
-    ] {
-        let draft = draft_but(alloc, None, stack, late)?;
-        assert_eq!(rt; draft.go().err(), wrong, "stack {stack}, late {late}");
+        let found = draft_but(rt.alloc(), missing, stack, late)?.go().err();
+        assert!(rt;
+            found == wrong.map(PlanFault::Wrong),
+            "{missing:?} {stack} {late}"
+        );
     }
     Ok(())
 }
