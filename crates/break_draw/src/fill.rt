@@ -28,7 +28,7 @@ impl Model for FillSeats {
 }
 
 impl FillSeats {
-    /// No seats.
+    /// Makes a list of no seats.
     pub(crate) fn new() -> FillSeats
         ensures { result ≡ [] }
     {
@@ -38,7 +38,7 @@ impl FillSeats {
         }
     }
 
-    /// One seat more.
+    /// Adds a seat.
     pub(crate) fn push(&mut self, place: Place)
         requires { length self.old < 10 }
         ensures { self.new ≡ self.old ++ place ∷ [] }
@@ -47,7 +47,7 @@ impl FillSeats {
         self.count += 1;
     }
 
-    /// The places of the seats, in turn.
+    /// Gives the places of the seats, in turn.
     pub fn places(&self) -> &[Place]
         ensures { result.now ≡ self.now }
     {

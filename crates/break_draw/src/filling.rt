@@ -140,7 +140,7 @@ fn next_to_fill(book: &SeatBook, table: u8, counts: &[u8; MOST_TABLES], chosen: 
     }
 }
 
-/// The seats that a table's players take when it breaks, as many as it has players, chosen one at a time: at the other
+/// Chooses the seats that a table's players take when it breaks, as many as it has players, one at a time: at the other
 /// open table with the fewest players, of more such at that with the lowest number, its lowest empty seat. `None` comes
 /// exactly where the other open tables have fewer empty seats than the table has players. It takes no memory.
 pub fn fill_seats(book: &SeatBook, table: u8) -> Option<FillSeats>
@@ -162,7 +162,7 @@ pub fn fill_seats(book: &SeatBook, table: u8) -> Option<FillSeats>
     Some(fill)
 }
 
-/// The seats that a table's players take when it breaks, in turn, as a list. `NoRoom` comes exactly where the other open
+/// Lists the seats that a table's players take when it breaks, in turn. `NoRoom` comes exactly where the other open
 /// tables have fewer empty seats than the table has players.
 pub fn fill_list(alloc: Global, book: &SeatBook, table: u8) -> Result<Vec<Place>, DrawFault>
     requires { IsTableOf book.now.table_count table }

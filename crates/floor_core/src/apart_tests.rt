@@ -20,9 +20,20 @@ const SORTED: &[u8] =
 const ACES: &[u8] =
     b"AcKcAdKd2c2d2h2s3c3d3h3s4c4d4h4s5c5d5h5s6c6d6h6s7c7d7h7s8c8d8h8s9c9d9h9sTcTdThTsJcJdJhJsQcQdQhQsKhKsAhAs";
 
-const PLAN: &[&str] = &[
+const ONE_TABLE: &[&str] = &[
     "game holdem",
     "tables 1",
+    "seats 6",
+    "stack 1000",
+    "buyin 100",
+    "late 1",
+    "blinds 100 200 100",
+    "shares 700 300",
+];
+
+const THREE_TABLES: &[&str] = &[
+    "game holdem",
+    "tables 3",
     "seats 6",
     "stack 1000",
     "buyin 100",
@@ -40,6 +51,38 @@ const ENTRIES: &[(&str, Answer)] = &[
     ("enter cat 1 7", Answer::No(Refusal::NoSeat)),
     ("enter cat 2 1", Answer::No(Refusal::NoTable)),
     ("enter cat 1 6", Answer::Ok),
+];
+
+/// Players enter at the tables with the fewest, table 3 breaks, and table 1 with three players and table 3 with one are
+/// balanced: cat would be the big blind at table 1.
+const MOVES: &[(&str, Answer)] = &[
+    ("enter ann 1 1", Answer::Ok),
+    ("enter bob 1 2", Answer::No(Refusal::NotFewest)),
+    ("enter bob 1 1", Answer::No(Refusal::SeatTaken)),
+    ("enter bob 2 1", Answer::Ok),
+    ("enter cat 3 1", Answer::Ok),
+    ("enter dan 1 2", Answer::Ok),
+    ("enter eve 2 2", Answer::Ok),
+    ("balance 1 4", Answer::No(Refusal::NoTable)),
+    ("balance 3 1", Answer::No(Refusal::NotFullest)),
+    ("balance 1 2", Answer::No(Refusal::NotShortest)),
+    ("balance 1 3", Answer::No(Refusal::EvenEnough)),
+    ("break 2 1.3 bob", Answer::No(Refusal::NotNextToBreak)),
+    ("break 3 2.3 cat", Answer::No(Refusal::DrawWrong)),
+    ("break 3 1.3 cat", Answer::Ok),
+    ("break 3 1.3 cat", Answer::No(Refusal::NoTable)),
+    ("enter fay 3 4", Answer::Ok),
+    ("balance 1 3", Answer::Ok),
+];
+
+/// Where all sit then, by table and then seat.
+const MOVED: &[(u8, u8, &str)] = &[
+    (1, 1, "ann"),
+    (1, 2, "dan"),
+    (2, 1, "bob"),
+    (2, 2, "eve"),
+    (3, 1, "cat"),
+    (3, 4, "fay"),
 ];
 
 /// The acts of three hands in which two players fold.
@@ -72,9 +115,9 @@ fn aces() -> Result<CardRow, Fail> {
 }
 
 /// Reads the plan of the lines.
-fn plan(alloc: Global) -> Result<Plan, Fail> {
+fn plan(alloc: Global, lines: &[&str]) -> Result<Plan, Fail> {
     let mut draft = PlanDraft::new(alloc);
-    for line in PLAN {
+    for line in lines {
         if let Event::Plan(line) = event(alloc, line)? {
             draft.line(&line)?;
         }
@@ -83,9 +126,9 @@ fn plan(alloc: Global) -> Result<Plan, Fail> {
 }
 
 /// A tournament with this plan.
-fn planned(rt: &impl Abort, alloc: Global) -> Result<Tournament, Fail> {
+fn planned(rt: &impl Abort, alloc: Global, lines: &[&str]) -> Result<Tournament, Fail> {
     let mut tournament = Tournament::new(alloc)?;
-    for line in PLAN {
+    for line in lines {
         take(rt, &mut tournament, &event(alloc, line)?)?;
     }
     take(rt, &mut tournament, &Event::Go)?;
@@ -103,7 +146,9 @@ fn take(rt: &impl Abort, tournament: &mut Tournament, event: &Event) -> Result<(
 fn order(rt: &impl Abort, both: &mut Beside, line: &Event) -> Result<Answer, Fail> {
     assert!(rt; both.book.accepted < 1 << 60 && both.tournament.accepted < 1 << 60);
     let told = match line {
-        Event::Enter { .. } | Event::Stop => both.book.order(line)?,
+        Event::Enter { .. } | Event::Balance { .. } | Event::Break { .. } | Event::Stop => {
+            both.book.order(line)?
+        }
         _ => return Err("no order".into()),
     };
     assert_eq!(rt; both.tournament.apply(line)?, told);
@@ -195,15 +240,20 @@ struct Beside {
     tournament: Tournament,
 }
 
-fn both(rt: &impl Abort, alloc: Global) -> Result<Beside, Fail> {
-    let book = Book::new(alloc, plan(alloc)?)?;
-    let tournament = planned(rt, alloc)?;
+fn both(rt: &impl Abort, alloc: Global, lines: &[&str]) -> Result<Beside, Fail> {
+    let book = Book::new(alloc, plan(alloc, lines)?)?;
+    let tournament = planned(rt, alloc, lines)?;
     Ok(Beside { book, tournament })
 }
 
-/// Gives both the lines of the entries.
-fn enter(rt: &impl Abort, alloc: Global, both: &mut Beside) -> Result<(), Fail> {
-    for (line, answer) in ENTRIES {
+/// Gives both lines that the book takes by itself, with what they answer.
+fn order_all(
+    rt: &impl Abort,
+    alloc: Global,
+    both: &mut Beside,
+    lines: &[(&str, Answer)],
+) -> Result<(), Fail> {
+    for (line, answer) in lines {
         let event = event(alloc, line)?;
         assert_eq!(rt; order(rt, both, &event)?, *answer, "{line}");
     }
@@ -212,8 +262,8 @@ fn enter(rt: &impl Abort, alloc: Global, both: &mut Beside) -> Result<(), Fail> 
 
 /// A book and a tournament that three players entered.
 fn entered(rt: &impl Abort, alloc: Global) -> Result<Beside, Fail> {
-    let mut both = both(rt, alloc)?;
-    enter(rt, alloc, &mut both)?;
+    let mut both = both(rt, alloc, ONE_TABLE)?;
+    order_all(rt, alloc, &mut both, ENTRIES)?;
     Ok(both)
 }
 
@@ -298,5 +348,25 @@ fn a_hand_that_is_out_is_void_at_the_stop(rt: HostRuntime) -> Result<(), Fail> {
     let hand = begin_both(&rt, &mut both)?;
     stop_both(&rt, &mut both)?;
     assert_eq!(rt; hand.void().seats.items().len(), 3);
+    alike(&rt, rt.alloc(), &both)
+}
+
+/// Says where all sit, by table and then seat.
+fn sit_so(rt: &impl Abort, both: &Beside, places: &[(u8, u8, &str)]) -> Result<(), Fail> {
+    let report = both.book.report()?;
+    let seats = report.seats.items();
+    assert_eq!(rt; seats.len(), places.len());
+    for (row, (table, seat, name)) in seats.iter().zip(places) {
+        assert_eq!(rt; (row.place.table, row.place.seat), (*table, *seat));
+        assert_eq!(rt; row.name.bytes(), name.as_bytes());
+    }
+    Ok(())
+}
+
+#[test]
+fn two_tables_are_balanced_and_one_breaks(rt: HostRuntime) -> Result<(), Fail> {
+    let mut both = both(&rt, rt.alloc(), THREE_TABLES)?;
+    order_all(&rt, rt.alloc(), &mut both, MOVES)?;
+    sit_so(&rt, &both, MOVED)?;
     alike(&rt, rt.alloc(), &both)
 }

@@ -49,7 +49,7 @@ fn mover(seats: &SeatBook, order: Move) -> Seated
 
 impl Book {
     /// Checks that both tables are open, and gives their numbers.
-    fn check_open(&self, from: u64, to: u64) -> Result<OpenTables, Refusal>
+    fn check_both_open(&self, from: u64, to: u64) -> Result<OpenTables, Refusal>
         ensures checked { IsChecked
             ((refusals.NoTable, not (is_table_open self.now from && is_table_open self.now to)) ∷ []) result }
         ensures from { IfOk result (λ tables. tables.from ≡ from) }
@@ -81,7 +81,7 @@ impl Book {
         ensures to_open { IfOk result (λ tables. 1 ≤ count_at self.now.seating.players tables.to) }
     {
         self.check_going()?;
-        let tables = self.check_open(from, to)?;
+        let tables = self.check_both_open(from, to)?;
         self.check_leaving(tables.from)?;
         Ok(tables)
     }
@@ -104,7 +104,7 @@ impl Book {
         Ok(order)
     }
 
-    /// Two tables are balanced: the player who would be the next big blind at the one sits down at the other, with his
+    /// Balances two tables: the player who would be the next big blind at the one sits down at the other, with his
     /// stack. An error leaves the book as it was. It takes no memory.
     #[tactic(auto, using(tournament_rules::proofs::Balances::valid_balanced), unfolding(tournament_rules::specs::Checks::book_refusal))]
     pub(crate) fn balance(&mut self, from: u64, to: u64) -> Result<(), BookFault>

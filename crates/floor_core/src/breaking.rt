@@ -56,7 +56,7 @@ impl Book {
     }
 
     /// Checks that a table is open, and gives its number.
-    fn check_opened(&self, table: u64) -> Result<u8, Refusal>
+    fn check_open(&self, table: u64) -> Result<u8, Refusal>
         ensures checked { IsChecked ((refusals.NoTable, not (is_table_open self.now table)) ∷ []) result }
         ensures same { IfOk result (λ number. number ≡ table) }
         ensures within { IfOk result (IsTableOf self.now.seating.table_count) }
@@ -75,7 +75,7 @@ impl Book {
         ensures within { IfOk result (IsTableOf self.now.seating.table_count) }
     {
         self.check_going()?;
-        let table = self.check_opened(table)?;
+        let table = self.check_open(table)?;
         self.check_leaving(table)?;
         Ok(table)
     }
@@ -92,7 +92,7 @@ impl Book {
         Ok(table)
     }
 
-    /// A table breaks: its marks are forgotten, and its players take places at other tables, in turn. An error leaves
+    /// Breaks a table: its marks are forgotten, and its players take places at other tables, in turn. An error leaves
     /// the book as it was. It takes no memory.
     #[tactic(auto, using(tournament_rules::proofs::Breaks::valid_broken), unfolding(tournament_rules::specs::Checks::book_refusal))]
     pub(crate) fn break_table(

@@ -13,7 +13,7 @@ use entry_list::MOST_ENTRIES;
 use floor_text::Name;
 use seat_book::{Place, SeatBook, Seated, TableStatus};
 
-/// A player who sits takes another place, with his stack.
+/// Moves a player who sits to another place, with his stack.
 pub(crate) fn reseat(seats: &mut SeatBook, player: Seated, place: Place)
     requires entry { player.player < MOST_ENTRIES }
     requires sits { player_of seats.old.players player.player ≡ Some player }
@@ -54,7 +54,7 @@ fn find_called(seats: &SeatBook, table: u8, name: Name) -> Option<Seated>
     find_in_slots(seats.table_slots(table), name)
 }
 
-/// The player of a name at a table takes a place, if one of that name sits there.
+/// Lets the player of a name at a table take a place, if one of that name sits there.
 fn take_place(seats: &mut SeatBook, table: u8, name: Name, place: Place)
     requires table { IsTableOf seats.old.table_count table }
     requires within { IsPlaceOf seats.old.table_count seats.old.seat_count place }
@@ -68,7 +68,7 @@ fn take_place(seats: &mut SeatBook, table: u8, name: Name, place: Place)
     }
 }
 
-/// The players of these names at a table take these places, each the one that stands with his name.
+/// Lets the players of these names at a table take these places, each the one that stands with his name.
 pub(crate) fn take_places(seats: &mut SeatBook, table: u8, names: &[Name], places: &[Place])
     requires table { IsTableOf seats.old.table_count table }
     requires free { AreFree seats.old places.now }
@@ -81,7 +81,7 @@ pub(crate) fn take_places(seats: &mut SeatBook, table: u8, names: &[Name], place
     }
 }
 
-/// The marks of a table are forgotten.
+/// Forgets the marks of a table.
 pub(crate) fn forget_marks(seats: &mut SeatBook, table: u8)
     requires { IsTableOf seats.old.table_count table }
     ensures forgotten { seats.new ≡ with_table seats.old table forgotten }
