@@ -102,7 +102,7 @@ lengths cards often is = record {
   one = let all = often-parts cards 1 in let same = ap (λ o. occurs o 1) is in omega arith;
 }
 
-no_ranks : (ranks : List ℕ) → length ranks ≡ 0 → ranks ≡ []
+pub no_ranks : (ranks : List ℕ) → length ranks ≡ 0 → ranks ≡ []
 no_ranks [] is = refl
 no_ranks (rank ∷ ranks) is = absurd (omega arith)
 
@@ -384,7 +384,7 @@ are-singles once twice thrice four pairs singles cards is five are_pairs are_sin
     alone n few = grind (arith, nat_tests)
 
 -- the one rank of a set of one
-falling-one : (n top : ℕ) → top < n → falling (λ r. eqb r top) n ≡ top ∷ []
+pub falling-one : (n top : ℕ) → top < n → falling (λ r. eqb r top) n ≡ top ∷ []
 unfolding falling
 falling-one zero top within = absurd (omega arith)
 falling-one (suc n) top within =

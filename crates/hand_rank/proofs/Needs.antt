@@ -9,16 +9,16 @@ use Rattle.hand_rank.proofs.PickLaws.{Has, Falls, without-other, without-less, h
 use Rattle.hand_rank.proofs.Sections.{total, total-without, added}
 
 -- a rank so many times, before other ranks
-unfoldable times : ℕ → ℕ → List ℕ → List ℕ
+unfoldable pub times : ℕ → ℕ → List ℕ → List ℕ
 times zero r more = more
 times (suc n) r more = r ∷ times n r more
 
-length-times : (n r : ℕ) (more : List ℕ) → length (times n r more) ≡ n + length more
+pub length-times : (n r : ℕ) (more : List ℕ) → length (times n r more) ≡ n + length more
 unfolding times
 length-times zero r more = omega arith
 length-times (suc n) r more = let later = length-times n r more in omega arith
 
-occurs-times : (n r : ℕ) (more : List ℕ) (s : ℕ) → occurs (times n r more) s ≡ cond (eqb r s) n 0 + occurs more s
+pub occurs-times : (n r : ℕ) (more : List ℕ) (s : ℕ) → occurs (times n r more) s ≡ cond (eqb r s) n 0 + occurs more s
 unfolding times
 occurs-times zero r more s = grind arith
 occurs-times (suc n) r more s =

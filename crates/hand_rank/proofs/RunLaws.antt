@@ -41,7 +41,7 @@ holds_place-more p q more place h =
           or_right (q place) (eqb place 1 && q 14) (and_both (eqb place 1) (q 14) parts.0 (more 14 parts.1))
     ]
 
-run_parts : (p : ℕ → Bool) (t : ℕ) → is_run p t ≡ true
+pub run_parts : (p : ℕ → Bool) (t : ℕ) → is_run p t ≡ true
     → (holds_place p t ≡ true) × (holds_place p (t - 1) ≡ true) × (holds_place p (t - 2) ≡ true)
     × (holds_place p (t - 3) ≡ true) × (holds_place p (t - 4) ≡ true)
 run_parts p t h =
@@ -52,7 +52,7 @@ run_parts p t h =
     let d = and_parts (holds_place p t) (holds_place p (t - 1)) c.0 in
     (d.0, d.1, c.1, b.1, a.1)
 
-run_from : (p : ℕ → Bool) (t : ℕ) → holds_place p t ≡ true → holds_place p (t - 1) ≡ true → holds_place p (t - 2) ≡ true
+pub run_from : (p : ℕ → Bool) (t : ℕ) → holds_place p t ≡ true → holds_place p (t - 1) ≡ true → holds_place p (t - 2) ≡ true
     → holds_place p (t - 3) ≡ true → holds_place p (t - 4) ≡ true → is_run p t ≡ true
 run_from p t a b c d e =
     and_both _ _ (and_both _ _ (and_both _ _ (and_both _ _ a b) c) d) e

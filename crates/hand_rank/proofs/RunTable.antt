@@ -1,11 +1,12 @@
 -- The highest run from bits, computed over all sets of ranks.
-use Rattle.std.proofs.Common.{◌≡◌, ℕ, zero, suc, ◌-◌, ◌*◌, ◌/◌, ◌%◌, ◌^◌, ◌<◌, ◌≤◌, ◌⊎◌, inl, inr, Bool, true, false, ◌&&◌, eqb, leb, cond, Some, None, refl, sym, ap, ◌∙◌, eqb-true, leb-true, arith}
+use Rattle.std.proofs.Common.{◌≡◌, ℕ, zero, suc, ◌-◌, ◌*◌, ◌/◌, ◌%◌, ◌^◌, ◌<◌, ◌≤◌, ◌⊎◌, inl, inr, Bool, true, false, ◌&&◌, not, eqb, leb, cond, List, [], ◌∷◌, Some, None, refl, sym, ap, ◌∙◌, eqb-true, leb-true, arith}
 use Rattle.std.specs.Prelude.{Option, bit_and, bit_or}
 use Rattle.std.specs.Int.Count.{count_leading_zeros}
 use Rattle.std.proofs.lemmas.Nat.{and_le_r, or_lt}
 use Rattle.std.proofs.lemmas.Nat.Bits.{bit_at_above}
 use Rattle.std.proofs.lemmas.Bool.Decides.{nat_tests}
-use Rattle.hand_rank.specs.Runs.{highest_run}
+use Rattle.std.specs.List.{slice_index_or}
+use Rattle.hand_rank.specs.Runs.{highest_run, is_near}
 use Rattle.hand_rank.specs.Sets.{has_rank, HasRanks}
 use Rattle.hand_rank.proofs.RunLaws.{run-same, occurring}
 use Rattle.hand_rank.proofs.SetLaws.{top-within}
@@ -15,11 +16,11 @@ and_parts true b h = (refl, h)
 and_parts false b h = absurd cc
 
 -- a test that holds at each number below a bound
-unfoldable all_below : (ℕ → Bool) → ℕ → Bool
+unfoldable pub all_below : (ℕ → Bool) → ℕ → Bool
 all_below p zero = true
 all_below p (suc n) = p n && all_below p n
 
-holds_below : (p : ℕ → Bool) (n k : ℕ) → all_below p n ≡ true → k < n → p k ≡ true
+pub holds_below : (p : ℕ → Bool) (n k : ℕ) → all_below p n ≡ true → k < n → p k ≡ true
 unfolding all_below
 holds_below p zero k h below = absurd (omega arith)
 holds_below p (suc n) k h below =
@@ -125,3 +126,33 @@ run-within bits fits some =
     let within : places < 2 ^ 16 = or_lt 16 bits (bit_and (bits / 8192) 2) fits (omega arith) in
     let less = and_le_r (bit_and (bit_and (bit_and places (places / 2)) (places / 4)) (places / 8)) (places / 16) in
     top-within (runs_of places) some (omega arith)
+
+-- the ranks that are near each other
+abbrev near_table : List ℕ
+near_table = 0 ∷ 0 ∷ 16508 ∷ 16636 ∷ 16892 ∷ 17404 ∷ 2044 ∷ 4088 ∷ 8176 ∷ 16352 ∷ 32704 ∷ 32640 ∷ 32512 ∷ 32256
+    ∷ 31804 ∷ 0 ∷ []
+
+same_bool : Bool → Bool → Bool
+same_bool true b = b
+same_bool false b = not b
+
+same_bool-is : (a b : Bool) → same_bool a b ≡ true → a ≡ b
+unfolding same_bool
+same_bool-is true true is = refl
+same_bool-is true false is = absurd cc
+same_bool-is false true is = absurd cc
+same_bool-is false false is = refl
+
+near_test : ℕ → Bool
+near_test rank = all_below (λ r. same_bool (has_rank (slice_index_or near_table rank 0) r) (is_near rank r)) 16
+
+all_near : all_below near_test 16 ≡ true
+unfolding all_below near_test same_bool is_near
+all_near = refl
+
+-- the table has at each rank those that are near it
+pub near-ranks : (rank r : ℕ) → rank < 16 → r < 16 → has_rank (slice_index_or near_table rank 0) r ≡ is_near rank r
+unfolding near_test
+near-ranks rank r below under =
+    same_bool-is _ _ (holds_below (λ r. same_bool (has_rank (slice_index_or near_table rank 0) r) (is_near rank r)) 16 r
+    (holds_below near_test 16 rank all_near below) under)

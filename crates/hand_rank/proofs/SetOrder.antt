@@ -31,7 +31,7 @@ before-joined (x ∷ xs) [] us vs same is = absurd is
 before-joined (x ∷ xs) (y ∷ ys) us vs same (inl less) = inl less
 before-joined (x ∷ xs) (y ∷ ys) us vs same (inr at) = inr (at.0, before-joined xs ys us vs (omega arith) at.1)
 
-before-upto : (xs ys : List ℕ) → Before xs ys → Upto xs ys
+pub before-upto : (xs ys : List ℕ) → Before xs ys → Upto xs ys
 before-upto [] [] is = absurd is
 before-upto [] (y ∷ ys) is = tt
 before-upto (x ∷ xs) [] is = absurd is

@@ -1,10 +1,11 @@
 pub mod BestHigh
-pub mod Boards
 pub mod Counts
+pub mod Held
 pub mod Made
 pub mod Padded
 pub mod Picks
 pub mod Runs
 pub mod Sets
 pub mod Shown
+pub mod SoMany
 pub mod Values

@@ -1,5 +1,6 @@
 -- Runs of five ranks, with the ace also below the two (Robert's Rules of Poker, the ranking of hands).
-use Rattle.std.specs.Prelude.{ℕ, ◌-◌, Bool, ◌&&◌, ◌||◌, ◌==◌, nat_le, Option}
+use Rattle.std.specs.Prelude.{ℕ, ◌+◌, ◌-◌, Bool, ◌&&◌, ◌||◌, ◌==◌, nat_le, [], ◌∷◌, Option}
+use Rattle.std.specs.List.{list_any}
 use Rattle.hand_rank.specs.Picks.{highest_below}
 
 -- whether a place of a run is held: the ace counts below the two as well
@@ -16,3 +17,12 @@ is_run has top =
 unfoldable pub highest_run : (ℕ → Bool) → Option ℕ
 unfolding highest_below
 highest_run has = highest_below (λ top. nat_le 5 top && is_run has top) 15
+
+-- whether two ranks are in a run of five
+abbrev pub is_in_run : ℕ → ℕ → Bool
+is_in_run top rank =
+    (nat_le 2 rank && nat_le rank top && nat_le top (rank + 4)) || (top == 5 && rank == 14)
+
+-- whether a rank is in a run that another is in
+unfoldable pub is_near : ℕ → ℕ → Bool
+is_near rank other = list_any (λ top. is_in_run top rank && is_in_run top other) (5 ∷ 6 ∷ 7 ∷ 8 ∷ 9 ∷ 10 ∷ 11 ∷ 12 ∷ 13 ∷ 14 ∷ [])

@@ -9,6 +9,7 @@ mod best;
 mod board;
 mod category;
 mod five_cards;
+mod held;
 mod high_value;
 mod laws;
 mod numbers;

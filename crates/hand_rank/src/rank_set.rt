@@ -3,9 +3,15 @@
 ghost use Rattle.std.specs.Prelude.{◌≡◌, ◌<◌, ◌≤◌, ℕ, ◌&&◌, ◌||◌, ◌==◌, ◌∷◌, [], length, not, nat_le, nat_lt, true, false, IfSome};
 ghost use Rattle.hand_rank.specs.Picks.{highest_below, picked};
 ghost use Rattle.hand_rank.specs.Made.{value_of_suit};
-ghost use Rattle.hand_rank.specs.Runs.{highest_run};
+ghost use Rattle.hand_rank.specs.Runs.{highest_run, is_near};
 ghost use Rattle.hand_rank.specs.Sets.{has_rank, HasRanks};
 ghost use Rattle.hand_rank.specs.Shown.{ranks_of};
+ghost use Rattle.hand_rank.specs.SoMany.{IsGreatestWith};
+
+/// At each rank the ranks of the runs that it is in.
+const NEAR: [u16; 16] = [
+    0, 0, 16508, 16636, 16892, 17404, 2044, 4088, 8176, 16352, 32704, 32640, 32512, 32256, 31804, 0,
+];
 
 /// A set of ranks, from 2 to 14 for the ace: a rank is in it where the bit of its number is 1.
 #[derive(Clone, Copy, Debug)]
@@ -137,6 +143,41 @@ impl RankSet {
         } else {
             Some((15 - self.bits.leading_zeros()) as u8)
         }
+    }
+
+    /// How many ranks there are.
+    pub fn count(self) -> u8
+        ensures { result ≡ length (ranks_of self.bits) }
+    {
+        self.bits.count_ones() as u8
+    }
+
+    /// The ranks of the runs that a rank is in.
+    pub fn near(rank: u8) -> RankSet
+        requires { rank < 16 }
+        ensures { (r : ℕ) → r < 16 → has_rank result.bits r ≡ is_near rank r }
+    {
+        RankSet {
+            bits: NEAR[rank as usize],
+        }
+    }
+
+    /// The greatest so many ranks of the set that have all ranks of another among them. `None` where there are none.
+    pub fn greatest_with(self, forced: RankSet, count: u8) -> Option<RankSet>
+        ensures { IsGreatestWith result (has_rank self.bits) (has_rank forced.bits) count }
+    {
+        if !forced.minus(self).is_empty() {
+            return None;
+        }
+        let missing = count.checked_sub(forced.count())?;
+        let mut ranks = forced;
+        let mut free = self.minus(forced);
+        for _ in 0..missing {
+            let rank = free.highest()?;
+            free = free.without(rank);
+            ranks = ranks.with(rank);
+        }
+        Some(ranks)
     }
 
     /// The two highest ranks, if there are two.

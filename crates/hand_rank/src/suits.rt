@@ -57,7 +57,7 @@ impl Suits {
     }
 
     /// How often ranks occur. No card may come twice.
-    fn tally(self) -> Tally
+    pub fn tally(self) -> Tally
         ensures { (cards : List Card) → AreSuitsOf self.ranks cards → AreOnce cards
             → IsTallyOf result.once.bits result.twice.bits result.thrice.bits result.four.bits (count_of_rank cards) }
     {

@@ -1,0 +1,408 @@
+-- The hands of a pair of hole cards with three cards of a board.
+use Rattle.std.proofs.Common.{◌≡◌, ℕ, zero, suc, ◌+◌, ◌-◌, ◌<◌, ◌≤◌, ◌⊎◌, inl, inr, Bool, true, false, ◌&&◌, eqb, leb, ltb, cond, List, [], ◌∷◌, ◌++◌, length, Some, None, refl, sym, ap, ap₂, ◌∙◌, subst, zero-le, le_trans, le_of_eq, eqb-true, leb-true, length-append, arith}
+use Rattle.std.specs.Prelude.{Option, map}
+use Rattle.std.proofs.lemmas.Bool.Decides.{nat_tests}
+use Rattle.card_set.specs.declared.card.Card.{Card}
+use Rattle.card_choices.proofs.Combined.{combined}
+use Rattle.card_choices.proofs.ListOrder.{Upto, upto_through, upto_both, max_upper, max-above_left}
+use Rattle.card_choices.specs.Choices.{choices}
+use Rattle.hand_rank.specs.declared.category.Category.{Category}
+use Rattle.hand_rank.specs.declared.shown.Shown.{Shown}
+use Rattle.hand_rank.specs.BestHigh.{greater, best_high}
+use Rattle.hand_rank.specs.Held.{hands, has_number, value_in, best_in, value_of, IsBestIn, IsBest}
+use Rattle.hand_rank.specs.Made.{count_of_suit, AreOnce}
+use Rattle.hand_rank.specs.Shown.{ranks_of, shown_value, IsSized, IsShownBy}
+use Rattle.hand_rank.specs.Values.{category_number, category_of, count_of_rank, distinct_ranks, run_top, are_of_one_suit, value_by, five_card_value}
+use Rattle.hand_rank.proofs.CardCounts.{other-rank, once-few, total-cards}
+use Rattle.hand_rank.proofs.Chosen.{IsChoice, count-choice, occurs, choice-with, chosen-within, chosen-above}
+use Rattle.hand_rank.proofs.CountLaws.{count_of_rank-cons, value-by}
+use Rattle.hand_rank.proofs.Needs.{times, length-times, occurs-times}
+use Rattle.hand_rank.proofs.OmahaLaws.{choice-joined, choice-once, itself}
+use Rattle.hand_rank.proofs.PartLaws.{count-joined}
+use Rattle.hand_rank.proofs.Sections.{total, total-same}
+use Rattle.hand_rank.proofs.ShownValues.{AreShown}
+
+-- five cards that two hole cards and some three of a board are
+pub record IsHandOf (hole board five : List Card) : Type 0 where
+  pub shown : AreShown five
+  pub least : (r : ℕ) → count_of_rank hole r ≤ count_of_rank five r
+  pub most : (r : ℕ) → count_of_rank five r ≤ count_of_rank (hole ++ board) r
+  pub suits : (suit r : ℕ) → count_of_suit five suit r ≤ count_of_suit (hole ++ board) suit r
+  pub fewer : (a b : ℕ) → (a ≡ b → ⊥)
+      → count_of_rank five a + count_of_rank five b ≤ count_of_rank hole a + count_of_rank hole b + 3
+
+-- two ranks occur no more often than there are cards
+pub two-ranks : (cards : List Card) (a b : ℕ) → (a ≡ b → ⊥) → count_of_rank cards a + count_of_rank cards b ≤ length cards
+two-ranks [] a b apart = zero-le
+two-ranks (card ∷ cards) a b apart =
+    let later = two-ranks cards a b apart in
+    let first = count_of_rank-cons card cards a in
+    let second = count_of_rank-cons card cards b in
+    let not_both : eqb a b ≡ false = grind (arith, nat_tests) in
+    rw (first, second) (one card.rank (count_of_rank cards a) (count_of_rank cards b) (length cards) not_both later)
+  where
+    one : (r x y n : ℕ) → eqb a b ≡ false → x + y ≤ n → cond (eqb r a) 1 0 + x + (cond (eqb r b) 1 0 + y) ≤ suc n
+    one r x y n apart less = grind (arith, nat_tests)
+
+pub is-hand : (hole board three : List Card) → IsChoice three board → length three ≡ 3 → length hole ≡ 2
+    → AreOnce (hole ++ board) → IsHandOf hole board (hole ++ three)
+is-hand hole board three is count two once =
+    let all = choice-joined hole hole three board (itself hole) is in
+    record {
+      shown = record {
+        count = let both = length-append hole three in omega arith;
+        few = λ r. once-few (hole ++ three) r (choice-once (hole ++ three) (hole ++ board) all once);
+      };
+      least = λ r. let sum = count-joined hole three r in omega arith;
+      most = λ r. count-choice (λ (card : Card). eqb card.rank r) (hole ++ three) (hole ++ board) all;
+      suits = λ suit r. count-choice (λ (card : Card). eqb card.suit suit && eqb card.rank r) (hole ++ three)
+          (hole ++ board) all;
+      fewer = λ a b apart.
+          let some = two-ranks three a b apart in
+          let first = count-joined hole three a in
+          let second = count-joined hole three b in
+          omega (arith, some, first, second, count);
+    }
+
+-- a list that has each number below a bound so often
+unfoldable listed : (ℕ → ℕ) → ℕ → List ℕ
+listed often zero = []
+listed often (suc n) = times (often n) n (listed often n)
+
+length-listed : (often : ℕ → ℕ) (n : ℕ) → length (listed often n) ≡ total often n
+unfolding listed total
+length-listed often zero = refl
+length-listed often (suc n) = length-times (often n) n (listed often n)
+    ∙ ap (λ m. often n + m) (length-listed often n)
+
+occurs-listed : (often : ℕ → ℕ) (n r : ℕ) → occurs (listed often n) r ≡ cond (ltb r n) (often r) 0
+unfolding listed
+occurs-listed often zero r = let high : ltb r 0 ≡ false = grind (arith, nat_tests) in rw high refl
+occurs-listed often (suc n) r =
+    occurs-times (often n) n (listed often n) r ∙ ap (λ m. cond (eqb n r) (often n) 0 + m) (occurs-listed often n r)
+    ∙ (elim (eqb n r) as (λ b. eqb n r ≡ b
+    → cond b (often n) 0 + cond (ltb r n) (often r) 0 ≡ cond (ltb r (suc n)) (often r) 0) [
+      | true ↦ λ same.
+          let is : often n ≡ often r = ap often (eqb-true n r same) in
+          let not_yet : ltb r n ≡ false = grind (arith, nat_tests) in
+          let now : ltb r (suc n) ≡ true = grind (arith, nat_tests) in
+          rw (not_yet, now, is) (omega arith)
+      | false ↦ λ apart.
+          let alike : ltb r n ≡ ltb r (suc n) = grind (arith, nat_tests) in
+          rw alike (zero_more (cond (ltb r (suc n)) (often r) 0))
+    ]) refl
+  where
+    zero_more : (m : ℕ) → 0 + m ≡ m
+    zero_more m = omega arith
+
+-- what is nowhere more and comes to as much is the same
+pub total-least : (a b : ℕ → ℕ) (n : ℕ) → ((r : ℕ) → r < n → a r ≤ b r) → total a n ≤ total b n
+unfolding total
+total-least a b zero less = zero-le
+total-least a b (suc n) less =
+    let here = less n (omega arith) in let later = total-least a b n (λ r within. less r (omega arith)) in omega arith
+
+total-tight : (a b : ℕ → ℕ) (n r : ℕ) → ((s : ℕ) → s < n → a s ≤ b s) → total a n ≡ total b n → r < n → a r ≡ b r
+unfolding total
+total-tight a b zero r less same within = absurd (omega arith)
+total-tight a b (suc n) r less same within =
+    let here = less n (omega arith) in
+    let later = total-least a b n (λ s below. less s (omega arith)) in
+    elim (eqb r n) as (λ t. eqb r n ≡ t → a r ≡ b r) [
+      | true ↦ λ is. let at = eqb-true r n is in subst (λ m. a m ≡ b m) (sym at) (omega arith)
+      | false ↦ λ apart. total-tight a b n r (λ s below. less s (omega arith)) (omega arith) (grind (arith, nat_tests))
+    ] refl
+
+total-less : (a b : ℕ → ℕ) (n : ℕ) → ((r : ℕ) → b r ≤ a r) → total (λ r. a r - b r) n + total b n ≡ total a n
+unfolding total
+total-less a b zero less = refl
+total-less a b (suc n) less = let here = less n in let later = total-less a b n less in omega arith
+
+-- three cards of a board with which two hole cards have ranks so often
+pub record IsReached (hole board : List Card) (want : ℕ → ℕ) : Type 0 where
+  pub three : List Card
+  pub choice : IsChoice three board
+  pub count : length three ≡ 3
+  pub counts : (r : ℕ) → count_of_rank (hole ++ three) r ≡ want r
+
+-- some three cards are with the hole cards what is wanted, where that has the hole cards in it, and no more than there is
+pub hand-with : (hole board : List Card) (want : ℕ → ℕ) → length hole ≡ 2 → 3 ≤ length board
+    → ((r : ℕ) → count_of_rank hole r ≤ want r) → ((r : ℕ) → want r ≤ count_of_rank (hole ++ board) r)
+    → total want 15 ≡ 5 → IsReached hole board want
+hand-with hole board want two enough least most five =
+    let left : ℕ → ℕ = λ r. want r - count_of_rank hole r in
+    let needs = listed left 15 in
+    let occur = occurs-listed left 15 in
+    let few : length needs ≡ 3 =
+    let a = total-less want (count_of_rank hole) 15 least in
+    let b = total-cards hole in
+    let c = length-listed left 15 in
+    omega (arith, a, b, c, two, five) in
+    let at = choice-with (λ (card : Card). card.rank) needs 3 board (omega arith) enough
+    (λ r. le_trans (le_of_eq (occur r)) (room (ltb r 15) r)) in
+    let three = at.0 in
+    let both : total (occurs needs) 15 ≡ total (count_of_rank three) 15 =
+    let a = total-same (occurs needs) left 15 (λ r below. occur r ∙ inside r below) in
+    let b = length-listed left 15 in
+    let c = total-cards three in
+    let d = at.2 in
+    omega (arith, a, b, c, d, few) in
+    record {
+      three = three;
+      choice = at.1;
+      count = at.2;
+      counts = λ r. elim (leb 15 r) as (λ b. leb 15 r ≡ b → count_of_rank (hole ++ three) r ≡ want r) [
+        | true ↦ λ high.
+            let none = other-rank (hole ++ board) r (inl (leb-true 15 r high)) in
+            let nothing = other-rank (hole ++ three) r (inl (leb-true 15 r high)) in
+            let room = most r in
+            omega arith
+        | false ↦ λ low.
+            let below : r < 15 = grind (arith, nat_tests) in
+            let same = total-tight (occurs needs) (count_of_rank three) 15 r (λ s within. at.3 s) both below in
+            let here : occurs needs r ≡ want r - count_of_rank hole r = occur r ∙ inside r below in
+            let sum = count-joined hole three r in
+            let some = least r in
+            omega (arith, same, here, sum, some)
+      ] refl;
+    }
+  where
+    inside : (r : ℕ) → r < 15 → cond (ltb r 15) (want r - count_of_rank hole r) 0 ≡ want r - count_of_rank hole r
+    inside r below = let is : ltb r 15 ≡ true = grind (arith, nat_tests) in rw is refl
+
+    room : (b : Bool) (r : ℕ) → cond b (want r - count_of_rank hole r) 0 ≤ count_of_rank board r
+    room true r = let sum = count-joined hole board r in let up = most r in omega arith
+    room false r = zero-le
+
+-- the number of a value's category
+pub record IsNumbered (five : List Card) : Type 0 where
+  pub number : ℕ
+  pub ranks : List ℕ
+  pub is : five_card_value five ≡ number ∷ ranks
+  pub few : number ≤ 8
+
+few-category : (category : Category) → category_number category ≤ 8
+few-category Category.HighCard = omega arith
+few-category Category.OnePair = omega arith
+few-category Category.TwoPair = omega arith
+few-category Category.ThreeOfAKind = omega arith
+few-category Category.Straight = omega arith
+few-category Category.Flush = omega arith
+few-category Category.FullHouse = omega arith
+few-category Category.FourOfAKind = omega arith
+few-category Category.StraightFlush = omega arith
+
+pub numbered-five : (five : List Card) → IsNumbered five
+numbered-five five =
+    let ranks = distinct_ranks five in
+    by (category_of (map (count_of_rank five) ranks)) (run_top ranks) (are_of_one_suit five) ranks
+    (value-by five ranks (map (count_of_rank five) ranks) (category_of (map (count_of_rank five) ranks)) refl refl refl)
+  where
+    by : (category : Option Category) (top : Option ℕ) (one : Bool) (ranks : List ℕ)
+        → value_by category top one ranks ≡ five_card_value five → IsNumbered five
+    by (Some category) top one ranks is = record {
+      number = category_number category;
+      ranks = ranks;
+      is = sym is;
+      few = few-category category;
+    }
+    by None (Some top) true ranks is = record { number = 8; ranks = top ∷ []; is = sym is; few = omega arith }
+    by None (Some top) false ranks is = record { number = 4; ranks = top ∷ []; is = sym is; few = omega arith }
+    by None None true ranks is = record { number = 5; ranks = ranks; is = sym is; few = omega arith }
+    by None None false ranks is = record { number = 0; ranks = ranks; is = sym is; few = omega arith }
+
+best-combined : (hand : List Card → List Card) (threes : List (List Card))
+    → best_high (map hand threes) ≡ combined greater [] (λ three. five_card_value (hand three)) threes
+unfolding best_high
+best-combined hand [] = refl
+best-combined hand (three ∷ threes) = ap (greater (five_card_value (hand three))) (best-combined hand threes)
+
+best_in-combined : (number : ℕ) (hand : List Card → List Card) (threes : List (List Card))
+    → best_in number (map hand threes) ≡ combined greater [] (λ three. value_in number (hand three)) threes
+unfolding best_in
+best_in-combined number hand [] = refl
+best_in-combined number hand (three ∷ threes) =
+    ap (greater (value_in number (hand three))) (best_in-combined number hand threes)
+
+-- what bounds the value of each hand bounds the best
+all-within : (hole board : List Card) (bound : List ℕ)
+    → ((three : List Card) → IsChoice three board → length three ≡ 3 → Upto (five_card_value (hole ++ three)) bound)
+    → Upto (best_high (hands hole board)) bound
+all-within hole board bound each =
+    subst (λ v. Upto v bound) (sym (best-combined (λ three. hole ++ three) (choices 3 board)))
+    (chosen-within (λ three. five_card_value (hole ++ three)) 3 board bound each)
+
+some-above : (hole board three : List Card) → IsChoice three board → length three ≡ 3
+    → Upto (five_card_value (hole ++ three)) (best_high (hands hole board))
+some-above hole board three is count =
+    subst (λ v. Upto (five_card_value (hole ++ three)) v)
+    (sym (best-combined (λ three. hole ++ three) (choices 3 board)))
+    (subst (λ n. Upto (five_card_value (hole ++ three))
+    (combined greater [] (λ three. five_card_value (hole ++ three)) (choices n board))) count
+    (chosen-above (λ three. five_card_value (hole ++ three)) three board is))
+
+-- and the same for a category
+in-number : (number : ℕ) (five : List Card) (ranks : List ℕ) → five_card_value five ≡ number ∷ ranks
+    → value_in number five ≡ five_card_value five
+in-number number five ranks is =
+    ap (λ v. cond (has_number number v) v []) is ∙ same (number ∷ ranks) (itself_number number) ∙ sym is
+  where
+    itself_number : (n : ℕ) → eqb n n ≡ true
+    itself_number n = grind (arith, nat_tests)
+
+    same : (v : List ℕ) → eqb number number ≡ true → cond (eqb number number) v [] ≡ v
+    same v is = rw is refl
+
+number-within : (number : ℕ) (five : List Card) (bound : List ℕ)
+    → ((ranks : List ℕ) → five_card_value five ≡ number ∷ ranks → Upto (number ∷ ranks) bound)
+    → Upto (value_in number five) bound
+number-within number five bound each =
+    let at = numbered-five five in
+    subst (λ v. Upto (cond (has_number number v) v []) bound) (sym at.is)
+    (elim (eqb at.number number) as (λ b. eqb at.number number ≡ b
+    → Upto (cond b (at.number ∷ at.ranks) []) bound) [
+      | true ↦ λ same.
+          let is = eqb-true at.number number same in
+          subst (λ n. Upto (n ∷ at.ranks) bound) (sym is) (each at.ranks (at.is ∙ ap (λ n. n ∷ at.ranks) is))
+      | false ↦ λ apart. tt
+    ] refl)
+
+all-within_in : (number : ℕ) (hole board : List Card) (bound : List ℕ)
+    → ((three : List Card) (ranks : List ℕ) → IsChoice three board → length three ≡ 3
+    → five_card_value (hole ++ three) ≡ number ∷ ranks → Upto (number ∷ ranks) bound)
+    → Upto (best_in number (hands hole board)) bound
+all-within_in number hole board bound each =
+    subst (λ v. Upto v bound) (sym (best_in-combined number (λ three. hole ++ three) (choices 3 board)))
+    (chosen-within (λ three. value_in number (hole ++ three)) 3 board bound
+    (λ three is count. number-within number (hole ++ three) bound (λ ranks at. each three ranks is count at)))
+
+some-above_in : (number : ℕ) (hole board three : List Card) (ranks : List ℕ) → IsChoice three board → length three ≡ 3
+    → five_card_value (hole ++ three) ≡ number ∷ ranks
+    → Upto (five_card_value (hole ++ three)) (best_in number (hands hole board))
+some-above_in number hole board three ranks is count at =
+    subst (λ v. Upto v (best_in number (hands hole board))) (in-number number (hole ++ three) ranks at)
+    (subst (λ v. Upto (value_in number (hole ++ three)) v)
+    (sym (best_in-combined number (λ three. hole ++ three) (choices 3 board)))
+    (subst (λ n. Upto (value_in number (hole ++ three))
+    (combined greater [] (λ three. value_in number (hole ++ three)) (choices n board))) count
+    (chosen-above (λ three. value_in number (hole ++ three)) three board is)))
+
+-- what comes no later
+pub upto-of : (v w : List ℕ) → greater v w ≡ w → Upto v w
+upto-of v w is = subst (λ x. Upto v x) is (max-above_left v w)
+
+-- no hand is of a category
+pub no-best : (number : ℕ) (best : Option Shown) (hole board : List Card) → best ≡ None
+    → ((three : List Card) (ranks : List ℕ) → IsChoice three board → length three ≡ 3
+    → five_card_value (hole ++ three) ≡ number ∷ ranks → ⊥) → IsBestIn number best (hands hole board)
+no-best number best hole board is none =
+    subst (λ o. IsBestIn number o (hands hole board)) (sym is) (record {
+      over = max_upper (best_in number (hands hole board)) [] (all-within_in number hole board []
+          (λ three ranks chosen count at. absurd (none three ranks chosen count at)));
+      under = max_upper [] (best_high (hands hole board)) tt;
+      sized = λ shown found. absurd (let bad : None ≡ Some shown = found in cc);
+      category = λ shown found. absurd (let bad : None ≡ Some shown = found in cc);
+    })
+
+-- some three cards show no less than this with the hole cards
+pub record Reaches (shown : Shown) (hole board : List Card) : Type 0 where
+  pub three : List Card
+  pub choice : IsChoice three board
+  pub count : length three ≡ 3
+  pub up : Upto (shown_value shown) (five_card_value (hole ++ three))
+
+-- some hand shows no less, and no hand of the category more
+pub some-best : (number : ℕ) (shown : Shown) (hole board : List Card) → category_number shown.category ≡ number
+    → IsSized shown → Reaches shown hole board
+    → ((three : List Card) (ranks : List ℕ) → IsChoice three board → length three ≡ 3
+    → five_card_value (hole ++ three) ≡ number ∷ ranks → Upto (number ∷ ranks) (shown_value shown))
+    → IsBestIn number (Some shown) (hands hole board)
+some-best number shown hole board category sized reach bound = record {
+  over = max_upper (best_in number (hands hole board)) (shown_value shown)
+      (all-within_in number hole board (shown_value shown) bound);
+  under = max_upper (shown_value shown) (best_high (hands hole board))
+      (upto_through (shown_value shown) (five_card_value (hole ++ reach.three)) (best_high (hands hole board)) reach.up
+      (some-above hole board reach.three reach.choice reach.count));
+  sized = λ other is. subst (λ s. IsSized s) (same other is) sized;
+  category = λ other is. subst (λ (s : Shown). category_number s.category ≡ number) (same other is) category;
+}
+  where
+    same : (other : Shown) → Some shown ≡ Some other → shown ≡ other
+    same other is = cc
+
+-- no hand is of a category from a number on
+pub record NoneFrom (number : ℕ) (hole board : List Card) : Type 0 where
+  pub at : (n : ℕ) → number ≤ n → best_in n (hands hole board) ≡ []
+
+nothing : (v : List ℕ) → Upto v [] → v ≡ []
+nothing [] up = refl
+nothing (x ∷ xs) up = absurd up
+
+pub none-beyond : (hole board : List Card) → NoneFrom 9 hole board
+none-beyond hole board = record {
+  at = λ n high. nothing (best_in n (hands hole board)) (all-within_in n hole board [] (λ three ranks is count at.
+      let five = numbered-five (hole ++ three) in
+      let few = five.few in
+      let same : n ≡ five.number = head (sym at ∙ five.is) in
+      absurd (omega arith)));
+}
+  where
+    head : {x y : ℕ} {xs ys : List ℕ} → x ∷ xs ≡ y ∷ ys → x ≡ y
+    head is = cc
+
+pub none-more : (number : ℕ) (best : Option Shown) (hole board : List Card) → NoneFrom (suc number) hole board
+    → IsBestIn number best (hands hole board) → best ≡ None → NoneFrom number hole board
+none-more number best hole board above is none = record {
+  at = λ n from. elim (eqb n number) as (λ b. eqb n number ≡ b → best_in n (hands hole board) ≡ []) [
+    | true ↦ λ same. ap (λ m. best_in m (hands hole board)) (eqb-true n number same)
+        ∙ nothing (best_in number (hands hole board)) (subst (λ v. Upto (best_in number (hands hole board)) v)
+        (ap value_of none) (upto-of (best_in number (hands hole board)) (value_of best) is.over))
+    | false ↦ λ apart. above.at n (grind (arith, nat_tests))
+  ] refl;
+}
+
+-- the best of the highest category that there is, is the best
+pub best-first : (number : ℕ) (best : Option Shown) (shown : Shown) (hole board : List Card)
+    → NoneFrom (suc number) hole board → IsBestIn number best (hands hole board) → best ≡ Some shown
+    → IsBest shown (hands hole board)
+best-first number best shown hole board above is some = record {
+  value =
+      let under = subst (λ v. Upto v (best_high (hands hole board))) (ap value_of some)
+      (upto-of (value_of best) (best_high (hands hole board)) is.under) in
+      let over = subst (λ v. Upto (best_in number (hands hole board)) v) (ap value_of some)
+      (upto-of (best_in number (hands hole board)) (value_of best) is.over) in
+      upto_both (shown_value shown) (best_high (hands hole board)) under
+      (all-within hole board (shown_value shown) (λ three chosen count.
+      let five = numbered-five (hole ++ three) in
+      let up = some-above_in five.number hole board three five.ranks chosen count five.is in
+      let as_number = is.category shown some in
+      elim (ltb five.number number) as (λ b. ltb five.number number ≡ b
+      → Upto (five_card_value (hole ++ three)) (shown_value shown)) [
+        | true ↦ λ less. subst (λ v. Upto v (shown_value shown)) (sym five.is) (inl (grind (arith, nat_tests)))
+        | false ↦ λ not_less. elim (eqb five.number number) as (λ b. eqb five.number number ≡ b
+            → Upto (five_card_value (hole ++ three)) (shown_value shown)) [
+              | true ↦ λ same. upto_through (five_card_value (hole ++ three)) (best_in number (hands hole board))
+                  (shown_value shown)
+                  (subst (λ n. Upto (five_card_value (hole ++ three)) (best_in n (hands hole board)))
+                  (eqb-true five.number number same) up) over
+              | false ↦ λ apart.
+                  let none = above.at five.number (grind (arith, nat_tests)) in
+                  absurd (subst (λ v. Upto v []) five.is
+                  (subst (λ v. Upto (five_card_value (hole ++ three)) v) none up))
+            ] refl
+      ] refl));
+  sized = is.sized shown some;
+}
+
+-- there is a hand
+pub some-hand : (hole board : List Card) → 3 ≤ length board → NoneFrom 0 hole board → ⊥
+some-hand hole [] enough none = omega arith
+some-hand hole (a ∷ []) enough none = omega arith
+some-hand hole (a ∷ b ∷ []) enough none = omega arith
+some-hand hole (a ∷ b ∷ c ∷ board) enough none =
+    let three = a ∷ b ∷ c ∷ [] in
+    let five = numbered-five (hole ++ three) in
+    let up = some-above_in five.number hole (a ∷ b ∷ c ∷ board) three five.ranks
+    (inl (refl, inl (refl, inl (refl, tt)))) refl five.is in
+    subst (λ v. Upto v []) five.is
+    (subst (λ v. Upto (five_card_value (hole ++ three)) v) (none.at five.number zero-le) up)

@@ -1,0 +1,273 @@
+-- So many ranks of some, with others among them: which are the greatest.
+use Rattle.std.proofs.Common.{◌≡◌, ℕ, zero, suc, ◌+◌, ◌<◌, ◌≤◌, inl, inr, Bool, true, false, ◌&&◌, ◌||◌, not, eqb, cond, List, [], ◌∷◌, length, Some, None, refl, sym, ap, ap₂, ◌∙◌, subst, eqb-true, zero-le, le_refl, arith}
+use Rattle.std.specs.Prelude.{Option}
+use Rattle.std.proofs.lemmas.Bool.Decides.{nat_tests}
+use Rattle.card_choices.proofs.ListOrder.{Upto, max_upper}
+use Rattle.hand_rank.specs.declared.rank_set.RankSet.{RankSet}
+use Rattle.hand_rank.specs.BestHigh.{greater}
+use Rattle.hand_rank.specs.Sets.{has_rank}
+use Rattle.hand_rank.specs.Shown.{falling, ranks_of}
+use Rattle.hand_rank.specs.SoMany.{AreSoMany, IsGreatestWith}
+use Rattle.hand_rank.proofs.PickLaws.{IsHighest}
+use Rattle.hand_rank.proofs.Sections.{falling-same, falling-leads}
+use Rattle.hand_rank.proofs.SetOrder.{falling-before, before-upto}
+
+-- 1 where a test passes
+abbrev pub bit : Bool → ℕ
+bit b = cond b 1 0
+
+-- a choice of truth values is one of two
+pub either_way : (b : Bool) (P : Type 0) → (b ≡ true → P) → (b ≡ false → P) → P
+either_way b P one other = elim b as (λ t. b ≡ t → P) [ true ↦ λ is. one is | false ↦ λ is. other is ] refl
+
+-- fewer numbers pass a stricter test
+pub falling-fewer : (p q : ℕ → Bool) (n : ℕ) → ((r : ℕ) → r < n → p r ≡ true → q r ≡ true)
+    → length (falling p n) ≤ length (falling q n)
+unfolding falling
+falling-fewer p q zero more = zero-le
+falling-fewer p q (suc n) more =
+    let later = falling-fewer p q n (λ r within. more r (omega arith)) in
+    (elim (p n) as (λ b. p n ≡ b
+    → length (cond b (n ∷ falling p n) (falling p n)) ≤ length (cond (q n) (n ∷ falling q n) (falling q n))) [
+      | true ↦ λ is. let also = more n (omega arith) is in rw also (omega arith)
+      | false ↦ λ is_not. elim (q n) as
+          (λ b. length (falling p n) ≤ length (cond b (n ∷ falling q n) (falling q n))) [
+            | true ↦ omega arith
+            | false ↦ later
+          ]
+    ]) refl
+
+-- how many numbers pass tests that differ at one number
+pub falling-but_one : (p q : ℕ → Bool) (x n : ℕ) → x < n → ((r : ℕ) → (r ≡ x → ⊥) → q r ≡ p r)
+    → length (falling q n) + bit (p x) ≡ length (falling p n) + bit (q x)
+unfolding falling
+falling-but_one p q x zero within same = absurd (omega arith)
+falling-but_one p q x (suc n) within same =
+    elim (eqb n x) as (λ b. eqb n x ≡ b → length (cond (q n) (n ∷ falling q n) (falling q n)) + bit (p x)
+    ≡ length (cond (p n) (n ∷ falling p n) (falling p n)) + bit (q x)) [
+      | true ↦ λ is_x.
+          let at : n ≡ x = eqb-true n x is_x in
+          let alike = falling-same q p n (λ r below. same r (λ e. absurd (omega arith))) in
+          subst (λ x. length (cond (q n) (n ∷ falling q n) (falling q n)) + bit (p x)
+          ≡ length (cond (p n) (n ∷ falling p n) (falling p n)) + bit (q x)) at
+          (here (p n) (q n) n (falling p n) (falling q n) (ap length alike))
+      | false ↦ λ apart.
+          let later = falling-but_one p q x n (grind (arith, nat_tests)) same in
+          let alike = same n (λ e. let bad : eqb n x ≡ true = grind (arith, nat_tests) in absurd cc) in
+          subst (λ b. length (cond b (n ∷ falling q n) (falling q n)) + bit (p x)
+          ≡ length (cond (p n) (n ∷ falling p n) (falling p n)) + bit (q x)) (sym alike)
+          (on (p n) n (falling p n) (falling q n) (bit (p x)) (bit (q x)) later)
+    ] refl
+  where
+    here : (a b : Bool) (n : ℕ) (xs ys : List ℕ) → length ys ≡ length xs
+        → length (cond b (n ∷ ys) ys) + bit a ≡ length (cond a (n ∷ xs) xs) + bit b
+    here true true n xs ys is = omega arith
+    here true false n xs ys is = omega arith
+    here false true n xs ys is = omega arith
+    here false false n xs ys is = omega arith
+
+    on : (a : Bool) (n : ℕ) (xs ys : List ℕ) (x y : ℕ) → length ys + x ≡ length xs + y
+        → length (cond a (n ∷ ys) ys) + x ≡ length (cond a (n ∷ xs) xs) + y
+    on true n xs ys x y is = omega arith
+    on false n xs ys x y is = is
+
+-- numbers come no later where each that is only among them is lower than each that is only among the others
+pub falling-upto : (s c : ℕ → Bool) (n : ℕ)
+    → ((r q : ℕ) → r < n → q < n → s r ≡ true → c r ≡ false → c q ≡ true → s q ≡ false → r < q)
+    → length (falling s n) ≤ length (falling c n) → Upto (falling s n) (falling c n)
+unfolding falling
+falling-upto s c zero lower few = tt
+falling-upto s c (suc n) lower few =
+    (elim (s n) as (λ a. s n ≡ a
+    → length (cond a (n ∷ falling s n) (falling s n)) ≤ length (cond (c n) (n ∷ falling c n) (falling c n))
+    → Upto (cond a (n ∷ falling s n) (falling s n)) (cond (c n) (n ∷ falling c n) (falling c n))) [
+      | true ↦ λ in_s. elim (c n) as (λ b. c n ≡ b
+          → length (n ∷ falling s n) ≤ length (cond b (n ∷ falling c n) (falling c n))
+          → Upto (n ∷ falling s n) (cond b (n ∷ falling c n) (falling c n))) [
+            | true ↦ λ in_c less. inr (
+              refl,
+              falling-upto s c n (λ r q below under. lower r q (omega arith) (omega arith)) (omega arith),
+            )
+            | false ↦ λ not_c less.
+                let fewer = falling-fewer c s n (λ q under in_c. either_way (s q) (s q ≡ true) (λ is. is)
+                (λ is_not. let above = lower n q (omega arith) (omega arith) in_s not_c in_c is_not in
+                absurd (omega arith))) in
+                absurd (omega arith)
+          ] refl
+      | false ↦ λ not_s. elim (c n) as (λ b. c n ≡ b
+          → length (falling s n) ≤ length (cond b (n ∷ falling c n) (falling c n))
+          → Upto (falling s n) (cond b (n ∷ falling c n) (falling c n))) [
+            | true ↦ λ in_c less. before-upto (falling s n) (n ∷ falling c n)
+                (falling-before s n n (falling c n) (le_refl n))
+            | false ↦ λ not_c less. falling-upto s c n
+                (λ r q below under. lower r q (omega arith) (omega arith)) less
+          ] refl
+    ]) refl few
+
+-- some ranks that have been taken, each higher than those that are still free
+pub record AreTaken (from forced taken free : ℕ → Bool) (count : ℕ) : Type 0 where
+  pub within : (r : ℕ) → r < 16 → taken r ≡ true → from r ≡ true
+  pub among : (r : ℕ) → r < 16 → forced r ≡ true → taken r ≡ true
+  pub left : (r : ℕ) → r < 16 → free r ≡ (from r && not (taken r))
+  pub above : (r q : ℕ) → r < 16 → q < 16 → free r ≡ true → taken q ≡ true → forced q ≡ false → r < q
+  pub many : length (falling taken 16) ≡ length (falling forced 16) + count
+
+pub taken-none : (from forced free : ℕ → Bool) → ((r : ℕ) → r < 16 → forced r ≡ true → from r ≡ true)
+    → ((r : ℕ) → r < 16 → free r ≡ (from r && not (forced r))) → AreTaken from forced forced free 0
+taken-none from forced free inside left = record {
+  within = inside;
+  among = λ r within is. is;
+  left = left;
+  above = λ r q below under is has has_not. absurd cc;
+  many = omega arith;
+}
+
+-- the highest free rank is taken
+pub taken-more : (from forced taken free more fewer : ℕ → Bool) (count rank : ℕ) → AreTaken from forced taken free count
+    → IsHighest free 16 rank → ((r : ℕ) → r < 16 → fewer r ≡ (free r && not (eqb r rank)))
+    → ((r : ℕ) → more r ≡ (taken r || eqb r rank)) → AreTaken from forced more fewer (count + 1)
+taken-more from forced taken free more fewer count rank so_far top without with = record {
+  within = λ r below is. either_way (taken r) (from r ≡ true) (so_far.within r below)
+      (λ not_yet. let same = eqb-true r rank (one (taken r) (eqb r rank) (sym (with r) ∙ is) not_yet) in
+      subst (λ s. from s ≡ true) (sym same)
+      (both (from rank) (taken rank) (sym (so_far.left rank top.below) ∙ top.passes)).0);
+  among = λ r below is. with r ∙ ap (λ b. b || eqb r rank) (so_far.among r below is);
+  left = λ r below. without r below ∙ ap (λ b. b && not (eqb r rank)) (so_far.left r below)
+      ∙ and_not (from r) (taken r) (eqb r rank) ∙ ap (λ b. from r && not b) (sym (with r));
+  above = λ r q below under is has has_not.
+      let free_r = two (free r) (eqb r rank) (sym (without r below) ∙ is) in
+      either_way (taken q) (r < q) (λ before. so_far.above r q below under free_r.0 before has_not)
+      (λ not_yet.
+      let same = eqb-true q rank (one (taken q) (eqb q rank) (sym (with q) ∙ has) not_yet) in
+      let up = top.above r below free_r.0 in
+      let apart = free_r.1 in
+      grind (arith, nat_tests));
+  many =
+      let not_yet = (both (from rank) (taken rank) (sym (so_far.left rank top.below) ∙ top.passes)).1 in
+      let now : more rank ≡ true = with rank ∙ itself (taken rank) rank in
+      let all = falling-but_one taken more rank 16 top.below
+      (λ r apart. with r ∙ other (taken r) r rank apart) in
+      let a : bit (taken rank) ≡ 0 = ap bit not_yet in
+      let b : bit (more rank) ≡ 1 = ap bit now in
+      let before = so_far.many in
+      omega (arith, all, a, b, before);
+}
+  where
+    one : (a b : Bool) → (a || b) ≡ true → a ≡ false → b ≡ true
+    one true b is not_a = absurd cc
+    one false b is not_a = is
+
+    two : (a b : Bool) → (a && not b) ≡ true → (a ≡ true) × (b ≡ false)
+    two true true is = absurd cc
+    two true false is = (refl, refl)
+    two false b is = absurd cc
+
+    both : (a b : Bool) → (a && not b) ≡ true → (a ≡ true) × (b ≡ false)
+    both a b is = two a b is
+
+    and_not : (a b c : Bool) → ((a && not b) && not c) ≡ (a && not (b || c))
+    and_not true true c = refl
+    and_not true false c = refl
+    and_not false b c = refl
+
+    itself : (b : Bool) (rank : ℕ) → (b || eqb rank rank) ≡ true
+    itself b rank = grind (arith, nat_tests)
+
+    other : (b : Bool) (r rank : ℕ) → (r ≡ rank → ⊥) → (b || eqb r rank) ≡ b
+    other true r rank apart = refl
+    other false r rank apart = grind (arith, nat_tests)
+
+-- where none is free, all are taken
+pub taken-all : (from forced taken free : ℕ → Bool) (count : ℕ) → AreTaken from forced taken free count
+    → ((r : ℕ) → r < 16 → free r ≡ false) → length (falling from 16) ≤ length (falling forced 16) + count
+taken-all from forced taken free count so_far none =
+    let fewer = falling-fewer from taken 16 (λ r below is. last (from r) (taken r)
+    (sym (so_far.left r below) ∙ none r below) is) in
+    let all = so_far.many in
+    omega (arith, fewer, all)
+  where
+    last : (a b : Bool) → (a && not b) ≡ false → a ≡ true → b ≡ true
+    last true true fails is = refl
+    last true false fails is = absurd cc
+    last false b fails is = absurd cc
+
+-- when so many are taken, they are the greatest
+pub taken-greatest : (set : RankSet) (from forced free : ℕ → Bool) (count more : ℕ)
+    → AreTaken from forced (has_rank set.bits) free more → length (falling forced 16) + more ≡ count
+    → IsGreatestWith (Some set) from forced count
+taken-greatest set from forced free count more taken sum = record {
+  are = λ other is. subst (λ (s : RankSet). AreSoMany (has_rank s.bits) from forced count) (same set other is) (record {
+    within = taken.within;
+    among = taken.among;
+    many = taken.many ∙ sum;
+  });
+  greatest = λ other ranks is are. subst (λ (s : RankSet). max_is (falling ranks 16) (falling (has_rank s.bits) 16))
+      (same set other is) (upper ranks are);
+  some = λ inside low high. (set, refl);
+}
+  where
+    same : (one other : RankSet) → Some one ≡ Some other → one ≡ other
+    same one other is = cc
+
+    max_is : List ℕ → List ℕ → Type 0
+    max_is xs ys = greater xs ys ≡ ys
+
+    upper : (ranks : ℕ → Bool) → AreSoMany ranks from forced count
+        → max_is (falling ranks 16) (falling (has_rank set.bits) 16)
+    upper ranks are = max_upper (falling ranks 16) (falling (has_rank set.bits) 16)
+        (falling-upto ranks (has_rank set.bits) 16 (λ r q below under in_ranks not_set in_set not_ranks.
+        let free_r = taken.left r below ∙ ap₂ (λ a b. a && not b) (are.within r below in_ranks) not_set in
+        taken.above r q below under free_r in_set
+        (either_way (forced q) (forced q ≡ false) (λ is. let bad = are.among q under is in absurd cc) (λ is. is)))
+        (let a = are.many in let b = taken.many in omega (arith, a, b, sum)))
+
+-- there are none where they cannot be
+pub greatest-none : (from forced : ℕ → Bool) (count : ℕ)
+    → (((rank : ℕ) → rank < 16 → forced rank ≡ true → from rank ≡ true) → length (falling forced 16) ≤ count
+    → count ≤ length (falling from 16) → ⊥) → IsGreatestWith None from forced count
+greatest-none from forced count cannot = record {
+  are = λ set is. absurd (bad set is);
+  greatest = λ set ranks is are. absurd (bad set is);
+  some = λ inside low high. absurd (cannot inside low high);
+}
+  where
+    bad : (set : RankSet) → None ≡ Some set → ⊥
+    bad set is = cc
+
+-- a set that has ranks has one
+pub some-rank : (bits : ℕ) → 1 ≤ length (ranks_of bits) → (rank : ℕ) × (rank < 16) × (has_rank bits rank ≡ true)
+some-rank bits some =
+    (elim (ranks_of bits) as (λ ranks. ranks_of bits ≡ ranks → 1 ≤ length ranks
+    → (rank : ℕ) × (rank < 16) × (has_rank bits rank ≡ true)) [
+      | [] ↦ λ none few. absurd (omega arith)
+      | rank ∷ ranks ↦ λ are few. let leads = falling-leads (has_rank bits) 16 rank ranks are in
+          (rank, leads.first.below, leads.first.passes)
+    ]) refl some
+
+-- a rank that is among some and not among others
+pub both-are : (a b : Bool) → (a && not b) ≡ true → (a ≡ true) × (b ≡ false)
+both-are true false is = (refl, refl)
+both-are true true is = absurd cc
+both-are false b is = absurd cc
+
+-- the same of tests that are alike
+pub greatest-same : (result : Option RankSet) (from as_from forced as_forced : ℕ → Bool) (count : ℕ)
+    → ((r : ℕ) → r < 16 → from r ≡ as_from r) → ((r : ℕ) → r < 16 → forced r ≡ as_forced r)
+    → IsGreatestWith result from forced count → IsGreatestWith result as_from as_forced count
+greatest-same result from as_from forced as_forced count one other is = record {
+  are = λ set found.
+      let all = is.are set found in
+      record {
+        within = λ r below has. sym (one r below) ∙ all.within r below has;
+        among = λ r below has. all.among r below (other r below ∙ has);
+        many = all.many;
+      };
+  greatest = λ set ranks found are. is.greatest set ranks found (record {
+    within = λ r below has. one r below ∙ are.within r below has;
+    among = λ r below has. are.among r below (sym (other r below) ∙ has);
+    many = are.many;
+  });
+  some = λ inside low high. is.some (λ r below has. one r below ∙ inside r below (sym (other r below) ∙ has))
+      (subst (λ ranks. length ranks ≤ count) (sym (falling-same forced as_forced 16 other)) low)
+      (subst (λ ranks. count ≤ length ranks) (sym (falling-same from as_from 16 one)) high);
+}
