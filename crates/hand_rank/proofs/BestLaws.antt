@@ -22,10 +22,6 @@ best_high-append (cards ∷ some) others =
     ap (greater (five_card_value cards)) (best_high-append some others)
     ∙ sym (max_assoc (five_card_value cards) (best_high some) (best_high others))
 
-pub best_high-one : (cards : List Card) → best_high (cards ∷ []) ≡ five_card_value cards
-unfolding best_high
-best_high-one cards = max_lower (five_card_value cards) [] tt
-
 pub best_high-none : best_high [] ≡ []
 unfolding best_high
 best_high-none = refl

@@ -11,7 +11,7 @@ use Rattle.hand_rank.specs.declared.shown.Shown.{Shown}
 use Rattle.hand_rank.specs.BestHigh.{greater, best_high}
 use Rattle.hand_rank.specs.Held.{hands, has_number, value_in, best_in, value_of, IsBestIn, IsBest}
 use Rattle.hand_rank.specs.Made.{count_of_suit, AreOnce}
-use Rattle.hand_rank.specs.Shown.{ranks_of, shown_value, IsSized, IsShownBy}
+use Rattle.hand_rank.specs.Shown.{ranks_of, shown_value, IsSized}
 use Rattle.hand_rank.specs.Values.{category_number, category_of, count_of_rank, distinct_ranks, run_top, are_of_one_suit, value_by, five_card_value}
 use Rattle.hand_rank.proofs.CardCounts.{other-rank, once-few, total-cards}
 use Rattle.hand_rank.proofs.Chosen.{IsChoice, count-choice, occurs, choice-with, chosen-within, chosen-above}

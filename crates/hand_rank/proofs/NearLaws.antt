@@ -138,9 +138,6 @@ near-run top rank other low high one two is also =
 pub in_run-below : (top r : ℕ) → top < 15 → is_in_run top r ≡ true → r < 15
 in_run-below top r high is = grind (arith, nat_tests)
 
-pub in_run-from : (top r : ℕ) → is_in_run top r ≡ true → 2 ≤ r
-in_run-from top r is = grind (arith, nat_tests)
-
 -- two cards of two ranks
 pub record AreTwo (hole : List Card) (high low : ℕ) : Type 0 where
   pub below_high : high < 15

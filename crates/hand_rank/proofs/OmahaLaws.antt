@@ -50,12 +50,6 @@ all-at n xs [] i d all within = absurd (omega arith)
 all-at n xs (c ∷ cs) zero d all within = all.0
 all-at n xs (c ∷ cs) (suc i) d all within = all-at n xs cs i d all.1 (omega arith)
 
--- the choice at a place is one, of so many
-pub choice-of : {A : Type 0} (n : ℕ) (xs : List A) (i : ℕ) (d : List A) → i < length (choices n xs)
-    → IsChoice (get_or (choices n xs) i d) xs × (length (get_or (choices n xs) i d) ≡ n)
-choice-of n xs i d within =
-    let all = all-at n xs (choices n xs) i d (all-choices n xs) within in (all.choice, all.count)
-
 -- each of the choices of so many is one
 pub choice-at : {A : Type 0} (n : ℕ) (xs : List A) (cs : List (List A)) (i : ℕ) (c : List A) → cs ≡ choices n xs
     → i < length cs → c ≡ get_or cs i c → IsChoice c xs × (length c ≡ n)

@@ -6,13 +6,12 @@ use Rattle.std.proofs.lemmas.Bool.Decides.{nat_tests}
 use Rattle.std.proofs.lemmas.List.Folds.{list_all-append}
 use Rattle.std.proofs.lemmas.List.Sums.{sum_by-append}
 use Rattle.card_set.specs.declared.card.Card.{Card}
-use Rattle.hand_rank.specs.declared.shown.Part.{Part}
 use Rattle.card_choices.proofs.ListOrder.{Upto, upto_through, max_upper, max-above_left}
 use Rattle.card_choices.specs.Choices.{omaha_choices}
 use Rattle.hand_rank.specs.declared.category.Category.{Category}
 use Rattle.hand_rank.specs.BestHigh.{greater, best_high}
 use Rattle.hand_rank.specs.Sets.{has_rank, IsTallyOf}
-use Rattle.hand_rank.specs.Shown.{suit_of, common, IsPartOf}
+use Rattle.hand_rank.specs.Shown.{suit_of}
 use Rattle.hand_rank.specs.Values.{category_number, category_of, count_of_rank, distinct_ranks, run_top, are_of_one_suit, value_by, five_card_value}
 
 -- how often ranks occur in some cards and in others
@@ -83,64 +82,7 @@ pub count-joined : (cards more : List Card) (r : ℕ)
     → count_of_rank (cards ++ more) r ≡ count_of_rank cards r + count_of_rank more r
 count-joined cards more r = sum_by-append (λ (c : Card). cond (eqb c.rank r) 1 0) cards more
 
--- the suit of some cards and of others
-pub suit-joined : (one other : Card) (cards more : List Card)
-    → common (suit_of (one ∷ cards)) (suit_of (other ∷ more)) ≡ suit_of ((one ∷ cards) ++ other ∷ more)
-suit-joined one other cards more =
-    let as_one = λ (c : Card). eqb c.suit one.suit in
-    let as_other = λ (c : Card). eqb c.suit other.suit in
-    let all = list_all-append as_one cards (other ∷ more) in
-    by_case (list_all as_one cards) (list_all as_other more) (list_all as_one more) one.suit other.suit
-    (λ same. ap (λ s. list_all (λ (c : Card). eqb c.suit s) more) same)
-    ∙ ap (λ b. cond b (Some one.suit) None) (sym all)
-  where
-    by_case : (a b c : Bool) (x y : ℕ) → (x ≡ y → c ≡ b)
-        → common (cond a (Some x) None) (cond b (Some y) None) ≡ cond (a && (eqb y x && c)) (Some x) None
-    by_case false b c x y same = refl
-    by_case true false c x y same =
-        elim (eqb y x) as (λ t. eqb y x ≡ t → None ≡ cond (t && c) (Some x) None) [
-          | true ↦ λ is. let none = same (sym (eqb-true y x is)) in rw none refl
-          | false ↦ λ apart. refl
-        ] refl
-    by_case true true c x y same =
-        elim (eqb y x) as (λ t. eqb y x ≡ t → cond (eqb x y) (Some x) None ≡ cond (t && c) (Some x) None) [
-          | true ↦ λ is. let all = same (sym (eqb-true y x is)) in let turned : eqb x y ≡ true =
-              eq-eqb x y (sym (eqb-true y x is)) in rw (all, turned) refl
-          | false ↦ λ apart. let turned : eqb x y ≡ false = grind (arith, nat_tests) in rw turned refl
-        ] refl
-
--- some cards have one suit where there is one
-pub suit-some : (suit : Option ℕ) (cards : List Card) → suit ≡ suit_of cards → length cards ≡ 5
-    → is_some suit ≡ are_of_one_suit cards
-suit-some suit [] is five = absurd (omega arith)
-suit-some suit (card ∷ cards) is five =
-    ap is_some is ∙ either (are_of_one_suit (card ∷ cards)) card.suit
-  where
-    either : (b : Bool) (s : ℕ) → is_some (cond b (Some s) None) ≡ b
-    either true s = refl
-    either false s = refl
-
--- some cards and others
-pub part-joined : (result one other : Part)
-    → ((first second : Card) (cards more : List Card) → IsPartOf one (first ∷ cards) → IsPartOf other (second ∷ more)
-    → IsPartOf result ((first ∷ cards) ++ second ∷ more))
-    → (cards more : List Card) → 1 ≤ length cards → 1 ≤ length more → IsPartOf one cards → IsPartOf other more
-    → IsPartOf result (cards ++ more)
-part-joined result one other both [] more some others is also = absurd (omega arith)
-part-joined result one other both (card ∷ cards) [] some others is also = absurd (omega arith)
-part-joined result one other both (card ∷ cards) (next ∷ more) some others is also = both card next cards more is also
-
--- the cards of lists of five, of four and of two
-pub five-are : (cards : List Card) (a b c d e : Card) → length cards ≡ 5
-    → get_or cards 0 a ∷ get_or cards 1 b ∷ get_or cards 2 c ∷ get_or cards 3 d ∷ get_or cards 4 e ∷ [] ≡ cards
-five-are [] a b c d e five = absurd (omega arith)
-five-are (v ∷ []) a b c d e five = absurd (omega arith)
-five-are (v ∷ w ∷ []) a b c d e five = absurd (omega arith)
-five-are (v ∷ w ∷ x ∷ []) a b c d e five = absurd (omega arith)
-five-are (v ∷ w ∷ x ∷ y ∷ []) a b c d e five = absurd (omega arith)
-five-are (v ∷ w ∷ x ∷ y ∷ z ∷ []) a b c d e five = refl
-five-are (v ∷ w ∷ x ∷ y ∷ z ∷ u ∷ others) a b c d e five = absurd (omega arith)
-
+-- the cards of a list of two
 pub two-are : (cards : List Card) (a b : Card) → length cards ≡ 2 → get_or cards 0 a ∷ get_or cards 1 b ∷ [] ≡ cards
 two-are [] a b two = absurd (omega arith)
 two-are (v ∷ []) a b two = absurd (omega arith)

@@ -56,21 +56,6 @@ has_rank_with mask rank r within =
           (sym (or_false (has_rank mask r)))
     ] refl
 
-pub has_rank_below : (rank r : ℕ) → rank < 16 → has_rank (1 * 2 ^ rank % 2 ^ 16 - 1) r ≡ ltb r rank
-has_rank_below rank r within =
-    let small : 2 ^ rank < 2 ^ 16 = pow-lt {i = rank} {j = 16} within in
-    let same : 1 * 2 ^ rank % 2 ^ 16 - 1 ≡ 2 ^ rank - 1 = ap (λ n. n - 1)
-    (ap (λ n. n % 2 ^ 16) (one_times (2 ^ rank)) ∙ mod-eq_of_lt {n = 2 ^ rank} {m = 2 ^ 16} small) in
-    elim (ltb r rank) as (λ b. ltb r rank ≡ b → has_rank (1 * 2 ^ rank % 2 ^ 16 - 1) r ≡ b) [
-      | true ↦ λ less. ap (λ n. has_rank n r) same
-          ∙ ap (λ bit. eqb bit 1) (bit_at_ones rank r (grind (arith, nat_tests)))
-      | false ↦ λ more. ap (λ n. has_rank n r) same
-          ∙ ap (λ bit. eqb bit 1) (bit_at_ones_above rank r (grind (arith, nat_tests)))
-    ] refl
-  where
-    one_times : (n : ℕ) → 1 * n ≡ n
-    one_times n = omega arith
-
 pub has_rank_without : (mask rank r : ℕ) → rank < 16 → r < 16
     → has_rank (bit_and mask (bit_not w16 (1 * 2 ^ rank % 2 ^ 16))) r ≡ (has_rank mask r && not (eqb r rank))
 has_rank_without mask rank r within inside =

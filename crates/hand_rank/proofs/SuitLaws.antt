@@ -35,38 +35,9 @@ suit-has sets cards suit other are within = record {
       ∙ other-rank (filter (λ (card : Card). eqb card.suit suit) cards) r out;
 }
 
-pub suit-cases : (suit : ℕ) → suit < 4 → (suit ≡ 0) ⊎ ((suit ≡ 1) ⊎ ((suit ≡ 2) ⊎ (suit ≡ 3)))
-suit-cases suit within = grind arith
-
--- four sets of which each has the ranks of a suit
-pub four-are : (a b c d : RankSet) (cards : List Card) → ((r : ℕ) → has_rank a.bits r ≡ leb 1 (count_of_suit cards 0 r))
-    → ((r : ℕ) → has_rank b.bits r ≡ leb 1 (count_of_suit cards 1 r))
-    → ((r : ℕ) → has_rank c.bits r ≡ leb 1 (count_of_suit cards 2 r))
-    → ((r : ℕ) → has_rank d.bits r ≡ leb 1 (count_of_suit cards 3 r))
-    → AreSuitsOf (a ∷ b ∷ c ∷ d ∷ []) cards
-four-are a b c d cards of_a of_b of_c of_d suit r other within =
-    let goal : ℕ → Type 0 = λ s. has_rank (get_or (a ∷ b ∷ c ∷ d ∷ []) s other).bits r
-    ≡ leb 1 (count_of_suit cards s r) in
-    elim (suit-cases suit within) [
-      | inl is ↦ subst goal (sym is) (of_a r)
-      | inr rest ↦ elim rest [
-        | inl is ↦ subst goal (sym is) (of_b r)
-        | inr more ↦ elim more [
-          | inl is ↦ subst goal (sym is) (of_c r)
-          | inr is ↦ subst goal (sym is) (of_d r)
-        ]
-      ]
-    ]
-
 count-joined : (cards more : List Card) (suit r : ℕ)
     → count_of_suit (cards ++ more) suit r ≡ count_of_suit cards suit r + count_of_suit more suit r
 count-joined cards more suit r = sum_by-append (λ (c : Card). cond (eqb c.suit suit && eqb c.rank r) 1 0) cards more
-
--- sets of no ranks have the ranks of no cards
-pub suits-none : (none : RankSet) → none.bits ≡ 0 → AreSuitsOf (none ∷ none ∷ none ∷ none ∷ []) []
-suits-none none is =
-    let empty : (r : ℕ) → has_rank none.bits r ≡ false = λ r. rw is (ap (λ b. eqb b 1) (bit_at-zero r)) in
-    four-are none none none none [] empty empty empty empty
 
 -- one more card
 pub suits-more : (sets : List RankSet) (cards : List Card) (i : ℕ) (card : Card) (more default : RankSet)

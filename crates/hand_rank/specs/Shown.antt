@@ -2,11 +2,9 @@
 use Rattle.std.specs.Prelude.{◌≡◌, ℕ, zero, suc, ◌+◌, ◌≤◌, Bool, ◌==◌, nat_lt, cond, if◌then◌else◌, List, [], ◌∷◌, ◌++◌, length, Option, Some, None}
 use Rattle.std.specs.List.{list_all}
 use Rattle.card_set.specs.declared.card.Card.{Card}
-use Rattle.hand_rank.specs.declared.shown.Part.{Part}
 use Rattle.hand_rank.specs.declared.shown.Shown.{Shown}
-use Rattle.hand_rank.specs.BestHigh.{greater, best_high}
-use Rattle.hand_rank.specs.Sets.{has_rank, HasRanks, IsTallyOf}
-use Rattle.hand_rank.specs.Values.{category_number, count_of_rank, five_card_value}
+use Rattle.hand_rank.specs.Sets.{has_rank}
+use Rattle.hand_rank.specs.Values.{category_number}
 
 -- the numbers below a bound that pass a test, from the highest down
 unfoldable pub falling : (ℕ → Bool) → ℕ → List ℕ
@@ -39,35 +37,7 @@ is_less one other =
     else nat_lt one.most.bits other.most.bits
     else nat_lt (category_number one.category) (category_number other.category)
 
--- five cards show this
-pub record IsShownBy (shown : Shown) (cards : List Card) : Type 0 where
-  pub value : shown_value shown ≡ five_card_value cards
-  pub sized : IsSized shown
-
--- a set has the ranks of five cards, of which each occurs once
-pub record AreSingles (bits : ℕ) (cards : List Card) : Type 0 where
-  pub five : length cards ≡ 5
-  pub occur : HasRanks bits 1 (count_of_rank cards)
-  pub once : (rank : ℕ) → count_of_rank cards rank ≤ 1
-
 -- the suit that all cards have, if there is one
 abbrev pub suit_of : List Card → Option ℕ
 suit_of [] = None
 suit_of (first ∷ others) = if list_all (λ other. other.suit == first.suit) others then Some first.suit else None
-
--- the suit of both, if it is one
-abbrev pub common : Option ℕ → Option ℕ → Option ℕ
-common None other = None
-common (Some suit) None = None
-common (Some suit) (Some other) = if suit == other then Some suit else None
-
--- how often the ranks of some cards occur, and the suit that all of them have
-pub record IsPartOf (part : Part) (cards : List Card) : Type 0 where
-  pub tally : IsTallyOf
-      part.tally.once.bits part.tally.twice.bits part.tally.thrice.bits part.tally.four.bits (count_of_rank cards)
-  pub suit : part.suit ≡ suit_of cards
-
--- the greater of what was shown best and of the greatest value of some choices
-pub record IsBetter (best : Shown) (hands : List (List Card)) (better : Shown) : Type 0 where
-  pub value : shown_value better ≡ greater (shown_value best) (best_high hands)
-  pub sized : IsSized better

@@ -35,23 +35,6 @@ impl RankSet {
         RankSet::empty().with(rank)
     }
 
-    /// The set of all ranks.
-    pub const fn all() -> RankSet
-        ensures { (r : ℕ) → r < 16 → has_rank result.bits r ≡ true }
-    {
-        RankSet { bits: u16::MAX }
-    }
-
-    /// The set of the ranks below one.
-    pub fn below(rank: u8) -> RankSet
-        requires { rank < 16 }
-        ensures { (r : ℕ) → has_rank result.bits r ≡ nat_lt r rank }
-    {
-        RankSet {
-            bits: (1 << rank) - 1,
-        }
-    }
-
     /// The set with a rank in it.
     #[tactic(auto, using(crate::proofs::SetLaws::has_rank_with))]
     pub fn with(self, rank: u8) -> RankSet
@@ -117,13 +100,6 @@ impl RankSet {
         ensures some { result ≡ false → 1 ≤ length (ranks_of self.bits) }
     {
         self.bits == 0
-    }
-
-    /// Whether there are two ranks or more.
-    pub fn has_two(self) -> bool
-        ensures { result ≡ nat_le 2 (length (ranks_of self.bits)) }
-    {
-        self.bits.count_ones() >= 2
     }
 
     /// Whether there are five ranks or more.
