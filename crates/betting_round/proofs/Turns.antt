@@ -1,6 +1,6 @@
 -- Whose turn it is, and what an act that is not refused puts in.
 use Rattle.std.proofs.Common.{◌-◌, ◌≡◌, ◌∙◌, ℕ, zero, suc, ◌+◌, ◌%◌, ◌≤◌, Bool, true, false, cond, List, [], ◌∷◌, Some, None, refl, ap, inl, inr, arith}
-use Rattle.std.specs.Prelude.{Option, IfSome, ◌==◌, ◌&&◌, not, find, nat_lt}
+use Rattle.std.specs.Prelude.{Option, IfSome, IsSome, ◌==◌, ◌&&◌, not, find, nat_lt}
 use Rattle.std.specs.Option.{option_map_or}
 use Rattle.std.proofs.lemmas.Bool.{cases_Bool, cases_eq, ltb-false}
 use Rattle.std.proofs.lemmas.Bool.Decides.{nat_tests}
@@ -79,10 +79,28 @@ found-low test seats (suc steps) from seat found =
       | inr passed ↦ found-low test seats steps (seat_after seats from) seat (rw passed at found)
     ]
 
+-- What is found on a walk clockwise is a seat of the table.
+found-high : (test : ℕ → Bool) (seats steps from seat : ℕ) → 1 ≤ seats
+    → find test (walk (seat_after seats) steps from) ≡ Some seat → seat ≤ seats
+found-high test seats zero from seat some found = absurd cc
+found-high test seats (suc steps) from seat some found =
+    elim (cases_Bool (test (seat_after seats from))) [
+      | inl is ↦
+          let first : Some (seat_after seats from) ≡ Some seat = rw is at found in
+          let same : seat_after seats from ≡ seat = cc in
+          let high : seat_after seats from ≤ seats = grind (arith, nat_tests) in omega arith
+      | inr passed ↦ found-high test seats steps (seat_after seats from) seat some (rw passed at found)
+    ]
+
 -- Who is due sits in a seat from 1 on.
 pub due-low : (street : Street) (seat : ℕ) → due_seat street ≡ Some seat → 1 ≤ seat
 due-low street seat due = found-low (λ s. is_there (may_be_due street.level)
     (player_at street.players s)) 10 10 street.after seat (due-found street seat due)
+
+-- Who is due sits in one of ten seats.
+pub due-high : (street : Street) (seat : ℕ) → due_seat street ≡ Some seat → seat ≤ 10
+due-high street seat due = found-high (λ s. is_there (may_be_due street.level)
+    (player_at street.players s)) 10 10 street.after seat (omega arith) (due-found street seat due)
 
 -- Where it is a seat's turn no check of the turn holds.
 pub turn-none : (street : Street) (seat : ℕ) → due_seat street ≡ Some seat
@@ -198,6 +216,11 @@ pub slot-there : (test : Player → Bool) (slot : Option Player) → is_there te
     → (player : Player) × (slot ≡ Some player)
 slot-there test None passes = absurd cc
 slot-there test (Some player) passes = (player, refl)
+
+-- Who is due sits there.
+pub due-sits : (street : Street) (seat : ℕ) → due_seat street ≡ Some seat → IsSome (player_at street.players seat)
+due-sits street seat due =
+    let there = slot-there can_act (player_at street.players seat) (due-can_act street seat due) in rw there.1 refl
 
 -- An act of a player who has the chips for it keeps the chips of the street.
 chips-placed : (street : Street) (seat : ℕ) (player : Player) (act : Act) (put_in : ℕ)

@@ -1,12 +1,12 @@
 -- The running fields of a street: what an act makes of them, and what holds of them at every moment.
-use Rattle.std.specs.Prelude.{ℕ, ◌+◌, ◌-◌, ◌<◌, ◌^◌, true, not, ◌&&◌, max, Some, slice_set}
+use Rattle.std.specs.Prelude.{◌≡◌, ℕ, ◌+◌, ◌-◌, ◌<◌, ◌^◌, true, not, ◌&&◌, max, Option, Some, slice_set}
 use Rattle.std.specs.Option.{option_map_or}
 use Rattle.betting_round.specs.declared.act.Act.{Act}
 use Rattle.betting_round.specs.declared.bettor.Player.{Player}
 use Rattle.betting_round.specs.declared.street.Street.{Street}
 use Rattle.betting_round.specs.Acts.{amount, is_fold}
 use Rattle.betting_round.specs.StreetActs.{sum_over, chips_of}
-use Rattle.betting_round.specs.WhoIsDue.{player_at}
+use Rattle.betting_round.specs.WhoIsDue.{due_seat, player_at}
 
 -- What an act of this player puts in.
 abbrev pub amount_of : ℕ → Player → Act → ℕ
@@ -48,3 +48,8 @@ pub record IsStreetKept (street : Street) : Type 0 where
   pub level : street.level < 2 ^ 60
   pub full : street.full < 2 ^ 60
   pub unit : 0 < street.unit
+
+-- A street is kept, and with it who is due on it.
+pub record IsRoundKept (street : Street) (due : Option ℕ) : Type 0 where
+  pub kept : IsStreetKept street
+  pub is_due : due ≡ due_seat street

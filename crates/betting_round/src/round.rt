@@ -20,19 +20,21 @@ use std::marker::Model;
 #[derive(Clone, Copy, Debug)]
 pub struct Round {
     street: Street,
+    due: Option<u8>,
 }
 
 impl Model for Round {
     ghost use Rattle.betting_round.specs.declared.street.Street.{Street};
-    ghost use Rattle.betting_round.specs.Running.{IsStreetKept};
+    ghost use Rattle.betting_round.specs.Running.{IsRoundKept};
+    ghost use Rattle.betting_round.specs.WhoIsDue.{due_seat};
 
     ghost Value = { Street };
 
     ghost view = { λ round. round.street };
 
-    ghost invariant = { λ round. IsStreetKept round.street };
+    ghost invariant = { λ round. IsRoundKept round.street round.due };
 
-    ghost inverse = { λ street. record { street = street } };
+    ghost inverse = { λ street. record { street = street; due = due_seat street } };
 }
 
 impl Round {
@@ -50,9 +52,9 @@ impl Round {
         requires { IsStreetStart (street_start bettors.now after opening big unit counted) }
         ensures { result ≡ street_after (street_start bettors.now after opening big unit counted) [] }
     {
-        Round {
-            street: Street::new(bettors, after, opening, big, unit, counted),
-        }
+        let street = Street::new(bettors, after, opening, big, unit, counted);
+        let due = street.due();
+        Round { street, due }
     }
 
     /// The player in a seat as he stands, if one sits there.
@@ -88,7 +90,7 @@ impl Round {
     pub fn due(&self) -> Option<u8>
         ensures { result ≡ due_seat self.now }
     {
-        self.street.due()
+        self.due
     }
 
     /// What the player in a seat faces. Where nobody sits, nothing is put in and nothing behind.
@@ -110,8 +112,9 @@ impl Round {
         ensures err { IfErr result (λ refusal. act_refusal (B.limits bounds.now) self.old seat act ≡ Some refusal) }
         ensures kept { IfErr result (λ _. self.new ≡ self.old) }
     {
-        let facing = self.street.check(bounds, seat, act)?;
+        let facing = self.street.check(bounds, self.due, seat, act)?;
         self.street.take(seat, act);
+        self.due = self.street.due();
         Ok(done_by(&facing, act))
     }
 }

@@ -181,9 +181,7 @@ impl Street {
     /// The seat of the player who is due, if somebody is.
     #[tactic(auto, unfolding(crate::specs::WhoIsDue::due_seat))]
     pub fn due(&self) -> Option<u8>
-        ensures due { result ≡ due_seat self.now }
-        ensures within { IfSome result (λ seat. (1 ≤ seat) × (seat ≤ 10)) }
-        ensures sits { IfSome result (λ seat. IsSome (player_at self.now.players seat)) }
+        ensures { result ≡ due_seat self.now }
     {
         if is_closed(&self.players) {
             return None;
@@ -206,14 +204,15 @@ impl Street {
         }
     }
 
-    /// Whether it is this seat's turn.
-    pub fn check_turn(&self, seat: u8) -> Result<(), Refusal>
+    /// Whether it is this seat's turn, where this one is due.
+    fn check_turn(&self, due: Option<u8>, seat: u8) -> Result<(), Refusal>
+        requires { due ≡ due_seat self.now }
         ensures turn { IsChecked (turn_checks self.now seat) result }
         ensures first { OnOk result (1 ≤ seat) }
         ensures last { OnOk result (seat ≤ 10) }
         ensures sits { OnOk result (IsSome (player_at self.now.players seat)) }
     {
-        match self.due() {
+        match due {
             Some(due) => {
                 if due != seat {
                     return Err(Refusal::NotTurn);
@@ -224,11 +223,18 @@ impl Street {
         }
     }
 
-    /// Whether an act of a seat is refused: by the first of the checks of the turn and then of the act that holds.
-    /// Else it says what the player in the seat faces.
+    /// Whether an act of a seat is refused where this one is due: by the first of the checks of the turn and then of
+    /// the act that holds. Else it says what the player in the seat faces.
     #[tactic(auto, using(crate::proofs::ActRefusals::refused_turn, crate::proofs::ActRefusals::refused_act, crate::proofs::ActRefusals::accepted_act, crate::proofs::ActRefusals::few_facing, crate::proofs::ActRefusals::held_facing))]
-    pub fn check<B: Bounds>(&self, bounds: &B, seat: u8, act: Act) -> Result<Facing, Refusal>
-        requires { IsStreetKept self.now }
+    pub fn check<B: Bounds>(
+        &self,
+        bounds: &B,
+        due: Option<u8>,
+        seat: u8,
+        act: Act,
+    ) -> Result<Facing, Refusal>
+        requires kept { IsStreetKept self.now }
+        requires due { due ≡ due_seat self.now }
         ensures ok { OnOk result (act_refusal (B.limits bounds.now) self.now seat act ≡ None) }
         ensures facing { IfOk result (λ facing. facing ≡ facing_in self.now seat) }
         ensures few { IfOk result (λ facing. AreFewChips facing) }
@@ -239,7 +245,7 @@ impl Street {
             (λ player. amount_of self.now.level player act ≤ player.bettor.behind)) }
         ensures err { IfErr result (λ refusal. act_refusal (B.limits bounds.now) self.now seat act ≡ Some refusal) }
     {
-        self.check_turn(seat)?;
+        self.check_turn(due, seat)?;
         let facing = self.facing(seat);
         check_act(bounds, self.unit, &facing, act)?;
         Ok(facing)

@@ -1,6 +1,6 @@
 //! Who is due on a street.
 
-ghost use Rattle.std.specs.Prelude.{◌≡◌, ◌&&◌, ◌≤◌, nat_lt, IfSome, IsSome, IsTrue, find};
+ghost use Rattle.std.specs.Prelude.{◌≡◌, ◌&&◌, ◌≤◌, nat_le, nat_lt, find, count_by};
 ghost use Rattle.rulebook.specs.Seats.{clockwise_after};
 ghost use Rattle.std.specs.List.{list_any};
 ghost use Rattle.betting_round.specs.WhoIsDue.{player_at, is_there, is_live, can_act, is_one_live, has_put_most, is_only_one_to_act, is_closed, may_be_due};
@@ -98,19 +98,35 @@ pub(crate) fn is_one_live(players: &[Option<Player>]) -> bool
     players.iter().filter(|slot| is_live(slot)).count() == 1
 }
 
+/// Whether two players can act.
+fn can_two_act(players: &[Option<Player>]) -> bool
+    ensures { result ≡ nat_le 2 (count_by (is_there can_act) players.now) }
+{
+    let mut can_one = false;
+    for slot in players {
+        if can_act(slot) {
+            if can_one {
+                return true;
+            }
+            can_one = true;
+        }
+    }
+    false
+}
+
 /// Whether nobody is due on the street any more.
+#[tactic(auto, using(crate::proofs::Closings::open_where_two_act))]
 pub(crate) fn is_closed(players: &[Option<Player>]) -> bool
     ensures { result ≡ is_closed players.now }
 {
-    is_one_live(players) || is_only_one_to_act(players)
+    !can_two_act(players) && (is_one_live(players) || is_only_one_to_act(players))
 }
 
 /// Whether the player in this seat, if one is there, may be due.
 fn may_be_due(players: &[Option<Player>; 10], level: u64, seat: u8) -> bool
     requires first { 1 ≤ seat }
     requires last { seat ≤ 10 }
-    ensures due { result ≡ is_there (may_be_due level) (player_at players.now seat) }
-    ensures sits { IsTrue result → IsSome (player_at players.now seat) }
+    ensures { result ≡ is_there (may_be_due level) (player_at players.now seat) }
 {
     match &players[usize::from(seat) - 1] {
         Some(player) => player.may_be_due(level),
@@ -128,10 +144,8 @@ pub(crate) fn first_to_act(
 ) -> Option<u8>
     requires some { 1 ≤ seats }
     requires most { seats ≤ 10 }
-    ensures first { result ≡ find (λ seat. is_there (may_be_due level) (player_at players.now seat))
+    ensures { result ≡ find (λ seat. is_there (may_be_due level) (player_at players.now seat))
         (clockwise_after seats after) }
-    ensures within { IfSome result (λ seat. (1 ≤ seat) × (seat ≤ 10)) }
-    ensures sits { IfSome result (λ seat. IsSome (player_at players.now seat)) }
 {
     let mut seat = after;
     for _step in 0..seats {

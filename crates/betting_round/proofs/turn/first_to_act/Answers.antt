@@ -10,4 +10,4 @@ loop-step-preserved c =
     (c.loop-step.invariant
     ∙ find_passed (λ seat. is_there (may_be_due c.args.level) (player_at c.args.players.now seat))
     (seat_after c.args.seats) c.args.seats c.loop-step._step c.loop-step.seat c.loop-step-test.true
-    (rw (← c.seat_after-seat.ensures.next) (sym c.may_be_due.ensures.due ∙ c.if-may_be_due.false)))
+    (rw (← c.seat_after-seat.ensures.next) (sym c.may_be_due.ensures ∙ c.if-may_be_due.false)))
