@@ -145,12 +145,14 @@ hole-alike held hole board is some =
     let at = some-rank held.pair.twice.bits some in
     let two = leb-true 2 (count_of_rank hole at.0) (sym (is.pair.of_twice.at at.0 at.1) ∙ at.2) in
     let few = few-times hole at.0 is.two in
-    let long = is.two in
-    (at.0, record {
-      below = rank-within hole at.0 (omega arith);
-      twice = omega arith;
-      others = λ r apart. let all = two-ranks hole r at.0 apart in omega arith;
-    })
+    let long = is.two in (
+      at.0,
+      record {
+        below = rank-within hole at.0 (omega arith);
+        twice = omega arith;
+        others = λ r apart. let all = two-ranks hole r at.0 apart in omega arith;
+      },
+    )
 
 -- the one rank of two cards
 alike-is : (hole : List Card) (rank r : ℕ) → AreAlike hole rank → 1 ≤ count_of_rank hole r → r ≡ rank

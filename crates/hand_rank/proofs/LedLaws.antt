@@ -341,24 +341,27 @@ led-best number k j c held hole board shown from rank form is category of_most i
     let led = form.led (hole ++ three) ranks this.shown at in
     let less = highest (hole ++ three) ranks this led in
     subst (λ v. Upto (number ∷ ranks) v) (sym value)
-    (inr (refl, subst (λ rs. Upto rs (rank ∷ ranks_of shown.others.bits)) (sym led.whole)
-    (elim (eqb led.rank rank) as (λ b. eqb led.rank rank ≡ b
-    → Upto (led.rank ∷ exactly (hole ++ three) j) (rank ∷ ranks_of shown.others.bits)) [
-      | false ↦ λ apart. inl (grind (arith, nat_tests))
-      | true ↦ λ same.
-          let at_same = eqb-true led.rank rank same in
-          let theirs = led-beside hole board (hole ++ three) k j c ranks this form.less form.some led in
-          let test : ℕ → Bool = λ r. eqb (count_of_rank (hole ++ three) r) j in
-          let none_their : test 15 ≡ false = beside-15 hole board j c led.rank test form.some theirs in
-          let many = asked held hole board shown.most from j c rank test is is_most is_from
-          (subst (λ r. AreBeside hole board j c r test) at_same theirs) in
-          inr (
-            at_same,
-            subst (λ rs. Upto rs (ranks_of shown.others.bits)) (falling-15 test none_their)
-                (upto-of (falling test 16) (ranks_of shown.others.bits)
-                (greatest.greatest shown.others test refl many)),
-          )
-    ] refl))))
+    (inr (
+      refl,
+      subst (λ rs. Upto rs (rank ∷ ranks_of shown.others.bits)) (sym led.whole)
+          (elim (eqb led.rank rank) as (λ b. eqb led.rank rank ≡ b
+          → Upto (led.rank ∷ exactly (hole ++ three) j) (rank ∷ ranks_of shown.others.bits)) [
+            | false ↦ λ apart. inl (grind (arith, nat_tests))
+            | true ↦ λ same.
+                let at_same = eqb-true led.rank rank same in
+                let theirs = led-beside hole board (hole ++ three) k j c ranks this form.less form.some led in
+                let test : ℕ → Bool = λ r. eqb (count_of_rank (hole ++ three) r) j in
+                let none_their : test 15 ≡ false = beside-15 hole board j c led.rank test form.some theirs in
+                let many = asked held hole board shown.most from j c rank test is is_most is_from
+                (subst (λ r. AreBeside hole board j c r test) at_same theirs) in
+                inr (
+                  at_same,
+                  subst (λ rs. Upto rs (ranks_of shown.others.bits)) (falling-15 test none_their)
+                      (upto-of (falling test 16) (ranks_of shown.others.bits)
+                      (greatest.greatest shown.others test refl many)),
+                )
+          ] refl),
+    )))
   where
     there : (r : ℕ) → r < 15 → (r ≡ rank → ⊥) → has_rank shown.others.bits r ≡ true
         → led_count k j rank (has_rank shown.others.bits) r ≡ j

@@ -373,9 +373,12 @@ high-best held hole board shown is category none greatest apart =
     is.all.of_once.at r below ∙ le-leb 1 (count_of_rank (hole ++ board) r) (omega arith))
     (λ r below has. leb-true 1 (count_of_rank hole r) (sym (is.pair.of_once.at r below) ∙ has)) in
     subst (λ v. Upto (0 ∷ ranks) v) (sym value)
-    (inr (refl, subst (λ rs. Upto rs (ranks_of shown.others.bits))
-    (falling-15 test (none-15 (hole ++ three)) ∙ sym (told.high refl ∙ one.distinct))
-    (upto-of (falling test 16) (ranks_of shown.others.bits) (greatest.greatest shown.others test refl many)))))
+    (inr (
+      refl,
+      subst (λ rs. Upto rs (ranks_of shown.others.bits))
+          (falling-15 test (none-15 (hole ++ three)) ∙ sym (told.high refl ∙ one.distinct))
+          (upto-of (falling test 16) (ranks_of shown.others.bits) (greatest.greatest shown.others test refl many)),
+    )))
   where
     low_15 : (p : ℕ → Bool) → AreSoMany p (has_rank held.all.once.bits) (has_rank held.pair.once.bits) 5
         → has_rank held.all.once.bits 15 ≡ false → p 15 ≡ false
@@ -529,9 +532,12 @@ flush-best held hole board shown is category none greatest =
     (distinct_ranks (hole ++ three)) ranks 5 one.value).flush refl in
     let many = flush-many held hole board three ranks is this one told.0 in
     subst (λ v. Upto (5 ∷ ranks) v) (sym value)
-    (inr (refl, subst (λ rs. Upto rs (ranks_of shown.others.bits))
-    (falling-15 test (none-15 (hole ++ three)) ∙ sym (told.1 ∙ one.distinct))
-    (upto-of (falling test 16) (ranks_of shown.others.bits) (greatest.greatest shown.others test refl many)))))
+    (inr (
+      refl,
+      subst (λ rs. Upto rs (ranks_of shown.others.bits))
+          (falling-15 test (none-15 (hole ++ three)) ∙ sym (told.1 ∙ one.distinct))
+          (upto-of (falling test 16) (ranks_of shown.others.bits) (greatest.greatest shown.others test refl many)),
+    )))
   where
     above : (top : Option ℕ) (ranks others : List ℕ) → Upto others ranks
         → Upto (5 ∷ others) (value_of_distinct top true ranks)

@@ -118,10 +118,13 @@ run-sized shown number top category one most others = record {
 }
 
 upto-one : (number top high : ℕ) → top ≤ high → Upto (number ∷ top ∷ []) (number ∷ high ∷ [])
-upto-one number top high up = inr (refl, elim (eqb top high) as (λ b. eqb top high ≡ b → Upto (top ∷ []) (high ∷ [])) [
-  | true ↦ λ same. inr (eqb-true top high same, tt)
-  | false ↦ λ differs. inl (grind (arith, nat_tests))
-] refl)
+upto-one number top high up = inr (
+  refl,
+  elim (eqb top high) as (λ b. eqb top high ≡ b → Upto (top ∷ []) (high ∷ [])) [
+    | true ↦ λ same. inr (eqb-true top high same, tt)
+    | false ↦ λ differs. inl (grind (arith, nat_tests))
+  ] refl,
+)
 
 -- the best straight
 pub straight-best : (held : Held) (hole board : List Card) (shown : Shown) (top : ℕ) (result : Option ℕ)

@@ -266,9 +266,11 @@ two-best held hole board shown first second is category of_most greatest may hig
     ∙ without-other first r count not_first ∙ reached.counts r ∙ there r within not_first not_second has)) (le_refl 1)))) in
     let second_kept : without first count second ≡ 2 = without-other first second count (differ second first apart)
     ∙ at_second in
-    let have : Has (2 ∷ 2 ∷ 1 ∷ []) (first ∷ second ∷ ranks_of shown.others.bits) count =
-    (below, subst (λ m. 2 ≤ m) (sym at_first) (le_refl 2),
-    (omega arith, subst (λ m. 2 ≤ m) (sym second_kept) (le_refl 2), some_others)) in
+    let have : Has (2 ∷ 2 ∷ 1 ∷ []) (first ∷ second ∷ ranks_of shown.others.bits) count = (
+      below,
+      subst (λ m. 2 ≤ m) (sym at_first) (le_refl 2),
+      (omega arith, subst (λ m. 2 ≤ m) (sym second_kept) (le_refl 2), some_others),
+    ) in
     let up = shown-above five 4 (2 ∷ 2 ∷ 1 ∷ []) (first ∷ second ∷ ranks_of shown.others.bits) hand.shown
     (inr (inr (inr (inl refl)))) fall_two have in
     some-best 2 shown hole board category
@@ -287,16 +289,19 @@ two-best held hole board shown first second is category of_most greatest may hig
     let two = two-pair (hole ++ three) ranks this.shown at in
     let less = highest (hole ++ three) ranks this two in
     subst (λ v. Upto (2 ∷ ranks) v) (sym value)
-    (inr (refl, subst (λ rs. Upto rs (first ∷ second ∷ ranks_of shown.others.bits)) (sym two.whole)
-    (on two.first two.second (exactly (hole ++ three) 1) (ranks_of shown.others.bits) less (λ same_first same_second.
-    let theirs = two-beside hole board (hole ++ three) ranks this two in
-    let test : ℕ → Bool = λ r. eqb (count_of_rank (hole ++ three) r) 1 in
-    let none_their : test 15 ≡ false = beside-15 hole board two.first two.second test theirs in
-    let many = asked held hole board first second test is
-    (subst (λ r. IsBeside hole board first r test) same_second
-    (subst (λ r. IsBeside hole board r two.second test) same_first theirs)) in
-    subst (λ rs. Upto rs (ranks_of shown.others.bits)) (falling-15 test none_their)
-    (upto-of (falling test 16) (ranks_of shown.others.bits) (greatest.greatest shown.others test refl many)))))))
+    (inr (
+      refl,
+      subst (λ rs. Upto rs (first ∷ second ∷ ranks_of shown.others.bits)) (sym two.whole)
+          (on two.first two.second (exactly (hole ++ three) 1) (ranks_of shown.others.bits) less (λ same_first same_second.
+          let theirs = two-beside hole board (hole ++ three) ranks this two in
+          let test : ℕ → Bool = λ r. eqb (count_of_rank (hole ++ three) r) 1 in
+          let none_their : test 15 ≡ false = beside-15 hole board two.first two.second test theirs in
+          let many = asked held hole board first second test is
+          (subst (λ r. IsBeside hole board first r test) same_second
+          (subst (λ r. IsBeside hole board r two.second test) same_first theirs)) in
+          subst (λ rs. Upto rs (ranks_of shown.others.bits)) (falling-15 test none_their)
+          (upto-of (falling test 16) (ranks_of shown.others.bits) (greatest.greatest shown.others test refl many)))),
+    )))
   where
     there : (r : ℕ) → r < 15 → (r ≡ first → ⊥) → (r ≡ second → ⊥) → has_rank shown.others.bits r ≡ true
         → two_count first second (has_rank shown.others.bits) r ≡ 1
@@ -525,11 +530,14 @@ highest-two held hole board five ranks bits first second is seconds of_first of_
           let at = eqb-true two.first first same in
           let less = next.above two.second (omega arith)
           (seconds-same held hole board five ranks bits first is hand two seconds at) in
-          inr (at, elim (eqb two.second second) as (λ b. eqb two.second second ≡ b
-          → Upto (two.second ∷ []) (second ∷ [])) [
-            | true ↦ λ also. inr (eqb-true two.second second also, tt)
-            | false ↦ λ differs. inl (grind (arith, nat_tests))
-          ] refl)
+          inr (
+            at,
+            elim (eqb two.second second) as (λ b. eqb two.second second ≡ b
+                → Upto (two.second ∷ []) (second ∷ [])) [
+                  | true ↦ λ also. inr (eqb-true two.second second also, tt)
+                  | false ↦ λ differs. inl (grind (arith, nat_tests))
+                ] refl,
+          )
     ] refl
 
 -- where no rank occurs twice, there are no two pair

@@ -1,3 +1,5 @@
+ghost use Rattle.std.specs.Prelude.{◌≤◌};
+
 use crate::{Category, HighValue, best_holdem, best_omaha, five_card_value};
 use card_choices::{are_distinct, fives, pairs, threes};
 use card_set::{Card, Deck, read_card};
@@ -337,32 +339,72 @@ fn walk_omaha(hole: [Card; 4], board: [Card; 5]) -> HighValue {
     best
 }
 
-/// Whether the best value in Omaha is the one that the walk finds. `None` where a card comes twice.
-fn is_as_walked(hole: [Card; 4], board: [Card; 5]) -> Option<bool> {
-    if are_distinct(&hole, &board) {
-        Some(best_omaha(hole, board) == walk_omaha(hole, board))
-    } else {
-        None
+/// Whether the best value in Omaha is the one that the walk finds, and its category. `None` where a card comes twice.
+fn is_as_walked(hole: [Card; 4], board: [Card; 5]) -> Option<(bool, Option<u8>)> {
+    if !are_distinct(&hole, &board) {
+        return None;
     }
+    let best = best_omaha(hole, board);
+    Some((
+        best == walk_omaha(hole, board),
+        best.numbers().first().copied(),
+    ))
+}
+
+/// Some card of those that come first in a deck.
+fn draw_first(deck: &Deck, state: &mut u64, cards: u64) -> Card
+    requires some { 1 ≤ cards }
+    requires few { cards ≤ 52 }
+{
+    *state ^= *state << 13;
+    *state ^= *state >> 7;
+    *state ^= *state << 17;
+    deck.card((*state % cards) as usize)
+}
+
+/// Compares the best values of hands of so many cards with those of the walk, and counts them by their categories.
+fn compare_omaha(rt: &impl Abort, cards: u64) -> [u32; 9]
+    requires some { 1 ≤ cards }
+    requires few { cards ≤ 52 }
+{
+    let deck = Deck::sorted();
+    let mut state = 88172645463325252;
+    let mut seen = [0u32; 9];
+    for _ in 0..4000 {
+        let hole = [
+            draw_first(&deck, &mut state, cards),
+            draw_first(&deck, &mut state, cards),
+            draw_first(&deck, &mut state, cards),
+            draw_first(&deck, &mut state, cards),
+        ];
+        let board = [
+            draw_first(&deck, &mut state, cards),
+            draw_first(&deck, &mut state, cards),
+            draw_first(&deck, &mut state, cards),
+            draw_first(&deck, &mut state, cards),
+            draw_first(&deck, &mut state, cards),
+        ];
+        if let Some((same, category)) = is_as_walked(hole, board) {
+            assert!(rt; same, "{hole:?} {board:?}");
+            if let Some(category) = category {
+                if let Some(times) = seen.get_mut(category as usize) {
+                    *times = times.saturating_add(1);
+                }
+            }
+        }
+    }
+    seen
 }
 
 #[test]
 fn omaha_is_as_the_walk_finds_it(rt: HostRuntime) {
-    let deck = Deck::sorted();
-    let mut state = 88172645463325252;
-    let mut compared = 0u32;
-    for _ in 0..4000 {
-        let hole = [
-            draw(&deck, &mut state),
-            draw(&deck, &mut state),
-            draw(&deck, &mut state),
-            draw(&deck, &mut state),
-        ];
-        let board = draw_board(&deck, &mut state);
-        if let Some(same) = is_as_walked(hole, board) {
-            assert!(rt; same, "{hole:?} {board:?}");
-            compared = compared.saturating_add(1);
-        }
-    }
-    assert!(rt; compared > 1000, "{compared}");
+    let seen = compare_omaha(&rt, 52);
+    assert!(rt; seen.iter().all(|times| *times > 0), "{seen:?}");
+}
+
+#[test]
+fn omaha_of_few_ranks_is_as_the_walk_finds_it(rt: HostRuntime) {
+    let seen = compare_omaha(&rt, 24);
+    let high = &seen[4..];
+    assert!(rt; high.iter().all(|times| *times > 5), "{seen:?}");
 }
