@@ -3,6 +3,7 @@ use Rattle.std.proofs.Common.{◌≡◌, ℕ, ◌+◌, ◌<◌, ◌≤◌, refl,
 use Rattle.std.specs.Prelude.{◌⊎◌, Option, Some, None, IfSome, IsSomeAnd, Result, Ok, Err, OnOk, Contains}
 use Rattle.floor_text.specs.Lines.{lines_of_bytes}
 use Rattle.floor_text.specs.Outside.{Rose}
+use Rattle.floor_text.specs.Reading.{Reading, bytes_ahead}
 use Rattle.tournament_rules.specs.States.{State, first_state}
 use Rattle.floor_offline.specs.declared.fault.Fault.{Fault}
 use Rattle.floor_offline.specs.declared.fault.Fault.TheVariants as faults
@@ -34,6 +35,22 @@ keeps_on (Some text) second third here next = let P : Option (List ℕ)
 pub counts_first : (left : Option (List ℕ)) → Counts left left 0
 counts_first None = tt
 counts_first (Some bytes) = omega arith
+
+-- so it is before the first line, with a reader that took nothing and the first state
+pub starts : (left written : Option (List ℕ)) (reader : Reading) (state : State) (input out : ℕ)
+    → reader ≡ record { held = []; line = []; taken = 0; limit = INPUT_LIMIT } → state ≡ first_state
+    → IsRunning (whole_text first_state [] left written) (whole_text state reader.held left written) left left
+    reader.taken reader.limit input input out out state.accepted (bytes_ahead reader)
+starts left written reader state input out new first =
+    rw (new, first)
+    (record {
+      keeps = keeps_same (whole_text first_state [] left written);
+      counts = counts_first left;
+      at_limit = refl;
+      input_later = omega arith;
+      out_later = omega arith;
+      few = omega arith;
+    })
 
 -- a source that told at first tells still, so it is at its end
 pub ends : (first left rest : Option (List ℕ)) (taken : ℕ) → Counts first left taken

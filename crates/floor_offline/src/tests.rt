@@ -20,9 +20,6 @@ const ACES: &str =
 
 const USAGE: &str = "usage: replay / view NAME / simulate N / serve PORT DESKS\n";
 
-/// What the lines of the plan are answered.
-const PLAN_ANSWERED: &str = "ok\nok\nok\nok\nok\nok\nok\nok\nok\n";
-
 /// What a run over memory came to.
 #[derive(Drop)]
 struct Ran {
@@ -53,9 +50,18 @@ fn add_line(input: &mut Vec<u8>, line: &str) -> Result<(), AllocError> {
     Ok(())
 }
 
-fn add_lines(input: &mut Vec<u8>, steps: &[Step]) -> Result<(), AllocError> {
+/// Adds an answer, or a line of the report.
+fn add_answer(answers: &mut Vec<u8>, answer: &str) -> Result<(), AllocError> {
+    answers.extend_from_slice(answer.as_bytes())?;
+    answers.push(b'\n')?;
+    Ok(())
+}
+
+/// Adds lines, and what they are answered.
+fn add_steps(input: &mut Vec<u8>, answers: &mut Vec<u8>, steps: &[Step]) -> Result<(), AllocError> {
     for step in steps {
         add_line(input, step.0)?;
+        add_answer(answers, step.1)?;
     }
     Ok(())
 }
@@ -78,46 +84,40 @@ fn run(
     Ok(Ran { status, out, err })
 }
 
-fn run_plan(
+/// Runs an input, and compares each line of what is written.
+fn compare(
+    rt: &impl Abort,
     alloc: Global,
-    word: &str,
-    failing_takes: &[u64],
-    failing_puts: &[u64],
-) -> Result<Ran, AllocError> {
-    let mut input = Vec::new(alloc);
-    add_lines(&mut input, PLAN)?;
-    run(alloc, word, input, failing_takes, failing_puts)
+    name: &str,
+    input: Vec<u8>,
+    answers: &[u8],
+) -> Result<(), AllocError> {
+    let ran = run(alloc, "replay", input, &[], &[])?;
+    let found = str::from_utf8(ran.out.bytes()).unwrap_or("no text");
+    let wanted = str::from_utf8(answers).unwrap_or("no text");
+    let mut lines = found.lines();
+    for (place, line) in wanted.lines().enumerate() {
+        assert_eq!(rt; lines.next(), Some(line), "{name}: after {place} lines");
+    }
+    assert!(rt;
+        ran.status == 0 && found == wanted && ran.err.bytes().is_empty(),
+        "{name}"
+    );
+    Ok(())
 }
 
 /// Plays a script, and compares the answer to each line and each line of the report.
 pub fn play(rt: &impl Abort, alloc: Global, script: &Script) -> Result<(), AllocError> {
     let mut input = Vec::new(alloc);
+    let mut answers = Vec::new(alloc);
     for steps in script.begins {
-        add_lines(&mut input, steps)?;
+        add_steps(&mut input, &mut answers, steps)?;
     }
-    add_lines(&mut input, script.steps)?;
-    let ran = run(alloc, "replay", input, &[], &[])?;
-    let name = script.name;
-    assert_eq!(rt; ran.status, 0, "{name}");
-    let text = str::from_utf8(ran.out.bytes()).unwrap_or("no text");
-    let mut lines = text.lines();
-    for steps in script.begins {
-        for (line, answer) in *steps {
-            assert_eq!(rt; lines.next(), Some(*answer), "{name}: {line}");
-        }
-    }
-    for (line, answer) in script.steps {
-        assert_eq!(rt; lines.next(), Some(*answer), "{name}: {line}");
-    }
+    add_steps(&mut input, &mut answers, script.steps)?;
     for line in script.report {
-        assert_eq!(rt; lines.next(), Some(*line), "{name}: the report");
+        add_answer(&mut answers, line)?;
     }
-    assert_eq!(rt; lines.next(), None, "{name}: the end");
-    assert!(rt;
-        text.ends_with('\n') && ran.err.bytes().is_empty(),
-        "{name}"
-    );
-    Ok(())
+    compare(rt, alloc, script.name, input, &answers)
 }
 
 #[test]
@@ -133,37 +133,22 @@ fn with_answer(line: &str) -> (&str, &str) {
     line.split_once(" : ").unwrap_or((line, "ok"))
 }
 
-/// The input of a transcript: its lines but those of the report.
-fn input_of(alloc: Global, transcript: &Transcript) -> Result<Vec<u8>, AllocError> {
+/// Plays a transcript, and compares the answer to each line and each line of the report.
+pub fn follow(rt: &impl Abort, alloc: Global, transcript: &Transcript) -> Result<(), AllocError> {
     let mut input = Vec::new(alloc);
+    let mut answers = Vec::new(alloc);
     for part in transcript.parts {
         for line in part.lines() {
-            if !line.starts_with('*') {
-                add_line(&mut input, with_answer(line).0)?;
+            if line.starts_with('*') {
+                add_answer(&mut answers, line)?;
+            } else {
+                let (line, answer) = with_answer(line);
+                add_line(&mut input, line)?;
+                add_answer(&mut answers, answer)?;
             }
         }
     }
-    Ok(input)
-}
-
-/// Plays a transcript, and compares the answer to each line and each line of the report.
-pub fn follow(rt: &impl Abort, alloc: Global, transcript: &Transcript) -> Result<(), AllocError> {
-    let input = input_of(alloc, transcript)?;
-    let ran = run(alloc, "replay", input, &[], &[])?;
-    let name = transcript.name;
-    let mut lines = str::from_utf8(ran.out.bytes()).unwrap_or("no text").lines();
-    for part in transcript.parts {
-        for line in part.lines() {
-            let wanted = if line.starts_with('*') {
-                line
-            } else {
-                with_answer(line).1
-            };
-            assert_eq!(rt; lines.next(), Some(wanted), "{name}: {line}");
-        }
-    }
-    assert_eq!(rt; lines.next(), None, "{name}: the end");
-    Ok(())
+    compare(rt, alloc, transcript.name, input, &answers)
 }
 
 #[test]
@@ -175,35 +160,39 @@ fn transcripts_are_followed(rt: HostRuntime) -> Result<(), Fail> {
 }
 
 #[test]
-fn words_that_are_no_command_touch_nothing(rt: HostRuntime) -> Result<(), Fail> {
-    for word in ["", "replay x", "--help", "view", "Replay"] {
-        let ran = run_plan(rt.alloc(), word, &[], &[])?;
-        assert_eq!(rt; ran.status, 2, "{word}");
-        assert_eq!(rt; ran.out.bytes(), b"".as_slice(), "{word}");
-        assert_eq!(rt; ran.err.bytes(), USAGE.as_bytes(), "{word}");
-    }
-    Ok(())
-}
-
-#[test]
-fn each_failing_put_ends_the_run_there(rt: HostRuntime) -> Result<(), Fail> {
-    let ok = PLAN_ANSWERED.as_bytes();
-    for put in 1..11usize {
-        let ran = run_plan(rt.alloc(), "replay", &[], &[put as u64])?;
-        assert_eq!(rt; ran.status, 4, "put {put}");
-        assert_eq!(rt; ran.out.bytes(), &ok[..3 * (put - 1)], "put {put}");
-        assert_eq!(rt; ran.err.bytes(), b"write fault\n".as_slice(), "put {put}");
-    }
-    Ok(())
-}
-
-#[test]
-fn a_failing_take_ends_the_run(rt: HostRuntime) -> Result<(), Fail> {
-    for (take, answers) in [(1, ""), (2, PLAN_ANSWERED)] {
-        let ran = run_plan(rt.alloc(), "replay", &[take], &[])?;
-        assert_eq!(rt; ran.status, 3, "take {take}");
-        assert_eq!(rt; ran.out.bytes(), answers.as_bytes(), "take {take}");
-        assert_eq!(rt; ran.err.bytes(), b"read fault\n".as_slice(), "take {take}");
+fn a_run_ends_with_its_status(rt: HostRuntime) -> Result<(), Fail> {
+    let alloc = rt.alloc();
+    for (word, take, put, status, written, told) in [
+        ("", 0, 0, 2, 0, USAGE),
+        ("replay x", 0, 0, 2, 0, USAGE),
+        ("--help", 0, 0, 2, 0, USAGE),
+        ("view", 0, 0, 2, 0, USAGE),
+        ("Replay", 0, 0, 2, 0, USAGE),
+        ("replay", 1, 0, 3, 0, "read fault\n"),
+        ("replay", 2, 0, 3, 27, "read fault\n"),
+        ("replay", 0, 1, 4, 0, "write fault\n"),
+        ("replay", 0, 2, 4, 3, "write fault\n"),
+        ("replay", 0, 3, 4, 6, "write fault\n"),
+        ("replay", 0, 4, 4, 9, "write fault\n"),
+        ("replay", 0, 5, 4, 12, "write fault\n"),
+        ("replay", 0, 6, 4, 15, "write fault\n"),
+        ("replay", 0, 7, 4, 18, "write fault\n"),
+        ("replay", 0, 8, 4, 21, "write fault\n"),
+        ("replay", 0, 9, 4, 24, "write fault\n"),
+        ("replay", 0, 10, 4, 27, "write fault\n"),
+    ] {
+        let mut input = Vec::new(alloc);
+        let mut answers = Vec::new(alloc);
+        add_steps(&mut input, &mut answers, PLAN)?;
+        let ran = run(alloc, word, input, &[take], &[put])?;
+        let out = ran.out.bytes();
+        assert!(rt;
+            ran.status == status
+                && ran.err.bytes() == told.as_bytes()
+                && answers.starts_with(out)
+                && out.len() == written,
+            "{word}, take {take}, put {put}"
+        );
     }
     Ok(())
 }

@@ -2,8 +2,14 @@ use Rattle.std.proofs.Common.{◌<◌, ◌∙◌, ap, rules, []}
 use Rattle.std.specs.Prelude.{Ok}
 use Rattle.tournament_rules.specs.States.{first_state}
 use Rattle.floor_offline.specs.Promise.{whole_text}
-use Rattle.floor_offline.proofs.Running.{keeps_on, ends, within_at_end, gives_more, text_at_end, on_ok, on_ok_from}
+use Rattle.floor_offline.proofs.Running.{starts, keeps_on, ends, within_at_end, gives_more, text_at_end, on_ok, on_ok_from}
 use Rattle.floor_offline.proofs.replay.replay.Goals as goal
+
+pub lines-init : goal.lines-init
+lines-init g c =
+    starts (g.I.Source.left c.args.input.now) (g.O.Sink.written c.args.out.now) c.in_ok-reader.reader
+    c.in_ok-tournament.tournament (g.I.Source.faults c.args.input.now) (g.O.Sink.faults c.args.out.now)
+    c.in_ok-reader.ensures c.in_ok-tournament.ensures
 
 pub returns-in_err-answer_next-clause-too_long : goal.returns-in_err-answer_next-clause-too_long
 returns-in_err-answer_next-clause-too_long g c = λ too_long.
