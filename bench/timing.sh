@@ -18,6 +18,37 @@ lesser() { python3 -c "print(min($1, ${2:-$1}))"; }
 replay() { "$program" replay < "$1" > "$work/out"; }
 stock() { LC_ALL=C sed "s/.*/$2/" < "$1" > "$work/stock"; }
 
+# how much memory replay takes at its peak over a file, in KiB
+peak() {
+    python3 - "$program" "$1" <<'PEAK'
+import resource, subprocess, sys
+with open(sys.argv[2], "rb") as source:
+    subprocess.run([sys.argv[1], "replay"], stdin=source, stdout=subprocess.DEVNULL, check=True)
+print(resource.getrusage(resource.RUSAGE_CHILDREN).ru_maxrss)
+PEAK
+}
+
+# A table with a row for each input: how many lines it has, the least time of `replay` and of sed in five turns, the
+# ratio of the two, and lines per second and memory at the peak of `replay`. A row is given the input's name, its file
+# and what sed answers to each line.
+table_head() {
+    echo "| input | lines | replay | sed | ratio | lines per second | memory at the peak |"
+    echo "|---|---|---|---|---|---|---|"
+}
+table_row() {
+    local ours= theirs=
+    for _ in 1 2 3 4 5; do
+        ours=$(lesser "$(took replay "$2")" $ours)
+        theirs=$(lesser "$(took stock "$2" "$3")" $theirs)
+    done
+    python3 - "$1" "$(wc -l < "$2")" "$ours" "$theirs" "$(peak "$2")" <<'ROW'
+import sys
+name, lines, ours, theirs, peak = sys.argv[1], *map(float, sys.argv[2:])
+print(f"| {name} | {lines:,.0f} | {ours:.2f} s | {theirs:.2f} s | {ours / theirs:.2f} | {lines / ours:,.0f} "
+      f"| {peak / 1024:.1f} MiB |")
+ROW
+}
+
 # Replays the lines of `hands` and those of `half`, five times by turns with sed, and says the least times: lines per
 # second, the ratio to sed, and the second half of the hands against the first. Fails where a line is not answered `ok`.
 measure_halves() {
