@@ -6,12 +6,12 @@ ghost use Rattle.betting_round.specs.StreetActs.{fresh, at_next_street};
 /// A player on a street.
 #[derive(Clone, Copy, Debug, PartialEq, Eq)]
 pub struct Bettor {
-    /// His seat, from 1.
-    pub seat: u8,
     /// What he has put in on this street, in chips.
     pub put: u64,
     /// What he has behind, in chips. With nothing behind he is all-in.
     pub behind: u64,
+    /// His seat, from 1.
+    pub seat: u8,
     /// Whether he is live: he is until he folds.
     pub live: bool,
 }
