@@ -5,7 +5,7 @@ use Rattle.std.specs.List.{flat_map}
 use Rattle.std.proofs.lemmas.List.{take_more, take_all}
 use Rattle.std.proofs.lemmas.Grind.{flat_map-append}
 use Rattle.card_set.specs.declared.card.Card.{Card}
-use Rattle.card_choices.proofs.ListOrder.{max_assoc, max_lower}
+use Rattle.card_choices.proofs.ListOrder.{max_assoc}
 use Rattle.hand_rank.specs.Values.{five_card_value}
 use Rattle.hand_rank.specs.BestHigh.{greater, greatest, best_high}
 

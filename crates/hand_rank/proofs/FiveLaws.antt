@@ -1,25 +1,21 @@
 -- What five cards show is their value.
-use Rattle.std.proofs.Common.{◌≡◌, ℕ, zero, suc, ◌+◌, ◌-◌, ◌<◌, ◌≤◌, inl, inr, Bool, true, false, ◌&&◌, not, eqb, leb, cond, List, [], ◌∷◌, ◌++◌, length, Some, None, refl, sym, ap, ap₂, ◌∙◌, le_trans, lit≤, eqb-true, leb-true, append-nil, arith}
+use Rattle.std.proofs.Common.{◌≡◌, ℕ, zero, suc, ◌+◌, ◌-◌, ◌<◌, inr, Bool, true, false, eqb, cond, List, [], ◌∷◌, ◌++◌, length, Some, None, refl, sym, ap, ap₂, ◌∙◌, eqb-true, arith}
 use Rattle.std.specs.Prelude.{map}
 use Rattle.std.proofs.lemmas.Bool.Decides.{nat_tests}
 use Rattle.std.proofs.lemmas.List.{map-append}
 use Rattle.std.proofs.lemmas.List.Sums.{sum_by-append}
 use Rattle.card_set.specs.declared.card.Card.{Card}
-use Rattle.hand_rank.specs.declared.category.Category.{Category}
-use Rattle.hand_rank.specs.declared.category.Category.TheVariants.{OnePair, TwoPair, ThreeOfAKind, FullHouse, FourOfAKind}
-use Rattle.hand_rank.specs.declared.shown.Shown.{Shown}
-use Rattle.hand_rank.specs.Made.{AreOnce}
 use Rattle.hand_rank.specs.Runs.{highest_run}
-use Rattle.hand_rank.specs.Sets.{has_rank, IsTallyOf}
-use Rattle.hand_rank.specs.Shown.{falling, ranks_of, most_of}
-use Rattle.hand_rank.specs.Values.{category_number, category_of, count_of_rank, distinct_ranks, run_top, are_of_one_suit, value_of_distinct, value_by}
-use Rattle.hand_rank.proofs.CardCounts.{other-rank, distinct_ranks-sections, once-few, total-cards}
+use Rattle.hand_rank.specs.Sets.{has_rank}
+use Rattle.hand_rank.specs.Shown.{falling, ranks_of}
+use Rattle.hand_rank.specs.Values.{count_of_rank, distinct_ranks, run_top}
+use Rattle.hand_rank.proofs.CardCounts.{other-rank, distinct_ranks-sections, total-cards}
 use Rattle.hand_rank.proofs.Chosen.{occurs, count_by-cons}
 use Rattle.hand_rank.proofs.MadeLaws.{ones, shown-run}
 use Rattle.hand_rank.proofs.Needs.{has-only}
 use Rattle.hand_rank.proofs.RunLaws.{occurring, run-found, IsRunTo, run-is, run-ranks, run-five}
-use Rattle.hand_rank.proofs.Sections.{falling-same, falling-none, falling-empty, sections, total, IsShape}
-use Rattle.hand_rank.proofs.ShownValues.{often_of, AreShown, shown-shape, shown-once, shown-five, shown-value, occurs-from_two}
+use Rattle.hand_rank.proofs.Sections.{falling-same, falling-empty, sections, total}
+use Rattle.hand_rank.proofs.ShownValues.{often_of, AreShown, shown-five, occurs-from_two}
 
 -- the ranks that occur just so often
 abbrev pub exactly : List Card → ℕ → List ℕ

@@ -1,5 +1,5 @@
 -- The hands of a pair of hole cards with three cards of a board.
-use Rattle.std.proofs.Common.{◌≡◌, ℕ, zero, suc, ◌+◌, ◌-◌, ◌<◌, ◌≤◌, ◌⊎◌, inl, inr, Bool, true, false, ◌&&◌, eqb, leb, ltb, cond, List, [], ◌∷◌, ◌++◌, length, Some, None, refl, sym, ap, ap₂, ◌∙◌, subst, zero-le, le_trans, le_of_eq, eqb-true, leb-true, length-append, arith}
+use Rattle.std.proofs.Common.{◌≡◌, ℕ, zero, suc, ◌+◌, ◌-◌, ◌<◌, ◌≤◌, inl, Bool, true, false, ◌&&◌, eqb, leb, ltb, cond, List, [], ◌∷◌, ◌++◌, length, Some, None, refl, sym, ap, ◌∙◌, subst, zero-le, le_trans, le_of_eq, eqb-true, leb-true, length-append, arith}
 use Rattle.std.specs.Prelude.{Option, map}
 use Rattle.std.proofs.lemmas.Bool.Decides.{nat_tests}
 use Rattle.card_set.specs.declared.card.Card.{Card}
@@ -11,7 +11,7 @@ use Rattle.hand_rank.specs.declared.shown.Shown.{Shown}
 use Rattle.hand_rank.specs.BestHigh.{greater, best_high}
 use Rattle.hand_rank.specs.Held.{hands, has_number, value_in, best_in, value_of, IsBestIn, IsBest}
 use Rattle.hand_rank.specs.Made.{count_of_suit, AreOnce}
-use Rattle.hand_rank.specs.Shown.{ranks_of, shown_value, IsSized}
+use Rattle.hand_rank.specs.Shown.{shown_value, IsSized}
 use Rattle.hand_rank.specs.Values.{category_number, category_of, count_of_rank, distinct_ranks, run_top, are_of_one_suit, value_by, five_card_value}
 use Rattle.hand_rank.proofs.CardCounts.{other-rank, once-few, total-cards}
 use Rattle.hand_rank.proofs.Chosen.{IsChoice, count-choice, occurs, choice-with, chosen-within, chosen-above}
@@ -32,7 +32,8 @@ pub record IsHandOf (hole board five : List Card) : Type 0 where
       → count_of_rank five a + count_of_rank five b ≤ count_of_rank hole a + count_of_rank hole b + 3
 
 -- two ranks occur no more often than there are cards
-pub two-ranks : (cards : List Card) (a b : ℕ) → (a ≡ b → ⊥) → count_of_rank cards a + count_of_rank cards b ≤ length cards
+pub two-ranks : (cards : List Card) (a b : ℕ) → (a ≡ b → ⊥) → count_of_rank cards a + count_of_rank cards b
+    ≤ length cards
 two-ranks [] a b apart = zero-le
 two-ranks (card ∷ cards) a b apart =
     let later = two-ranks cards a b apart in
@@ -44,6 +45,7 @@ two-ranks (card ∷ cards) a b apart =
     one : (r x y n : ℕ) → eqb a b ≡ false → x + y ≤ n → cond (eqb r a) 1 0 + x + (cond (eqb r b) 1 0 + y) ≤ suc n
     one r x y n apart less = grind (arith, nat_tests)
 
+-- two hole cards with some three of the board are such a hand
 pub is-hand : (hole board three : List Card) → IsChoice three board → length three ≡ 3 → length hole ≡ 2
     → AreOnce (hole ++ board) → IsHandOf hole board (hole ++ three)
 is-hand hole board three is count two once =
@@ -125,7 +127,8 @@ pub record IsReached (hole board : List Card) (want : ℕ → ℕ) : Type 0 wher
   pub count : length three ≡ 3
   pub counts : (r : ℕ) → count_of_rank (hole ++ three) r ≡ want r
 
--- some three cards are with the hole cards what is wanted, where that has the hole cards in it, and no more than there is
+-- some three cards are with the hole cards what is wanted, where that has the hole cards in it, and no more than there
+-- is
 pub hand-with : (hole board : List Card) (want : ℕ → ℕ) → length hole ≡ 2 → 3 ≤ length board
     → ((r : ℕ) → count_of_rank hole r ≤ want r) → ((r : ℕ) → want r ≤ count_of_rank (hole ++ board) r)
     → total want 15 ≡ 5 → IsReached hole board want
@@ -338,6 +341,7 @@ nothing : (v : List ℕ) → Upto v [] → v ≡ []
 nothing [] up = refl
 nothing (x ∷ xs) up = absurd up
 
+-- no hand is of a category beyond the last
 pub none-beyond : (hole board : List Card) → NoneFrom 9 hole board
 none-beyond hole board = record {
   at = λ n high. nothing (best_in n (hands hole board)) (all-within_in n hole board [] (λ three ranks is count at.
@@ -350,6 +354,7 @@ none-beyond hole board = record {
     head : {x y : ℕ} {xs ys : List ℕ} → x ∷ xs ≡ y ∷ ys → x ≡ y
     head is = cc
 
+-- and none from the next lower number on, where none is of that category either
 pub none-more : (number : ℕ) (best : Option Shown) (hole board : List Card) → NoneFrom (suc number) hole board
     → IsBestIn number best (hands hole board) → best ≡ None → NoneFrom number hole board
 none-more number best hole board above is none = record {

@@ -1,5 +1,5 @@
 -- The ranks that may occur most often, category by category.
-use Rattle.std.proofs.Common.{◌≡◌, ℕ, suc, ◌+◌, ◌<◌, ◌≤◌, ◌⊎◌, inl, inr, Bool, true, false, ◌&&◌, not, eqb, leb, List, [], ◌∷◌, ◌++◌, length, Some, None, refl, sym, ap, ap₂, ◌∙◌, subst, le_refl, le_trans, eqb-true, leb-true, le-leb, lit≤, arith}
+use Rattle.std.proofs.Common.{◌≡◌, ℕ, suc, ◌+◌, ◌<◌, ◌≤◌, inl, inr, Bool, true, false, ◌&&◌, not, eqb, leb, List, [], ◌∷◌, ◌++◌, length, Some, None, refl, sym, ap, ◌∙◌, subst, le_trans, eqb-true, leb-true, le-leb, arith}
 use Rattle.std.specs.Prelude.{Option}
 use Rattle.std.proofs.lemmas.Bool.Decides.{nat_tests}
 use Rattle.card_set.specs.declared.card.Card.{Card}
@@ -53,10 +53,12 @@ pub leaders-lost : (number k j c : ℕ) (bits rank : ℕ) (held : Held) (hole bo
     → IsGreatestWith found (λ r. has_rank from.bits r && not (has_rank most.bits r))
     (λ r. has_rank held.pair.once.bits r && not (has_rank most.bits r)) c → found ≡ None → best ≡ None
     → IsBestIn number best (hands hole board)
-leaders-lost number k j c bits rank held hole board most from found best form is leaders top is_most is_from greatest none
+leaders-lost number k j c bits rank held hole board most from found best form is leaders top is_most is_from greatest
+    none
     is_none =
     let at = highest-is (has_rank bits) 16 rank top in
-    led-none number k j c held hole board most from rank found best form is at.below is_most is_from greatest none is_none
+    led-none number k j c held hole board most from rank found best form is at.below is_most is_from greatest none
+    is_none
     (subst (λ rs. length rs ≤ c)
     (falling-same (λ r. has_rank held.pair.once.bits r && not (eqb r rank))
     (λ r. has_rank held.pair.once.bits r && not (has_rank most.bits r)) 16
@@ -64,7 +66,8 @@ leaders-lost number k j c bits rank held hole board most from found best form is
     (leaders.room rank at.below at.passes))
 
 -- the best hand is that of the highest
-pub leaders-best : (number k j c : ℕ) (bits rank : ℕ) (held : Held) (hole board : List Card) (shown : Shown) (from : RankSet)
+pub leaders-best : (number k j c : ℕ) (bits rank : ℕ) (held : Held) (hole board : List Card) (shown : Shown)
+    (from : RankSet)
     → IsForm number k j c → IsHeld held hole board → AreLeaders bits held hole board k j c
     → highest_below (has_rank bits) 16 ≡ Some rank → category_number shown.category ≡ number
     → ((r : ℕ) → has_rank shown.most.bits r ≡ eqb r rank) → HasRanks from.bits j (count_of_rank (hole ++ board))
@@ -78,10 +81,12 @@ leaders-best number k j c bits rank held hole board shown from form is leaders t
     (leaders.may rank at.below at.passes)
     (λ five ranks this led. let below = led.below in at.above led.rank (omega arith) (leaders.all five ranks this led))
 
+-- both hold where their conjunction does
 pub and_parts : (a b : Bool) → (a && b) ≡ true → (a ≡ true) × (b ≡ true)
 and_parts true b is = (refl, is)
 and_parts false b is = absurd cc
 
+-- and it holds where both do
 pub and_both : (a b : Bool) → a ≡ true → b ≡ true → (a && b) ≡ true
 and_both true b one other = other
 and_both false b one other = absurd cc
@@ -139,6 +144,7 @@ pub record AreAlike (hole : List Card) (rank : ℕ) : Type 0 where
   pub twice : count_of_rank hole rank ≡ 2
   pub others : (r : ℕ) → (r ≡ rank → ⊥) → count_of_rank hole r ≡ 0
 
+-- where a rank occurs twice among two cards, they are alike
 pub hole-alike : (held : Held) (hole board : List Card) → IsHeld held hole board
     → 1 ≤ length (ranks_of held.pair.twice.bits) → (rank : ℕ) × AreAlike hole rank
 hole-alike held hole board is some =
@@ -256,6 +262,7 @@ leaders-alike held hole board bits of_all rank k c is two more has alike are = r
       (is.pair.of_twice.at led.rank (omega arith) ∙ le-leb 2 (count_of_rank hole led.rank) (omega arith));
 }
 
+-- three of a kind and one pair, whether the hole cards have one rank or two
 pub leaders-led : (held : Held) (hole board : List Card) (ranks result : RankSet) (k c : ℕ) → IsHeld held hole board
     → 2 ≤ k → 2 ≤ c → HasRanks ranks.bits k (count_of_rank (hole ++ board))
     → (ranks_of held.pair.twice.bits ≡ [] → result ≡ ranks)
@@ -345,6 +352,7 @@ leaders-full_alike held hole board rank is alike = record {
       is.all.of_thrice.at led.rank (omega arith) ∙ le-leb 3 (count_of_rank (hole ++ board) led.rank) (omega arith);
 }
 
+-- a full house, whether the hole cards have one rank or two
 pub leaders-house : (held : Held) (hole board : List Card) (result : RankSet) → IsHeld held hole board
     → (ranks_of held.pair.twice.bits ≡ []
     → (r : ℕ) → has_rank result.bits r ≡ (has_rank held.all.thrice.bits r && has_rank held.pair.once.bits r))

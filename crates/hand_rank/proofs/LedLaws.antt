@@ -1,5 +1,5 @@
 -- The best hand in which one rank occurs most often: four of a kind, a full house, three of a kind and one pair.
-use Rattle.std.proofs.Common.{◌≡◌, ℕ, zero, suc, ◌+◌, ◌*◌, ◌<◌, ◌≤◌, ◌⊎◌, inl, inr, Bool, true, false, ◌&&◌, not, eqb, leb, cond, List, [], ◌∷◌, ◌++◌, length, Some, None, refl, sym, ap, ap₂, ◌∙◌, subst, zero-le, le_refl, le_trans, eqb-true, leb-true, le-leb, lit≤, arith}
+use Rattle.std.proofs.Common.{◌≡◌, ℕ, zero, suc, ◌+◌, ◌*◌, ◌<◌, ◌≤◌, ◌⊎◌, inl, inr, Bool, true, false, ◌&&◌, not, eqb, leb, cond, List, [], ◌∷◌, ◌++◌, length, Some, None, refl, sym, ap, ap₂, ◌∙◌, subst, zero-le, le_refl, eqb-true, leb-true, le-leb, lit≤, arith}
 use Rattle.std.specs.Prelude.{Option}
 use Rattle.std.proofs.lemmas.Bool.Decides.{nat_tests}
 use Rattle.card_set.specs.declared.card.Card.{Card}
@@ -10,15 +10,15 @@ use Rattle.hand_rank.specs.declared.shown.Shown.{Shown}
 use Rattle.hand_rank.specs.Held.{hands, IsHeld, IsBestIn}
 use Rattle.hand_rank.specs.Picks.{without}
 use Rattle.hand_rank.specs.Sets.{has_rank, HasRanks}
-use Rattle.hand_rank.specs.Shown.{falling, ranks_of, shown_value, most_of, IsSized}
+use Rattle.hand_rank.specs.Shown.{falling, ranks_of, shown_value, most_of}
 use Rattle.hand_rank.specs.SoMany.{AreSoMany, IsGreatestWith}
 use Rattle.hand_rank.specs.Values.{category_number, count_of_rank, five_card_value}
 use Rattle.hand_rank.proofs.CardCounts.{other-rank, total-cards}
 use Rattle.hand_rank.proofs.FiveLaws.{exactly}
-use Rattle.hand_rank.proofs.HandLaws.{IsHandOf, is-hand, IsReached, total-least, hand-with, upto-of, no-best, Reaches, some-best}
+use Rattle.hand_rank.proofs.HandLaws.{IsHandOf, is-hand, IsReached, total-least, hand-with, upto-of, no-best, some-best}
 use Rattle.hand_rank.proofs.PickLaws.{Has, Falls, without-other}
-use Rattle.hand_rank.proofs.Sections.{total, total-same, total-without, falling-same, IsShape}
-use Rattle.hand_rank.proofs.ShapeLaws.{IsLed, led-four, led-full, led-three, led-one, rank-within}
+use Rattle.hand_rank.proofs.Sections.{total, total-same, total-without, IsShape}
+use Rattle.hand_rank.proofs.ShapeLaws.{IsLed, led-four, led-full, led-three, led-one}
 use Rattle.hand_rank.proofs.ShownValues.{AreShown, number_of, shown-above}
 use Rattle.hand_rank.proofs.SoManyLaws.{bit, either_way, falling-fewer, falling-but_one, both-are}
 
@@ -80,6 +80,7 @@ pub record AreBeside (hole board : List Card) (j c rank : ℕ) (others : ℕ →
   pub among : (r : ℕ) → r < 16 → 1 ≤ count_of_rank hole r → (r ≡ rank → ⊥) → others r ≡ true
   pub many : length (falling others 16) ≡ c
 
+-- no rank beyond the ace is beside it
 pub beside-15 : (hole board : List Card) (j c rank : ℕ) (others : ℕ → Bool) → 1 ≤ j
     → AreBeside hole board j c rank others → others 15 ≡ false
 beside-15 hole board j c rank others some are =
@@ -87,6 +88,7 @@ beside-15 hole board j c rank others some are =
     (λ is. let none = other-rank (hole ++ board) 15 (inl (lit≤ tt)) in
     let least = are.within 15 (omega arith) is in absurd (omega arith)) (λ is. is)
 
+-- what a test tells apart differs
 pub differ : (r x : ℕ) → eqb r x ≡ false → r ≡ x → ⊥
 differ r x apart e = let bad : eqb r x ≡ true = grind (arith, nat_tests) in absurd cc
 
@@ -113,7 +115,9 @@ led-reached hole board k j c rank others two five some sum lead are =
         let low : leb 15 r ≡ false = grind (arith, nat_tests) in
         (elim (eqb r rank) as (λ b. eqb r rank ≡ b
         → cond b 0 (cond (leb 15 r) 0 (cond b k (cond (others r) j 0))) ≡ cond (others r) j 0) [
-          | true ↦ λ same. let is_not : others r ≡ false = ap others (eqb-true r rank same) ∙ are.apart in rw is_not refl
+          | true ↦ λ same.
+              let is_not : others r ≡ false = ap others (eqb-true r rank same) ∙ are.apart in
+              rw is_not refl
           | false ↦ λ differs. rw low refl
         ]) refl
 
@@ -143,10 +147,11 @@ led-reached hole board k j c rank others two five some sum lead are =
           | false ↦ λ low. elim (eqb r rank) as (λ b. eqb r rank ≡ b
               → cond b k (cond (others r) j 0) ≤ count_of_rank (hole ++ board) r) [
                 | true ↦ λ same. subst (λ s. k ≤ count_of_rank (hole ++ board) s) (sym (eqb-true r rank same)) lead.many
-                | false ↦ λ apart. elim (others r) as (λ b. others r ≡ b → cond b j 0 ≤ count_of_rank (hole ++ board) r) [
-                  | true ↦ λ is. are.within r (grind (arith, nat_tests)) is
-                  | false ↦ λ is_not. zero-le
-                ] refl
+                | false ↦ λ apart. elim (others r) as
+                    (λ b. others r ≡ b → cond b j 0 ≤ count_of_rank (hole ++ board) r) [
+                      | true ↦ λ is. are.within r (grind (arith, nat_tests)) is
+                      | false ↦ λ is_not. zero-le
+                    ] refl
               ] refl
         ] refl
 
@@ -163,6 +168,7 @@ pub record IsForm (number k j c : ℕ) : Type 0 where
   pub led : (five : List Card) (ranks : List ℕ) → AreShown five → five_card_value five ≡ number ∷ ranks
       → IsLed five k j c ranks
 
+-- four of a kind
 pub form-four : IsForm 7 4 1 1
 unfolding number_of
 form-four = record {
@@ -177,6 +183,7 @@ form-four = record {
   led = led-four;
 }
 
+-- a full house
 pub form-full : IsForm 6 3 2 1
 unfolding number_of
 form-full = record {
@@ -191,6 +198,7 @@ form-full = record {
   led = led-full;
 }
 
+-- three of a kind
 pub form-three : IsForm 3 3 1 2
 unfolding number_of
 form-three = record {
@@ -205,6 +213,7 @@ form-three = record {
   led = led-three;
 }
 
+-- one pair
 pub form-one : IsForm 1 2 1 3
 unfolding number_of
 form-one = record {
@@ -299,7 +308,8 @@ pub led-best : (number k j c : ℕ) (held : Held) (hole board : List Card) (show
     → led.rank ≤ rank) → IsBestIn number (Some shown) (hands hole board)
 led-best number k j c held hole board shown from rank form is category of_most is_most is_from greatest lead highest =
     let below = lead.below in
-    let beside = found-beside held hole board shown.most from j c rank (has_rank shown.others.bits) is (omega arith) is_most
+    let beside = found-beside held hole board shown.most from j c rank (has_rank shown.others.bits) is (omega arith)
+    is_most
     is_from (greatest.are shown.others refl) in
     let none = beside-15 hole board j c rank (has_rank shown.others.bits) form.some beside in
     let all : ranks_of shown.others.bits ≡ falling (has_rank shown.others.bits) 15 =
@@ -323,7 +333,8 @@ led-best number k j c held hole board shown from rank form is category of_most i
     ∙ there r within apart has)) (le_refl j)))) in
     let have : Has (k ∷ rep c j) (rank ∷ ranks_of shown.others.bits) count =
     (below, subst (λ m. k ≤ m) (sym at_rank) (le_refl k), some_others) in
-    let up = shown-above five 4 (k ∷ rep c j) (rank ∷ ranks_of shown.others.bits) hand.shown form.shape form.falls have in
+    let up = shown-above five 4 (k ∷ rep c j) (rank ∷ ranks_of shown.others.bits) hand.shown form.shape form.falls
+    have in
     some-best number shown hole board category
     (record {
       most = ap length of_most ∙ sym form.one ∙ ap most_of (sym category);
@@ -398,7 +409,8 @@ pub led-none : (number k j c : ℕ) (held : Held) (hole board : List Card) (most
     (λ r. has_rank held.pair.once.bits r && not (has_rank most.bits r)) c → found ≡ None → best ≡ None
     → length (falling (λ r. has_rank held.pair.once.bits r && not (has_rank most.bits r)) 16) ≤ c
     → IsBestIn number best (hands hole board)
-led-none number k j c held hole board most from rank found best form is below is_most is_from greatest none is_none few =
+led-none number k j c held hole board most from rank found best form is below is_most is_from greatest none is_none
+    few =
     no-best number best hole board is_none (λ three ranks chosen three_long at.
     let this = is-hand hole board three chosen three_long is.two is.once in
     let led = form.led (hole ++ three) ranks this.shown at in
@@ -462,7 +474,8 @@ led-none number k j c held hole board most from rank found best form is below is
         let some = form.some in
         let led_below = led.below in
         let beside = led-beside hole board (hole ++ three) k j c ranks this form.less form.some led in
-        let first = falling-but_one p q led.rank 16 (omega arith) (λ r apart. alike led.rank r (count r) form.some (led.only r) apart) in
+        let first = falling-but_one p q led.rank 16 (omega arith)
+        (λ r apart. alike led.rank r (count r) form.some (led.only r) apart) in
         let not_there : bit (p led.rank) ≡ 0 = ap bit beside.apart in
         let there : bit (q led.rank) ≡ 1 = ap bit (le-leb 1 (count led.rank) (omega arith)) in
         let second = falling-but_one q w rank 16 below (λ r apart. kept (q r) r apart) in

@@ -3,7 +3,7 @@ use Rattle.std.proofs.Common.{◌≡◌, ℕ, ◌+◌, ◌-◌, ◌<◌, ◌≤�
 use Rattle.std.specs.Prelude.{Option}
 use Rattle.std.proofs.lemmas.Bool.Decides.{nat_tests}
 use Rattle.card_set.specs.declared.card.Card.{Card}
-use Rattle.hand_rank.specs.Held.{RunsWith, IsHighestRunWith}
+use Rattle.hand_rank.specs.Held.{IsHighestRunWith}
 use Rattle.hand_rank.specs.Picks.{highest_below}
 use Rattle.hand_rank.specs.Runs.{holds_place, is_run, highest_run, is_in_run, is_near}
 use Rattle.hand_rank.specs.Sets.{has_rank, HasRanks}
@@ -12,7 +12,7 @@ use Rattle.hand_rank.proofs.CardCounts.{other-rank, total-cards}
 use Rattle.hand_rank.proofs.CountLaws.{count_of_rank-cons}
 use Rattle.hand_rank.proofs.Needs.{Among, has-only, has-once}
 use Rattle.hand_rank.proofs.PickLaws.{Has, without-other, highest-is, highest-none}
-use Rattle.hand_rank.proofs.RunLaws.{occurring, run_parts, run_from, is_run-more, run-found, run-is}
+use Rattle.hand_rank.proofs.RunLaws.{occurring, run_parts, run_from, run-found, run-is}
 use Rattle.hand_rank.proofs.RunTable.{all_below, holds_below}
 use Rattle.hand_rank.proofs.Sections.{total}
 use Rattle.hand_rank.proofs.ShapeLaws.{rank-within}
@@ -68,6 +68,7 @@ run-in p top r not_one runs is =
 place_held : (p : ℕ → Bool) (place : ℕ) → p place ≡ true → holds_place p place ≡ true
 place_held p place is = rw is refl
 
+-- a rank that is in a run, by its distance from the top
 pub in_run : (top r : ℕ) → 2 ≤ r → r ≤ top → top ≤ r + 4 → is_in_run top r ≡ true
 in_run top r low up down = grind (arith, nat_tests)
 
@@ -135,6 +136,7 @@ near-run top rank other low high one two is also =
     last true false c d p q r is = absurd cc
     last false b c d p q r is = absurd cc
 
+-- a rank of a run is no more than the ace
 pub in_run-below : (top r : ℕ) → top < 15 → is_in_run top r ≡ true → r < 15
 in_run-below top r high is = grind (arith, nat_tests)
 
@@ -147,6 +149,7 @@ pub record AreTwo (hole : List Card) (high low : ℕ) : Type 0 where
   pub apart : (r : ℕ) → count_of_rank hole r ≤ 1
   pub only : (r : ℕ) → 1 ≤ count_of_rank hole r → (r ≡ high) ⊎ (r ≡ low)
 
+-- the two highest ranks of two cards are their ranks, where there are two
 pub are-two : (hole : List Card) (bits fewer high low : ℕ) → length hole ≡ 2 → HasRanks bits 1 (count_of_rank hole)
     → highest_below (has_rank bits) 16 ≡ Some high
     → ((r : ℕ) → r < 16 → has_rank fewer r ≡ (has_rank bits r && not (eqb r high)))
@@ -172,7 +175,8 @@ are-two hole bits fewer high low two has first without second =
       at_low = at_low;
       apart = λ r. elim (leb 15 r) as (λ b. leb 15 r ≡ b → count r ≤ 1) [
         | true ↦ λ far. let none = other-rank hole r (inl (leb-true 15 r far)) in omega arith
-        | false ↦ λ near. has-once (1 ∷ 1 ∷ []) (high ∷ low ∷ []) count r (lit≤ tt, lit≤ tt, (lit≤ tt, lit≤ tt, tt)) have
+        | false ↦ λ near. has-once (1 ∷ 1 ∷ []) (high ∷ low ∷ []) count r (lit≤ tt, lit≤ tt, (lit≤ tt, lit≤ tt, tt))
+            have
             sum (grind (arith, nat_tests))
       ] refl;
       only = λ r some. one_of r high low
@@ -225,7 +229,8 @@ both_near : ℕ → ℕ → ℕ → Bool
 both_near high low r = is_near high r && is_near low r
 
 -- the highest run of the ranks near both is the highest run with both
-pub run-with : (hole : List Card) (count : ℕ → ℕ) (bits near fewer high low : ℕ) (result : Option ℕ) → AreTwo hole high low
+pub run-with : (hole : List Card) (count : ℕ → ℕ) (bits near fewer high low : ℕ) (result : Option ℕ)
+    → AreTwo hole high low
     → HasRanks bits 1 count
     → ((r : ℕ) → r < 16 → has_rank near r ≡ (is_near high r && is_near low r))
     → ((r : ℕ) → has_rank fewer r ≡ (has_rank bits r && has_rank near r))
@@ -311,5 +316,6 @@ none-one (x ∷ hole) bits two has none =
     let all : count_of_rank (x ∷ hole) x.rank ≡ 1 + count_of_rank hole x.rank = count_of_rank-cons x hole x.rank
     ∙ ap (λ b. cond b 1 0 + count_of_rank hole x.rank) itself in
     let fails = sym (has.at x.rank (omega arith)) ∙ highest-none (has_rank bits) 16 x.rank none (omega arith) in
-    let is : leb 1 (count_of_rank (x ∷ hole) x.rank) ≡ true = le-leb 1 (count_of_rank (x ∷ hole) x.rank) (omega arith) in
+    let is : leb 1 (count_of_rank (x ∷ hole) x.rank) ≡ true =
+    le-leb 1 (count_of_rank (x ∷ hole) x.rank) (omega arith) in
     absurd cc

@@ -1,9 +1,7 @@
 -- Parts of five cards.
-use Rattle.std.proofs.Common.{◌≡◌, ℕ, zero, suc, ◌+◌, ◌<◌, ◌≤◌, ◌⊎◌, inl, inr, Bool, true, false, ◌&&◌, ◌||◌, eqb, leb, cond, List, [], ◌∷◌, ◌++◌, length, get_or, Some, None, lit≤, refl, sym, ap, ◌∙◌, eqb-true, eq-eqb, arith}
-use Rattle.std.specs.Prelude.{Option, is_some, map}
-use Rattle.std.specs.List.{list_all}
+use Rattle.std.proofs.Common.{◌≡◌, ℕ, zero, suc, ◌+◌, ◌<◌, ◌≤◌, ◌⊎◌, inl, inr, Bool, true, false, ◌&&◌, ◌||◌, eqb, leb, cond, List, [], ◌∷◌, ◌++◌, length, get_or, Some, None, lit≤, refl, sym, ap, ◌∙◌, arith}
+use Rattle.std.specs.Prelude.{Option, map}
 use Rattle.std.proofs.lemmas.Bool.Decides.{nat_tests}
-use Rattle.std.proofs.lemmas.List.Folds.{list_all-append}
 use Rattle.std.proofs.lemmas.List.Sums.{sum_by-append}
 use Rattle.card_set.specs.declared.card.Card.{Card}
 use Rattle.card_choices.proofs.ListOrder.{Upto, upto_through, max_upper, max-above_left}
@@ -11,7 +9,6 @@ use Rattle.card_choices.specs.Choices.{omaha_choices}
 use Rattle.hand_rank.specs.declared.category.Category.{Category}
 use Rattle.hand_rank.specs.BestHigh.{greater, best_high}
 use Rattle.hand_rank.specs.Sets.{has_rank, IsTallyOf}
-use Rattle.hand_rank.specs.Shown.{suit_of}
 use Rattle.hand_rank.specs.Values.{category_number, category_of, count_of_rank, distinct_ranks, run_top, are_of_one_suit, value_by, five_card_value}
 
 -- how often ranks occur in some cards and in others

@@ -52,7 +52,8 @@ run_parts p t h =
     let d = and_parts (holds_place p t) (holds_place p (t - 1)) c.0 in
     (d.0, d.1, c.1, b.1, a.1)
 
-pub run_from : (p : ℕ → Bool) (t : ℕ) → holds_place p t ≡ true → holds_place p (t - 1) ≡ true → holds_place p (t - 2) ≡ true
+pub run_from : (p : ℕ → Bool) (t : ℕ) → holds_place p t ≡ true → holds_place p (t - 1) ≡ true → holds_place p (t - 2)
+    ≡ true
     → holds_place p (t - 3) ≡ true → holds_place p (t - 4) ≡ true → is_run p t ≡ true
 run_from p t a b c d e =
     and_both _ _ (and_both _ _ (and_both _ _ (and_both _ _ a b) c) d) e

@@ -1,10 +1,10 @@
 -- The ranks of five cards of a category, by how often they occur.
-use Rattle.std.proofs.Common.{◌≡◌, ℕ, ◌+◌, ◌<◌, ◌≤◌, ◌⊎◌, inl, inr, Bool, true, false, ◌&&◌, not, eqb, leb, cond, List, [], ◌∷◌, ◌++◌, length, Some, None, refl, sym, ap, ap₂, ◌∙◌, subst, eqb-true, leb-true, append-nil, arith}
+use Rattle.std.proofs.Common.{◌≡◌, ℕ, ◌<◌, ◌≤◌, ◌⊎◌, inl, inr, Bool, true, false, ◌&&◌, not, eqb, leb, cond, List, [], ◌∷◌, ◌++◌, length, Some, None, refl, sym, ap, ap₂, ◌∙◌, eqb-true, leb-true, append-nil, arith}
 use Rattle.std.specs.Prelude.{Option}
 use Rattle.std.proofs.lemmas.Bool.Decides.{nat_tests}
 use Rattle.card_set.specs.declared.card.Card.{Card}
 use Rattle.hand_rank.specs.Shown.{falling}
-use Rattle.hand_rank.specs.Values.{category_of, count_of_rank, distinct_ranks, run_top, are_of_one_suit, value_of_distinct, value_by, five_card_value}
+use Rattle.hand_rank.specs.Values.{count_of_rank, distinct_ranks, run_top, are_of_one_suit, value_of_distinct, five_card_value}
 use Rattle.hand_rank.proofs.CardCounts.{other-rank}
 use Rattle.hand_rank.proofs.FiveLaws.{exactly, distinct-exactly, lengths, no_ranks}
 use Rattle.hand_rank.proofs.MadeLaws.{ones}
@@ -23,6 +23,7 @@ head is = cc
 tail : {x y : ℕ} {xs ys : List ℕ} → x ∷ xs ≡ y ∷ ys → xs ≡ ys
 tail is = cc
 
+-- the number of the category tells how often ranks occur
 pub of-number : (five : List Card) (n : ℕ) (ranks : List ℕ) → AreShown five → five_card_value five ≡ n ∷ ranks
     → often_of five ≡ shape_at n
 of-number five n ranks shown is =
@@ -109,6 +110,7 @@ not-often five i r none within is =
     let same : eqb (count_of_rank five r) i ≡ true = grind (arith, nat_tests) in
     absurd cc
 
+-- a rank that occurs is no more than the ace
 pub rank-within : (cards : List Card) (r : ℕ) → 1 ≤ count_of_rank cards r → r < 15
 rank-within cards r some =
     elim (leb 15 r) as (λ b. leb 15 r ≡ b → r < 15) [
@@ -145,6 +147,7 @@ led five k j c ranks are one many either =
 four_of : (n : ℕ) → 1 ≤ n → n ≤ 4 → (n ≡ 4) ⊎ ((n ≡ 3) ⊎ ((n ≡ 2) ⊎ (n ≡ 1)))
 four_of n some few = grind arith
 
+-- in four of a kind one rank leads
 pub led-four : (five : List Card) (ranks : List ℕ) → AreShown five → five_card_value five ≡ 7 ∷ ranks
     → IsLed five 4 1 1 ranks
 led-four five ranks shown is =
@@ -162,6 +165,7 @@ led-four five ranks shown is =
       ]
     ])
 
+-- in a full house one rank leads
 pub led-full : (five : List Card) (ranks : List ℕ) → AreShown five → five_card_value five ≡ 6 ∷ ranks
     → IsLed five 3 2 1 ranks
 led-full five ranks shown is =
@@ -179,6 +183,7 @@ led-full five ranks shown is =
       ]
     ])
 
+-- in three of a kind one rank leads
 pub led-three : (five : List Card) (ranks : List ℕ) → AreShown five → five_card_value five ≡ 3 ∷ ranks
     → IsLed five 3 1 2 ranks
 led-three five ranks shown is =
@@ -196,6 +201,7 @@ led-three five ranks shown is =
       ]
     ])
 
+-- in one pair one rank leads
 pub led-one : (five : List Card) (ranks : List ℕ) → AreShown five → five_card_value five ≡ 1 ∷ ranks
     → IsLed five 2 1 3 ranks
 led-one five ranks shown is =
@@ -271,6 +277,7 @@ are-two test n a b is =
     passing true true is is_not = absurd cc
     passing false y is is_not = absurd cc
 
+-- in two pair there are two
 pub two-pair : (five : List Card) (ranks : List ℕ) → AreShown five → five_card_value five ≡ 2 ∷ ranks
     → AreTwoPair five ranks
 two-pair five ranks shown is =

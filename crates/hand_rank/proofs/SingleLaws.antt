@@ -1,5 +1,5 @@
 -- The best hands of five distinct ranks: flushes, straights and high cards.
-use Rattle.std.proofs.Common.{◌≡◌, ℕ, suc, ◌+◌, ◌-◌, ◌<◌, ◌≤◌, ◌⊎◌, inl, inr, Bool, true, false, ◌&&◌, not, eqb, leb, cond, List, [], ◌∷◌, ◌++◌, length, Some, None, refl, sym, ap, ap₂, ◌∙◌, subst, zero-le, le_refl, le_trans, le_of_eq, eqb-true, leb-true, le-leb, lit≤, length-append, append-nil, arith}
+use Rattle.std.proofs.Common.{◌≡◌, ℕ, ◌+◌, ◌<◌, ◌≤◌, inl, inr, Bool, true, false, ◌&&◌, not, eqb, leb, cond, List, [], ◌∷◌, ◌++◌, length, Some, None, refl, sym, ap, ap₂, ◌∙◌, subst, zero-le, le_refl, eqb-true, leb-true, le-leb, lit≤, length-append, append-nil, arith}
 use Rattle.std.specs.Prelude.{Option, filter}
 use Rattle.std.specs.List.{list_all}
 use Rattle.std.proofs.lemmas.Bool.Decides.{nat_tests}
@@ -11,26 +11,21 @@ use Rattle.card_choices.proofs.ListOrder.{Upto}
 use Rattle.hand_rank.specs.declared.held.Held.{Held}
 use Rattle.hand_rank.specs.declared.rank_set.RankSet.{RankSet}
 use Rattle.hand_rank.specs.declared.shown.Shown.{Shown}
-use Rattle.hand_rank.specs.Held.{hands, count_of_some_suit, IsHeld, RunsWith, IsHighestRunWith, IsBestIn}
+use Rattle.hand_rank.specs.Held.{hands, count_of_some_suit, IsHeld, IsBestIn}
 use Rattle.hand_rank.specs.Made.{count_of_suit, AreOnce}
-use Rattle.hand_rank.specs.Runs.{is_in_run}
 use Rattle.hand_rank.specs.Sets.{has_rank, HasRanks}
-use Rattle.hand_rank.specs.Shown.{falling, ranks_of, shown_value, most_of, suit_of, IsSized}
+use Rattle.hand_rank.specs.Shown.{falling, ranks_of, shown_value, most_of, suit_of}
 use Rattle.hand_rank.specs.SoMany.{AreSoMany, IsGreatestWith}
 use Rattle.hand_rank.specs.Values.{category_number, count_of_rank, distinct_ranks, run_top, are_of_one_suit, value_of_distinct, five_card_value}
 use Rattle.hand_rank.proofs.CardCounts.{other-rank, total-cards, suited-rank, all-suited, one_suit-all, all-one_suit}
 use Rattle.hand_rank.proofs.Chosen.{IsChoice, choice-filter}
-use Rattle.hand_rank.proofs.FiveLaws.{exactly, distinct-exactly, lengths, no_ranks, run-top_same}
-use Rattle.hand_rank.proofs.HandLaws.{IsHandOf, is-hand, IsReached, hand-with, total-least, upto-of, no-best, Reaches, some-best}
-use Rattle.hand_rank.proofs.LedLaws.{rep, has-falling, total-passing, falling-15, differ}
-use Rattle.hand_rank.proofs.MadeLaws.{ones, fall_ones, shown-run}
-use Rattle.hand_rank.proofs.NearLaws.{run-in, in-run, in_run-below}
-use Rattle.hand_rank.proofs.Needs.{Among, has-only}
+use Rattle.hand_rank.proofs.FiveLaws.{exactly, distinct-exactly, lengths, no_ranks}
+use Rattle.hand_rank.proofs.HandLaws.{IsHandOf, is-hand, IsReached, hand-with, total-least, upto-of, no-best, some-best}
+use Rattle.hand_rank.proofs.LedLaws.{rep, has-falling, total-passing, falling-15}
+use Rattle.hand_rank.proofs.MadeLaws.{ones}
 use Rattle.hand_rank.proofs.PartLaws.{count-joined}
 use Rattle.hand_rank.proofs.PickLaws.{Has, picked-greatest}
-use Rattle.hand_rank.proofs.RunLaws.{occurring, IsRunTo, is_run-more, run-found, run-ranks}
-use Rattle.hand_rank.proofs.RunTable.{all_below, holds_below}
-use Rattle.hand_rank.proofs.Sections.{total, total-same, falling-none, falling-empty}
+use Rattle.hand_rank.proofs.Sections.{total-same, falling-none, falling-empty}
 use Rattle.hand_rank.proofs.ShapeLaws.{of-number, rank-within}
 use Rattle.hand_rank.proofs.ShownValues.{often_of, AreShown, shown-picked, shown-once, shown-value, distinct-above}
 use Rattle.hand_rank.proofs.SoManyLaws.{either_way, falling-fewer, greatest-same}
@@ -47,6 +42,7 @@ single-few p r = few (leb 15 r) (p r)
     few false true = lit≤ tt
     few false false = lit≤ tt
 
+-- a rank that passes is counted once
 pub single-is : (p : ℕ → Bool) (r : ℕ) → r < 15 → p r ≡ true → single_count p r ≡ 1
 single-is p r below is = let low : leb 15 r ≡ false = grind (arith, nat_tests) in rw (low, is) refl
 
@@ -104,6 +100,7 @@ pub record AreSuited (hole board : List Card) (suit : ℕ) (p : ℕ → Bool) : 
   pub counts : (r : ℕ) → count_of_rank (hole ++ three) r ≡ single_count p r
   pub one : are_of_one_suit (hole ++ three) ≡ true
 
+-- where the hole cards and enough of the board have the suit
 pub suited-reached : (hole board : List Card) (suit : ℕ) (p : ℕ → Bool) → length hole ≡ 2
     → list_all (λ (card : Card). eqb card.suit suit) hole ≡ true → AreFive hole p
     → ((r : ℕ) → r < 15 → p r ≡ true → 1 ≤ count_of_suit (hole ++ board) suit r)
@@ -119,10 +116,12 @@ suited-reached hole board suit p two of_suit are there =
     omega (arith, some, split, held, laid, sum) in
     let passing = total-passing p 1 15 in
     let many = are.many in
-    let fewer = total-least (λ r. cond (p r) 1 0) (count_of_rank (hole ++ suited)) 15 (λ r below. each r below enough) in
+    let fewer = total-least (λ r. cond (p r) 1 0) (count_of_rank (hole ++ suited)) 15
+    (λ r below. each r below enough) in
     let cards = total-cards (hole ++ suited) in
     let long = length-append hole suited in
-    let reached = singles-reached hole suited p two (omega (arith, passing, many, fewer, cards, long, two)) are enough in
+    let reached = singles-reached hole suited p two (omega (arith, passing, many, fewer, cards, long, two)) are
+    enough in
     let chosen = choice-filter (λ (card : Card). eqb card.suit suit) reached.three board reached.choice in
     record {
       three = reached.three;
@@ -155,6 +154,7 @@ pub record AreSingle (five : List Card) (p : ℕ → Bool) : Type 0 where
   pub often : often_of five ≡ ones
   pub up : Upto (falling p 15) (distinct_ranks five)
 
+-- five cards that have each of five ranks once
 pub are-single : (five : List Card) (p : ℕ → Bool) → AreShown five → length (falling p 15) ≡ 5
     → ((r : ℕ) → count_of_rank five r ≡ single_count p r) → AreSingle five p
 are-single five p shown many counts =
@@ -185,6 +185,7 @@ pub record IsSingle (five : List Card) (number : ℕ) (ranks : List ℕ) : Type 
   pub distinct : distinct_ranks five ≡ exactly five 1
   pub many : length (exactly five 1) ≡ 5
 
+-- a hand whose ranks all occur once
 pub is-single : (five : List Card) (number : ℕ) (ranks : List ℕ) → AreShown five → often_of five ≡ ones
     → five_card_value five ≡ number ∷ ranks → IsSingle five number ranks
 is-single five number ranks shown often is =
@@ -229,7 +230,9 @@ pub record Tells (top : Option ℕ) (one : Bool) (all ranks : List ℕ) (number 
   pub straight : number ≡ 4 → (run : ℕ) × (top ≡ Some run) × (ranks ≡ run ∷ [])
   pub straight_flush : number ≡ 8 → (one ≡ true) × ((run : ℕ) × (top ≡ Some run) × (ranks ≡ run ∷ []))
 
-pub tells : (top : Option ℕ) (one : Bool) (all ranks : List ℕ) (number : ℕ) → value_of_distinct top one all ≡ number ∷ ranks
+-- by the number of its category
+pub tells : (top : Option ℕ) (one : Bool) (all ranks : List ℕ) (number : ℕ) → value_of_distinct top one all
+    ≡ number ∷ ranks
     → Tells top one all ranks number
 tells (Some run) true all ranks number is = let at : 8 ≡ number = head is in record {
   high = λ e. absurd (omega arith);
@@ -520,7 +523,8 @@ flush-best held hole board shown is category none greatest =
       count = reached.count;
       up = subst (λ v. Upto v (five_card_value five)) (sym (value ∙ ap (λ rs. 5 ∷ rs) all))
           (subst (λ v. Upto (5 ∷ falling p 15) v) (single-value five single.often)
-          (subst (λ b. Upto (5 ∷ falling p 15) (value_of_distinct (run_top (distinct_ranks five)) b (distinct_ranks five)))
+          (subst (λ b. Upto (5 ∷ falling p 15)
+          (value_of_distinct (run_top (distinct_ranks five)) b (distinct_ranks five)))
           (sym reached.one)
           (above (run_top (distinct_ranks five)) (distinct_ranks five) (falling p 15) single.up)));
     })

@@ -1,5 +1,5 @@
 -- So many ranks of some, with others among them: which are the greatest.
-use Rattle.std.proofs.Common.{◌≡◌, ℕ, zero, suc, ◌+◌, ◌<◌, ◌≤◌, inl, inr, Bool, true, false, ◌&&◌, ◌||◌, not, eqb, cond, List, [], ◌∷◌, length, Some, None, refl, sym, ap, ap₂, ◌∙◌, subst, eqb-true, zero-le, le_refl, arith}
+use Rattle.std.proofs.Common.{◌≡◌, ℕ, zero, suc, ◌+◌, ◌<◌, ◌≤◌, inr, Bool, true, false, ◌&&◌, ◌||◌, not, eqb, cond, List, [], ◌∷◌, length, Some, None, refl, sym, ap, ap₂, ◌∙◌, subst, eqb-true, zero-le, le_refl, arith}
 use Rattle.std.specs.Prelude.{Option}
 use Rattle.std.proofs.lemmas.Bool.Decides.{nat_tests}
 use Rattle.card_choices.proofs.ListOrder.{Upto, max_upper}
@@ -112,6 +112,7 @@ pub record AreTaken (from forced taken free : ℕ → Bool) (count : ℕ) : Type
   pub above : (r q : ℕ) → r < 16 → q < 16 → free r ≡ true → taken q ≡ true → forced q ≡ false → r < q
   pub many : length (falling taken 16) ≡ length (falling forced 16) + count
 
+-- at first those are taken that have to be
 pub taken-none : (from forced free : ℕ → Bool) → ((r : ℕ) → r < 16 → forced r ≡ true → from r ≡ true)
     → ((r : ℕ) → r < 16 → free r ≡ (from r && not (forced r))) → AreTaken from forced forced free 0
 taken-none from forced free inside left = record {

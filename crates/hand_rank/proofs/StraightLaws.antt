@@ -1,5 +1,5 @@
 -- The best straights and straight flushes of a pair of hole cards with three cards of a board.
-use Rattle.std.proofs.Common.{◌≡◌, ℕ, ◌+◌, ◌-◌, ◌<◌, ◌≤◌, ◌⊎◌, inl, inr, Bool, true, false, ◌&&◌, ◌||◌, not, eqb, leb, List, [], ◌∷◌, ◌++◌, length, Some, None, refl, sym, ap, ap₂, ◌∙◌, subst, eqb-true, leb-true, le-leb, lit≤, arith}
+use Rattle.std.proofs.Common.{◌≡◌, ℕ, ◌-◌, ◌<◌, ◌≤◌, ◌⊎◌, inl, inr, Bool, true, false, ◌||◌, not, eqb, leb, List, [], ◌∷◌, ◌++◌, length, Some, None, refl, sym, ap, ◌∙◌, subst, eqb-true, leb-true, le-leb, lit≤, arith}
 use Rattle.std.specs.Prelude.{Option}
 use Rattle.std.proofs.lemmas.Bool.Decides.{nat_tests}
 use Rattle.card_set.specs.declared.card.Card.{Card}
@@ -18,10 +18,10 @@ use Rattle.hand_rank.proofs.HandLaws.{IsHandOf, is-hand, no-best, some-best}
 use Rattle.hand_rank.proofs.MadeLaws.{ones, shown-run}
 use Rattle.hand_rank.proofs.NearLaws.{run-in, in-run, in_run, in_run-below}
 use Rattle.hand_rank.proofs.Needs.{Among, has-only}
-use Rattle.hand_rank.proofs.RunLaws.{occurring, IsRunTo, is_run-more, run-found, run-ranks}
+use Rattle.hand_rank.proofs.RunLaws.{occurring, is_run-more, run-found, run-ranks}
 use Rattle.hand_rank.proofs.RunTable.{all_below, holds_below}
 use Rattle.hand_rank.proofs.ShapeLaws.{of-number, rank-within}
-use Rattle.hand_rank.proofs.ShownValues.{often_of, AreShown, occurs-from_two}
+use Rattle.hand_rank.proofs.ShownValues.{occurs-from_two}
 use Rattle.hand_rank.proofs.SingleLaws.{single_count, single-is, AreFive, singles-reached, suited-reached, AreSingle, are-single, single-value, IsSingle, is-single, tells, suit-all, hand-suited}
 
 -- a run has five ranks
@@ -185,7 +185,8 @@ no-straight held hole board result best is highest none is_none =
     (of-number (hole ++ three) 4 ranks this.shown is_value) is_value in
     let told = (tells (run_top (distinct_ranks (hole ++ three))) (are_of_one_suit (hole ++ three))
     (distinct_ranks (hole ++ three)) ranks 4 one.value).straight refl in
-    let with = highest.others told.0 (hand-runs hole board (hole ++ three) 4 ranks (count_of_rank (hole ++ board)) told.0
+    let with = highest.others told.0
+    (hand-runs hole board (hole ++ three) 4 ranks (count_of_rank (hole ++ board)) told.0
     this one told.1 this.most) in
     let bad : None ≡ Some with.0 = sym none ∙ with.1 in
     absurd cc)
@@ -204,7 +205,8 @@ straight_flush-best held hole board shown top result is category most others hig
     let of_suit : RunsWith top count hole =
     subst (λ s. RunsWith top (count_of_some_suit s (hole ++ board)) hole) suit.1 run in
     let are = run-five hole count top of_suit in
-    let no_one = (subst (λ s. HasRanks held.suited.bits 1 (count_of_some_suit s (hole ++ board))) suit.1 is.suited).only 1
+    let no_one = (subst (λ s. HasRanks held.suited.bits 1 (count_of_some_suit s (hole ++ board))) suit.1 is.suited).only
+    1
     (inr (lit≤ tt)) in
     let reached = suited-reached hole board suit.0 (is_in_run top) is.two all_suited are (λ r below at.
     run-there hole count top r of_suit no_one at) in

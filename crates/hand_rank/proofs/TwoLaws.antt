@@ -10,7 +10,7 @@ use Rattle.hand_rank.specs.declared.shown.Shown.{Shown}
 use Rattle.hand_rank.specs.Held.{hands, IsHeld, IsBestIn}
 use Rattle.hand_rank.specs.Picks.{highest_below, without}
 use Rattle.hand_rank.specs.Sets.{has_rank}
-use Rattle.hand_rank.specs.Shown.{falling, ranks_of, shown_value, most_of, IsSized}
+use Rattle.hand_rank.specs.Shown.{falling, ranks_of, shown_value, most_of}
 use Rattle.hand_rank.specs.SoMany.{AreSoMany, IsGreatestWith}
 use Rattle.hand_rank.specs.Values.{category_number, count_of_rank, five_card_value}
 use Rattle.hand_rank.proofs.CardCounts.{other-rank}
@@ -19,11 +19,11 @@ use Rattle.hand_rank.proofs.HandLaws.{IsHandOf, is-hand, IsReached, hand-with, t
 use Rattle.hand_rank.proofs.LeaderLaws.{few-times, beside-few, and_parts, and_both}
 use Rattle.hand_rank.proofs.LedLaws.{rep, has-falling, total-passing, falling-15, differ}
 use Rattle.hand_rank.proofs.PartLaws.{count-joined}
-use Rattle.hand_rank.proofs.PickLaws.{IsHighest, highest-is, highest-none, Has, Falls, without-other}
-use Rattle.hand_rank.proofs.Sections.{total, total-same, total-without, falling-none, falling-leads, falling-same}
+use Rattle.hand_rank.proofs.PickLaws.{highest-is, highest-none, Has, Falls, without-other}
+use Rattle.hand_rank.proofs.Sections.{total-same, total-without, falling-none, falling-leads, falling-same}
 use Rattle.hand_rank.proofs.ShapeLaws.{AreTwoPair, two-pair, rank-within}
 use Rattle.hand_rank.proofs.ShownValues.{number_of, shown-above}
-use Rattle.hand_rank.proofs.SoManyLaws.{bit, either_way, falling-fewer, falling-but_one, both-are, greatest-same}
+use Rattle.hand_rank.proofs.SoManyLaws.{either_way, falling-fewer, both-are, greatest-same}
 
 -- two ranks that may occur twice, one of which the hole cards have
 pub record MayBeTwo (hole board : List Card) (first second : ℕ) : Type 0 where
@@ -112,7 +112,8 @@ two-reached hole board first second others two five may are =
                       | false ↦ λ not_second. elim (leb 1 (count_of_rank hole r)) as
                           (λ b. leb 1 (count_of_rank hole r) ≡ b → count_of_rank hole r ≤ cond (others r) 1 0) [
                             | true ↦ λ some.
-                                let has = are.among r (grind (arith, nat_tests)) (leb-true 1 (count_of_rank hole r) some)
+                                let has = are.among r (grind (arith, nat_tests))
+                                (leb-true 1 (count_of_rank hole r) some)
                                 (differ r first not_first) (differ r second not_second) in
                                 rw has (once r (differ r first not_first) (differ r second not_second))
                             | false ↦ λ nothing. let zero_times : count_of_rank hole r ≡ 0 = grind (arith, nat_tests) in
@@ -157,7 +158,8 @@ neither true true c is = absurd cc
 neither false b c is = absurd cc
 
 apart-from : (r x : ℕ) → (r ≡ x → ⊥) → eqb r x ≡ false
-apart-from r x differs = either_way (eqb r x) (eqb r x ≡ false) (λ same. absurd (differs (eqb-true r x same))) (λ is. is)
+apart-from r x differs = either_way (eqb r x) (eqb r x ≡ false) (λ same. absurd (differs (eqb-true r x same)))
+    (λ is. is)
 
 -- what is asked of the rank beside two pairs, as tests on a set of the two
 abbrev from_test : Held → ℕ → ℕ → ℕ → Bool
@@ -263,7 +265,8 @@ two-best held hole board shown first second is category of_most greatest may hig
     let not_first : r ≡ first → ⊥ = λ same. let is_not = ap others same ∙ beside.not_first in absurd cc in
     let not_second : r ≡ second → ⊥ = λ same. let is_not = ap others same ∙ beside.not_second in absurd cc in
     subst (λ m. 1 ≤ m) (sym (without-other second r (without first count) not_second
-    ∙ without-other first r count not_first ∙ reached.counts r ∙ there r within not_first not_second has)) (le_refl 1)))) in
+    ∙ without-other first r count not_first ∙ reached.counts r ∙ there r within not_first not_second has))
+    (le_refl 1)))) in
     let second_kept : without first count second ≡ 2 = without-other first second count (differ second first apart)
     ∙ at_second in
     let have : Has (2 ∷ 2 ∷ 1 ∷ []) (first ∷ second ∷ ranks_of shown.others.bits) count = (
@@ -292,7 +295,8 @@ two-best held hole board shown first second is category of_most greatest may hig
     (inr (
       refl,
       subst (λ rs. Upto rs (first ∷ second ∷ ranks_of shown.others.bits)) (sym two.whole)
-          (on two.first two.second (exactly (hole ++ three) 1) (ranks_of shown.others.bits) less (λ same_first same_second.
+          (on two.first two.second (exactly (hole ++ three) 1) (ranks_of shown.others.bits) less
+          (λ same_first same_second.
           let theirs = two-beside hole board (hole ++ three) ranks this two in
           let test : ℕ → Bool = λ r. eqb (count_of_rank (hole ++ three) r) 1 in
           let none_their : test 15 ≡ false = beside-15 hole board two.first two.second test theirs in
@@ -337,11 +341,13 @@ falling-two (suc n) a b lower within =
           rw other (falling-two n a b lower (grind (arith, nat_tests)))
     ] refl
 
+-- a set that is made of two ranks
 pub set-two : (most one : RankSet) (first second : ℕ) → ((r : ℕ) → has_rank one.bits r ≡ eqb r first)
     → ((r : ℕ) → has_rank most.bits r ≡ (has_rank one.bits r || eqb r second)) → (r : ℕ)
     → has_rank most.bits r ≡ (eqb r first || eqb r second)
 set-two most one first second of_first with_second r = with_second r ∙ ap (λ b. b || eqb r second) (of_first r)
 
+-- and its ranks from the higher down
 pub ranks-two : (most : RankSet) (first second : ℕ) → second < first → first < 16
     → ((r : ℕ) → has_rank most.bits r ≡ (eqb r first || eqb r second)) → ranks_of most.bits ≡ first ∷ second ∷ []
 ranks-two most first second lower below is =
@@ -455,7 +461,8 @@ seconds-some held hole board five ranks bits first is hand two seconds high up =
               seconds.of_board of_board two.first (omega arith)
                   ∙ and_both (has_rank held.all.twice.bits two.first && not (eqb two.first first))
                   (has_rank held.pair.once.bits two.first)
-                  (and_both (has_rank held.all.twice.bits two.first) (not (eqb two.first first)) twice_first apart_first)
+                  (and_both (has_rank held.all.twice.bits two.first) (not (eqb two.first first)) twice_first
+                  apart_first)
                   (is.pair.of_once.at two.first (omega arith) ∙ some),
             )
             | false ↦ λ none.
@@ -480,7 +487,8 @@ pub chosen-two : (held : Held) (hole board : List Card) (bits first second : ℕ
 chosen-two held hole board bits first second is seconds of_first of_second =
     let top = highest-is (has_rank held.all.twice.bits) 16 first of_first in
     let next = highest-is (has_rank bits) 16 second of_second in
-    let many = leb-true 2 (count_of_rank (hole ++ board) first) (sym (is.all.of_twice.at first top.below) ∙ top.passes) in
+    let many = leb-true 2 (count_of_rank (hole ++ board) first)
+    (sym (is.all.of_twice.at first top.below) ∙ top.passes) in
     let within = rank-within (hole ++ board) first (omega arith) in
     either_way (has_rank held.pair.once.bits first) (MayBeTwo hole board first second)
     (λ of_pair.
@@ -631,7 +639,8 @@ no-third held hole board first second found best is may greatest none is_none =
               (λ r under has. less_first (has_rank held.pair.once.bits r) (eqb r first) (eqb r second) has))
               (beside-few held hole board first is (omega arith) some)
           | inr some ↦ le_trans
-              (falling-fewer (pair_test held first second) (λ r. has_rank held.pair.once.bits r && not (eqb r second)) 16
+              (falling-fewer (pair_test held first second) (λ r. has_rank held.pair.once.bits r && not (eqb r second))
+              16
               (λ r under has. less_second (has_rank held.pair.once.bits r) (eqb r first) (eqb r second) has))
               (beside-few held hole board second is (omega arith) some)
         ]

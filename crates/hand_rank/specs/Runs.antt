@@ -25,4 +25,5 @@ is_in_run top rank =
 
 -- whether a rank is in a run that another is in
 unfoldable pub is_near : ℕ → ℕ → Bool
-is_near rank other = list_any (λ top. is_in_run top rank && is_in_run top other) (5 ∷ 6 ∷ 7 ∷ 8 ∷ 9 ∷ 10 ∷ 11 ∷ 12 ∷ 13 ∷ 14 ∷ [])
+is_near rank other = list_any (λ top. is_in_run top rank && is_in_run top other)
+    (5 ∷ 6 ∷ 7 ∷ 8 ∷ 9 ∷ 10 ∷ 11 ∷ 12 ∷ 13 ∷ 14 ∷ [])

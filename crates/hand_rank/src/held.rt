@@ -17,8 +17,8 @@ use crate::shown::Shown;
 use crate::tally::Tally;
 use card_choices::Pair;
 
-/// How often ranks occur in a pair of hole cards, and in the pair and a board together. Where the pair has one suit, the
-/// ranks of that suit in both, and else none.
+/// How often ranks occur in a pair of hole cards, and in the pair and a board together. The ranks of the pair's suit in
+/// both, none where it has two suits.
 #[derive(Clone, Copy, Debug)]
 pub struct Held {
     pub pair: Tally,

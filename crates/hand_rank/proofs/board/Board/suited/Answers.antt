@@ -1,4 +1,3 @@
-use Rattle.std.proofs.Common.{◌<◌}
 use Rattle.hand_rank.proofs.HeldLaws.{suited-ranks}
 use Rattle.hand_rank.proofs.board.Board.suited.Goals as goal
 

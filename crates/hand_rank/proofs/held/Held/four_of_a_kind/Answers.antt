@@ -1,4 +1,4 @@
-use Rattle.std.proofs.Common.{◌∙◌, Some, refl, sym, subst}
+use Rattle.std.proofs.Common.{◌∙◌, refl, sym}
 use Rattle.hand_rank.proofs.LeaderLaws.{leaders-none, leaders-lost, leaders-best, leaders-four}
 use Rattle.hand_rank.proofs.LedLaws.{form-four}
 use Rattle.hand_rank.proofs.held.Held.four_of_a_kind.Goals as goal

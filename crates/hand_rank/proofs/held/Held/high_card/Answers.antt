@@ -1,4 +1,4 @@
-use Rattle.std.proofs.Common.{◌≤◌, Some, refl, arith}
+use Rattle.std.proofs.Common.{Some, refl, arith}
 use Rattle.hand_rank.proofs.LeaderLaws.{hole-apart, hole-alike}
 use Rattle.hand_rank.proofs.SetOrder.{ranks-empty}
 use Rattle.hand_rank.proofs.SingleLaws.{asked-none, high-best, no-high, lost-high}

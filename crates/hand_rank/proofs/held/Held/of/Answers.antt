@@ -19,14 +19,16 @@ returns c cards board two five once =
     let pair = subst (λ (hole : List Card). IsTallyOf tally.once.bits tally.twice.bits tally.thrice.bits tally.four.bits
     (count_of_rank hole)) are
     (c.union-tally.ensures (count_of_rank (one ∷ [])) (count_of_rank (other ∷ [])) (count_of_rank (one ∷ other ∷ []))
-    (c.of.ensures (count_of_rank (one ∷ [])) (one-count one)) (c.of-2.ensures (count_of_rank (other ∷ [])) (one-count other))
+    (c.of.ensures (count_of_rank (one ∷ [])) (one-count one))
+    (c.of-2.ensures (count_of_rank (other ∷ [])) (one-count other))
     (count-joined (one ∷ []) (other ∷ []))) in
     record {
       two = two;
       five = five;
       once = once;
       pair = pair;
-      all = c.union.ensures (count_of_rank c.args.pair) (count_of_rank cards) (count_of_rank (c.args.pair ++ cards)) pair
+      all = c.union.ensures (count_of_rank c.args.pair) (count_of_rank cards) (count_of_rank (c.args.pair ++ cards))
+          pair
           board.tally (count-joined c.args.pair cards);
       suited = subst (λ (hole : List Card). HasRanks c.suited.result.bits 1
           (count_of_some_suit (suit_of hole) (hole ++ cards))) are (c.suited.ensures cards board);

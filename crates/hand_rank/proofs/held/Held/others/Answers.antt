@@ -1,4 +1,4 @@
-use Rattle.std.proofs.Common.{◌≡◌, ◌&&◌, not, ℕ, Bool}
+use Rattle.std.proofs.Common.{◌&&◌, not}
 use Rattle.hand_rank.specs.Sets.{has_rank}
 use Rattle.hand_rank.proofs.SoManyLaws.{greatest-same}
 use Rattle.hand_rank.proofs.held.Held.others.Goals as goal

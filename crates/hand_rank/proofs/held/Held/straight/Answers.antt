@@ -1,4 +1,4 @@
-use Rattle.std.proofs.Common.{◌++◌, ◌<◌, ◌∙◌, refl, subst}
+use Rattle.std.proofs.Common.{◌++◌, ◌<◌, refl, subst}
 use Rattle.std.specs.Prelude.{IfSome}
 use Rattle.hand_rank.specs.Values.{count_of_rank}
 use Rattle.hand_rank.proofs.FiveLaws.{ranks-one}

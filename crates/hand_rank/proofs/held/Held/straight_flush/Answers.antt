@@ -1,4 +1,4 @@
-use Rattle.std.proofs.Common.{◌++◌, ◌<◌, ◌∙◌, refl, subst}
+use Rattle.std.proofs.Common.{◌++◌, ◌<◌, refl, subst}
 use Rattle.std.specs.Prelude.{IfSome}
 use Rattle.hand_rank.specs.Held.{count_of_some_suit}
 use Rattle.hand_rank.specs.Shown.{suit_of}
@@ -10,7 +10,8 @@ use Rattle.hand_rank.proofs.held.Held.straight_flush.Goals as goal
 pub returns-in_err-top : goal.returns-in_err-top
 returns-in_err-top c hole board is =
     no-straight_flush c.args.self hole board c.run.result c.from_residual.result is
-    (c.run.ensures.highest hole (count_of_some_suit (suit_of hole) (hole ++ board)) is.pair is.two is.suited) c.in_err-top.was
+    (c.run.ensures.highest hole (count_of_some_suit (suit_of hole) (hole ++ board)) is.pair is.two is.suited)
+    c.in_err-top.was
     c.from_residual.ensures
 
 pub returns : goal.returns
@@ -19,4 +20,5 @@ returns c hole board is =
     (ranks-one c.of.result.bits c.in_ok-top.top
     (subst (λ o. IfSome o (λ top. top < 16)) c.in_ok-top.was c.run.ensures.within) c.of.ensures.ranks)
     (ranks-empty c.empty.result.bits c.empty.ensures)
-    (c.run.ensures.highest hole (count_of_some_suit (suit_of hole) (hole ++ board)) is.pair is.two is.suited) c.in_ok-top.was
+    (c.run.ensures.highest hole (count_of_some_suit (suit_of hole) (hole ++ board)) is.pair is.two is.suited)
+    c.in_ok-top.was

@@ -1,5 +1,4 @@
-use Rattle.std.proofs.Common.{◌∙◌, ◌<◌, refl, sym, subst, arith}
-use Rattle.hand_rank.proofs.PickLaws.{highest-is}
+use Rattle.std.proofs.Common.{◌∙◌, refl, sym, arith}
 use Rattle.hand_rank.proofs.TwoLaws.{set-two, ranks-two, asked-two, chosen-two, highest-two, two-best, no-first, no-second, no-third}
 use Rattle.hand_rank.proofs.held.Held.two_pair.Goals as goal
 
@@ -23,7 +22,8 @@ returns-in_err-others c hole board is =
     no-third c.args.self hole board c.in_ok-first.first c.in_ok-second.second c.others.result
     c.from_residual-in_err-others.result is may
     (asked-two c.args.self c.with-two.result c.in_ok-first.first c.in_ok-second.second c.others.result
-    (set-two c.with-two.result c.of.result c.in_ok-first.first c.in_ok-second.second c.of.ensures.ranks c.with-two.ensures)
+    (set-two c.with-two.result c.of.result c.in_ok-first.first c.in_ok-second.second c.of.ensures.ranks
+    c.with-two.ensures)
     c.others.ensures) c.in_err-others.was c.from_residual-in_err-others.ensures
 
 pub returns : goal.returns
@@ -40,4 +40,5 @@ returns c hole board is =
     (ranks-two c.with-two.result first second may.lower (omega arith) two)
     (asked-two c.args.self c.with-two.result first second _ two c.in_ok-others.ensures) may
     (λ five ranks hand pair. highest-two c.args.self hole board five ranks c.seconds.result.bits first second is
-    (record { of_pair = c.seconds.ensures.of_pair; of_board = c.seconds.ensures.of_board }) of_first of_second hand pair)
+    (record { of_pair = c.seconds.ensures.of_pair; of_board = c.seconds.ensures.of_board }) of_first of_second hand
+    pair)

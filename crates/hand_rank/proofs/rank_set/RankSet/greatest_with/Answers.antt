@@ -1,6 +1,5 @@
-use Rattle.std.proofs.Common.{◌≡◌, ◌∙◌, ◌+◌, ◌<◌, ◌≤◌, ℕ, true, false, Bool, ◌&&◌, not, refl, length, sym, subst, None, arith}
+use Rattle.std.proofs.Common.{◌≡◌, ◌∙◌, ◌≤◌, true, false, Bool, ◌&&◌, not, refl, sym, subst, arith}
 use Rattle.hand_rank.specs.Sets.{has_rank}
-use Rattle.hand_rank.specs.Shown.{ranks_of}
 use Rattle.hand_rank.specs.SoMany.{IsGreatestWith}
 use Rattle.hand_rank.proofs.PickLaws.{highest-is, highest-none}
 use Rattle.hand_rank.proofs.Sections.{falling-none}
@@ -44,7 +43,8 @@ returns-in_err-rank c =
     (sym c.from_residual-in_err-rank.ensures)
     (greatest-none (has_rank c.args.self.bits) (has_rank c.args.forced.bits) c.args.count (λ inside low high.
     let all = taken-all (has_rank c.args.self.bits) (has_rank c.args.forced.bits) (has_rank c.loop.ranks.bits)
-    (has_rank c.loop.free.bits) c.loop.counter c.loop.invariant (λ r below. highest-none (has_rank c.loop.free.bits) 16 r
+    (has_rank c.loop.free.bits) c.loop.counter c.loop.invariant
+    (λ r below. highest-none (has_rank c.loop.free.bits) 16 r
     (sym c.highest.ensures.rank ∙ c.in_err-rank.was) below) in
     omega (arith, c.loop-test.true, c.in_ok-missing.ensures, c.count.ensures, all, high)))
 
