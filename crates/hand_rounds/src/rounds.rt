@@ -76,13 +76,10 @@ fn set_begun(book: &mut SeatBook, playing: bool)
     }
 }
 
-/// Ends a round: no table has begun in the next. `RoundOpen` comes where hand-for-hand is on and a table plays or is
-/// still to play, `SwitchWrong` where hand-for-hand is off.
-pub fn close_round(book: &mut SeatBook) -> Result<(), Refusal>
-    ensures checked { IsChecked (round_checks book.old) result }
-    ensures closed { OnOk result (book.new ≡ round_closed book.old) }
-    ensures kept { OnErr result (book.new ≡ book.old) }
-    ensures lawful { OnOk result (IsSeating book.new) }
+/// Whether the round may end: `RoundOpen` where hand-for-hand is on and a table plays or is still to play,
+/// `SwitchWrong` where hand-for-hand is off.
+pub fn may_close(book: &SeatBook) -> Result<(), Refusal>
+    ensures { IsChecked (round_checks book.now) result }
 {
     if !book.hands() {
         return Err(Refusal::SwitchWrong);
@@ -90,17 +87,25 @@ pub fn close_round(book: &mut SeatBook) -> Result<(), Refusal>
     if is_unfinished(book) {
         return Err(Refusal::RoundOpen);
     }
+    Ok(())
+}
+
+/// Ends a round, where it may end: no table has begun in the next.
+pub fn close_round(book: &mut SeatBook) -> Result<(), Refusal>
+    ensures checked { IsChecked (round_checks book.old) result }
+    ensures closed { OnOk result (book.new ≡ round_closed book.old) }
+    ensures kept { OnErr result (book.new ≡ book.old) }
+    ensures lawful { OnOk result (IsSeating book.new) }
+{
+    may_close(book)?;
     set_begun(book, false);
     Ok(())
 }
 
-/// Switches hand-for-hand on or off. On makes the playing tables those that have begun in the round, off empties the
-/// round. `RoundOpen` comes at off where hand-for-hand is on and a table plays, `SwitchWrong` where it is so already.
-pub fn switch(book: &mut SeatBook, on: bool) -> Result<(), Refusal>
-    ensures checked { IsChecked (switch_checks on book.old) result }
-    ensures switched { OnOk result (book.new ≡ switched on book.old) }
-    ensures kept { OnErr result (book.new ≡ book.old) }
-    ensures lawful { OnOk result (IsSeating book.new) }
+/// Whether hand-for-hand may be switched so: `RoundOpen` at off where it is on and a table plays, `SwitchWrong` where
+/// it is so already.
+pub fn may_switch(book: &SeatBook, on: bool) -> Result<(), Refusal>
+    ensures { IsChecked (switch_checks on book.now) result }
 {
     if book.hands() == on {
         return Err(Refusal::SwitchWrong);
@@ -108,6 +113,18 @@ pub fn switch(book: &mut SeatBook, on: bool) -> Result<(), Refusal>
     if !on && is_any_playing(book) {
         return Err(Refusal::RoundOpen);
     }
+    Ok(())
+}
+
+/// Switches hand-for-hand on or off, where it may be switched so. On makes the playing tables those that have begun in
+/// the round, off empties the round.
+pub fn switch(book: &mut SeatBook, on: bool) -> Result<(), Refusal>
+    ensures checked { IsChecked (switch_checks on book.old) result }
+    ensures switched { OnOk result (book.new ≡ switched on book.old) }
+    ensures kept { OnErr result (book.new ≡ book.old) }
+    ensures lawful { OnOk result (IsSeating book.new) }
+{
+    may_switch(book, on)?;
     set_begun(book, on);
     book.set_hands(on);
     Ok(())
