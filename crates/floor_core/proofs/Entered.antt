@@ -64,8 +64,9 @@ pub first_state_of : (plan : PlanTerms) (entries : List (List ℕ)) (seating : S
       busts = busts;
       group = 0;
       level = 1;
-      begun
-          = 0;
+      removed = 0;
+      added = 0;
+      begun = 0;
       accepted = 0;
       stopped = false;
     } in book) ≡ first_book plan

@@ -29,6 +29,10 @@ pub struct Book {
     /// The number of the group of those who go out next.
     pub(crate) group: u64,
     pub(crate) level: u64,
+    /// The chips that races took away.
+    pub(crate) removed: u64,
+    /// The chips that races gave.
+    pub(crate) added: u64,
     pub(crate) begun: u64,
     pub(crate) accepted: u64,
     pub(crate) stopped: bool,
@@ -89,6 +93,8 @@ impl Book {
             busts,
             group: 0,
             level: 1,
+            removed: 0,
+            added: 0,
             begun: 0,
             accepted: 0,
             stopped: false,

@@ -5,6 +5,7 @@ ghost use Rattle.std.specs.List.{All};
 ghost use Rattle.seat_book.specs.Players.{players_in};
 ghost use Rattle.table_engine.specs.Starts.{chips_of};
 ghost use Rattle.tournament_rules.specs.Books.{players_out};
+ghost use Rattle.tournament_rules.specs.Chips.{rest_in, play_of};
 ghost use Rattle.tournament_rules.specs.Players.{is_one_of, is_in_hand};
 ghost use Rattle.tournament_rules.specs.Report.{reported, book_report};
 
@@ -100,6 +101,20 @@ fn all_reported(
 }
 
 impl Book {
+    /// Sums the stacks at rest, in chips.
+    fn chips_at_rest(&self) -> u64
+        ensures { result ≡ rest_in self.now }
+    {
+        rest_of(self.seats.slots())
+    }
+
+    /// Sums the stacks with which the players of all started hands began, in chips.
+    fn chips_in_play(&self) -> u64
+        ensures { result ≡ play_of self.now }
+    {
+        play_of(&self.out)
+    }
+
     /// Reports how the tournament stands.
     pub fn report(&self) -> Result<Report, AllocError>
         ensures { IfOk result (λ report. report ≡ book_report self.now) }
@@ -107,10 +122,10 @@ impl Book {
         Ok(Report {
             level: self.level,
             sold: u64::from(self.entries.len()) * self.plan.stack,
-            removed: 0,
-            added: 0,
-            rest: rest_of(self.seats.slots()),
-            play: play_of(&self.out),
+            removed: self.removed,
+            added: self.added,
+            rest: self.chips_at_rest(),
+            play: self.chips_in_play(),
             seats: all_reported(self.alloc, &self.out, self.seats.slots())?,
             outs: List::new(self.alloc),
         })
