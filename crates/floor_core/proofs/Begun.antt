@@ -30,7 +30,7 @@ use Rattle.tournament_rules.specs.Books.{BookState, start_at, blind_now}
 use Rattle.tournament_rules.specs.Players.{start_seat, dealt_seats, dealt_in, put_back, stayed}
 use Rattle.tournament_rules.specs.Dealing.{next_at, next_start}
 use Rattle.tournament_rules.specs.Checks.{begin_checks, book_refusal}
-use Rattle.tournament_rules.specs.Effects.{with_table, playing_from, at_rest, begun_book, ended, broke_by, bust_of, settled, void_at, void_first, stopped_book}
+use Rattle.tournament_rules.specs.Effects.{with_table, playing_from, at_rest, begun_book, ended, broke_by, bust_of, next_group, settled, void_at, void_first, stopped_book}
 use Rattle.tournament_rules.proofs.Ends.{left-void_first}
 use Rattle.floor_core.specs.Pay.{ArePayees}
 use Rattle.floor_core.specs.Seats.{has_lawful_seat, dealt_of}
@@ -42,21 +42,22 @@ unfolding book_refusal
 begin_refusal book table row = refl
 
 -- The seats once a table plays and its players are dealt in.
-pub seating_begun : (seating played dealt : Seating) (table : ℕ) (next : NextMarks) (status : TableStatus) → status
-    ≡ status_at seating.tables table
+pub seating_begun : (seating played dealt : Seating) (table : ℕ) (next : NextMarks) (hands : Bool)
+    (status : TableStatus) → status ≡ status_at seating.tables table
     → played ≡ record seating {
       tables = with_status seating.tables table
-          (record status { marks = Some next.marks; playing = true });
+          (record status { marks = Some next.marks; playing = true; begun = hands });
     }
     → dealt ≡ record played { players = dealt_in table next.waiting played.players }
-    → dealt ≡ record (with_table seating table (playing_from next.marks))
+    → dealt ≡ record (with_table seating table (playing_from next.marks hands))
     { players = dealt_in table next.waiting seating.players }
-seating_begun seating played dealt table next status status_is played_is dealt_is = dealt_is
+seating_begun seating played dealt table next hands status status_is played_is dealt_is = dealt_is
     ∙ rw (played_is, status_is) refl
 
 -- The fields that a begin writes make the book of the definition.
 pub begun_state : (book : BookState) (table : ℕ) (cards : List Card) (seating : Seating) (out : List (Option HandStart))
-    → seating ≡ record (with_table book.seating table (playing_from (next_at book table).marks))
+    → seating ≡ record (with_table book.seating table
+    (playing_from (next_at book table).marks book.seating.hands))
     { players = dealt_in table (next_at book table).waiting book.seating.players }
     → out ≡ slice_set book.out table (Some (next_start book table cards))
     → record book { seating = seating; out = out; begun = book.begun + 1; accepted = book.accepted + 1 }
@@ -72,20 +73,21 @@ ended_state book table payees paid rested out paid_is rested_is out_is = rw (res
 
 -- The fields that a settle writes make the book of the definition.
 pub settled_state : (book : BookState) (hand : HandTerms) (payees : List StartSeat) (paid rested left : Seating)
-    (busts : List Bust) (out : List (Option HandStart)) → payees ≡ players_after hand
+    (busts : List Bust) (out : List (Option HandStart)) (group : ℕ) → payees ≡ players_after hand
     → paid ≡ record book.seating { players = put_back payees book.seating.players } → rested
     ≡ with_table paid hand.start.table at_rest
     → left ≡ record rested { players = stayed (broke_by hand) rested.players }
     → busts ≡ book.busts ++ map (bust_of book.group) (broke_by hand) → out ≡ slice_set book.out hand.start.table None
+    → group ≡ next_group book
     → record book {
       seating = left;
       out = out;
       busts = busts;
-      group = book.group + 1;
+      group = group;
       accepted = book.accepted + 1;
     } ≡ settled book hand
-settled_state book hand payees paid rested left busts out payees_is paid_is rested_is left_is busts_is out_is =
-    rw (left_is, busts_is, rested_is, paid_is, out_is, payees_is) refl
+settled_state book hand payees paid rested left busts out group payees_is paid_is rested_is left_is busts_is out_is
+    group_is = rw (left_is, busts_is, rested_is, paid_is, out_is, payees_is, group_is) refl
 
 seat_known : (tables seats at seat : ℕ) → seats ≤ 10
     → ((nat_le 1 at && nat_le at tables) && (nat_le 1 seat && nat_le seat seats)) ≡ true → is_between 1 10 seat ≡ true
@@ -202,11 +204,11 @@ stopped_state book now below now_is all =
 
 -- What a begin does, step by step, makes the book of the definition.
 pub begun_by_steps : (book : BookState) (table number index : ℕ) (cards : List Card) (played dealt : Seating)
-    (next : NextMarks) (status : TableStatus) (start : HandStart) → number ≡ table → index ≡ number
-    → next ≡ next_at book number → status ≡ status_at book.seating.tables number
+    (next : NextMarks) (hands : Bool) (status : TableStatus) (start : HandStart) → number ≡ table → index ≡ number
+    → next ≡ next_at book number → hands ≡ book.seating.hands → status ≡ status_at book.seating.tables number
     → played ≡ record book.seating {
       tables = with_status book.seating.tables number
-          (record status { marks = Some next.marks; playing = true });
+          (record status { marks = Some next.marks; playing = true; begun = hands });
     }
     → dealt ≡ record played { players = dealt_in number next.waiting played.players } → start
     ≡ next_start book table cards
@@ -217,13 +219,14 @@ pub begun_by_steps : (book : BookState) (table number index : ℕ) (cards : List
       accepted =
           book.accepted + 1;
     } ≡ begun_book book table cards
-begun_by_steps book table number index cards played dealt next status start same index_is next_is status_is played_is
-    dealt_is start_is =
-    let seated = seating_begun book.seating played dealt number next status status_is played_is dealt_is in
-    let here : record (with_table book.seating number (playing_from next.marks))
+begun_by_steps book table number index cards played dealt next hands status start same index_is next_is hands_is
+    status_is played_is dealt_is start_is =
+    let seated = seating_begun book.seating played dealt number next hands status status_is played_is dealt_is in
+    let here : record (with_table book.seating number (playing_from next.marks hands))
     { players = dealt_in number next.waiting book.seating.players }
-    ≡ record (with_table book.seating table (playing_from (next_at book table).marks))
-    { players = dealt_in table (next_at book table).waiting book.seating.players } = rw (next_is, same) refl in
+    ≡ record (with_table book.seating table (playing_from (next_at book table).marks book.seating.hands))
+    { players = dealt_in table (next_at book table).waiting book.seating.players } =
+    rw (next_is, hands_is, same) refl in
     let out : slice_set book.out index (Some start)
     ≡ slice_set book.out table (Some (next_start book table cards)) = rw (index_is, same, start_is) refl in
     begun_state book table cards dealt (slice_set book.out index (Some start)) (seated ∙ here) out

@@ -1,7 +1,7 @@
 -- The checks of a balance and of a break, a group at a time.
 use Rattle.std.proofs.Common.{◌≡◌, ◌∙◌, sym, ℕ, Bool, List, ◌++◌}
-use Rattle.std.specs.Prelude.{Option, Some, None}
-use Rattle.rulebook.specs.Checks.{first_that_holds}
+use Rattle.std.specs.Prelude.{Option, Some, None, Result, Ok, Err}
+use Rattle.rulebook.specs.Checks.{first_that_holds, IsChecked}
 use Rattle.rulebook.proofs.Checks.{first_that_holds-later, first_that_holds-sooner}
 use Rattle.floor_text.specs.declared.refusal.Refusal.{Refusal}
 use Rattle.seat_book.specs.Seatings.{Seating}
@@ -39,3 +39,10 @@ pub move_read : (seats seating : Seating) (from other to another : ℕ) (order :
     → balance_move seating other another ≡ Some order
 move_read seats seating from other to another order seen from_is to_is is =
     sym (λ i. balance_move (seen i) (from_is i) (to_is i)) ∙ is
+
+-- Where none of the first two groups holds, who made the checks of the third gives the answer.
+pub found_rest : {A T : Type 0} (front own rest : List (A × Bool)) (result : Result T A)
+    → first_that_holds front ≡ None → first_that_holds own ≡ None → IsChecked rest result
+    → IsChecked (front ++ own ++ rest) result
+found_rest front own rest (Ok value) none no_own is = found_third front own rest None none no_own is
+found_rest front own rest (Err found) none no_own is = found_third front own rest (Some found) none no_own is

@@ -15,7 +15,7 @@ ghost use Rattle.floor_events.specs.declared.event.Event.TheVariants as events;
 ghost use Rattle.tournament_rules.specs.Books.{blind_now};
 ghost use Rattle.tournament_rules.specs.Players.{start_seat, dealt_in};
 ghost use Rattle.tournament_rules.specs.Dealing.{next_at, next_start};
-ghost use Rattle.tournament_rules.specs.Checks.{table_checks, deck_checks, begin_checks, book_refusal};
+ghost use Rattle.tournament_rules.specs.Checks.{table_checks, due_checks, deck_checks, begin_checks, book_refusal};
 ghost use Rattle.tournament_rules.specs.Effects.{begun_book};
 
 use crate::BookFault;
@@ -24,13 +24,14 @@ use balance_rule::halted;
 use button_blinds::{NextMarks, SeatSet, next_marks};
 use card_set::{CardRow, Deck, Game};
 use floor_text::{List, Refusal};
+use hand_rounds::may_begin;
 use level_plan::Blind;
 use seat_book::{Place, SeatBook, Seated, TableStatus};
 use std::alloc::{AllocError, Global};
 use table_engine::{Hand, HandStart, StartSeat};
 
 /// Makes a deck of a row in which no card comes twice.
-fn check_deck(row: &CardRow) -> Result<Deck, Refusal>
+pub(crate) fn check_deck(row: &CardRow) -> Result<Deck, Refusal>
     ensures checked { IsChecked (deck_checks row.now) result }
     ensures deck { IfOk result (λ deck. deck ≡ row.now.cards) }
 {
@@ -111,13 +112,13 @@ fn deal_in(seats: &mut SeatBook, table: u8, waiting: SeatSet)
     }
 }
 
-/// What a table that is ready to begin has for its next hand.
+/// A table that is ready for a hand or a race, with the deck for it.
 #[derive(Drop)]
-struct Ready {
+pub(crate) struct Ready {
     /// The table's number.
-    table: u8,
+    pub(crate) table: u8,
     /// The deck.
-    deck: Deck,
+    pub(crate) deck: Deck,
 }
 
 impl Book {
@@ -151,6 +152,17 @@ impl Book {
         Ok(number)
     }
 
+    /// Checks that it is a table's turn: no race is pending there, and it has not begun in a round of hand-for-hand.
+    fn check_turn(&self, table: u8) -> Result<(), Refusal>
+        requires { IsTableOf self.now.seating.table_count table }
+        ensures { IsChecked (due_checks self.now table) result }
+    {
+        if self.seats.status(table).race.is_some() {
+            return Err(Refusal::RaceDue);
+        }
+        may_begin(&self.seats, table)
+    }
+
     /// Makes the checks of a hand's begin, and gives the table's number and the deck.
     fn check_begin(&self, table: u64, row: &CardRow) -> Result<Ready, Refusal>
         ensures checked { IsChecked (begin_checks self.now table row.now) result }
@@ -161,6 +173,7 @@ impl Book {
     {
         self.check_going()?;
         let table = self.check_table(table)?;
+        self.check_turn(table)?;
         let deck = check_deck(row)?;
         Ok(Ready { table, deck })
     }
@@ -239,6 +252,7 @@ impl Book {
         let status = TableStatus {
             marks: Some(next.marks),
             playing: true,
+            begun: self.seats.hands(),
             ..self.seats.status(table)
         };
         self.seats.set_status(table, status);

@@ -136,10 +136,7 @@ impl Book {
         if self.level > self.plan.late {
             return Err(Refusal::LateClosed);
         }
-        if self.over() {
-            return Err(Refusal::Over);
-        }
-        Ok(())
+        self.check_not_over()
     }
 
     /// Makes the checks of an entry but for the list's room, and gives the place where the player sits down.

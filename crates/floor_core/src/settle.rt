@@ -8,11 +8,13 @@ ghost use Rattle.tournament_rules.specs.Effects.{settled};
 use crate::book::Book;
 use crate::bust::bust_broke;
 use crate::pay::{pay_stacks, rest_table};
+use crate::rounds::group_after;
 use table_engine::HandRecord;
 
 impl Book {
     /// Settles a hand that is out: each of its players has at rest the stack that its record names for him, and who
-    /// has none leaves his seat and is out. Who goes out later is in a later group. It takes no memory.
+    /// has none leaves his seat and is out. Who goes out later is in a later group, where
+    /// hand-for-hand is off. It takes no memory.
     #[tactic(auto, using(tournament_rules::proofs::Ends::valid_settled))]
     pub fn settle(&mut self, done: &HandRecord)
         requires few { self.old.accepted < 2 ^ 60 }
@@ -21,6 +23,7 @@ impl Book {
         ensures { self.new ≡ settled self.old (hand_of done.now) }
     {
         let table = done.start.table;
+        let group = group_after(self.seats.hands(), self.group);
         pay_stacks(
             &mut self.seats,
             done.start.seats.items(),
@@ -29,7 +32,7 @@ impl Book {
         rest_table(&mut self.seats, table);
         bust_broke(&mut self.seats, &mut self.busts, done, self.group);
         self.out[usize::from(table)] = None;
-        self.group += 1;
+        self.group = group;
         self.accepted += 1;
     }
 }

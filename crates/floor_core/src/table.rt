@@ -6,7 +6,7 @@ ghost use Rattle.rulebook.specs.Checks.{IsChecked};
 ghost use Rattle.seat_book.specs.Places.{IsTableOf};
 ghost use Rattle.seat_book.specs.Counts.{count_at};
 ghost use Rattle.tournament_rules.specs.Books.{has_table, start_at};
-ghost use Rattle.tournament_rules.specs.Checks.{is_table_open, going_checks, playing_checks};
+ghost use Rattle.tournament_rules.specs.Checks.{is_table_open, going_checks, over_checks, playing_checks};
 
 use crate::book::Book;
 use floor_text::Refusal;
@@ -18,6 +18,16 @@ impl Book {
     {
         if self.stopped {
             return Err(Refusal::Stopped);
+        }
+        Ok(())
+    }
+
+    /// Checks that the tournament is not over.
+    pub(crate) fn check_not_over(&self) -> Result<(), Refusal>
+        ensures { IsChecked (over_checks self.now) result }
+    {
+        if self.over() {
+            return Err(Refusal::Over);
         }
         Ok(())
     }

@@ -74,13 +74,13 @@ invariant_of-self c =
     let marks = c.next_at-next.ensures.next ∙ sym (ap (λ (book : BookState). next_at book number) c.self.view_is) in
     let played : c.set_status.new.self ≡ record book.seating {
       tables = with_status book.seating.tables number
-          (record c.status.result { marks = Some next.marks; playing = true });
+          (record c.status.result { marks = Some next.marks; playing = true; begun = c.hands.result });
     } = c.set_status.ensures.same in
     let dealt : c.deal_in.new.seats ≡ record c.set_status.new.self
     { players = dealt_in number next.waiting c.set_status.new.self.players } = c.deal_in.ensures in
     let state = begun_by_steps book c.args.table number c.from.result c.args.row.now.cards c.set_status.new.self
-    c.deal_in.new.seats next c.status.result c.in_ok-start.start c.in_ok-table.ensures.same c.from.ensures marks
-    c.status.ensures.status played dealt start in
+    c.deal_in.new.seats next c.hands.result c.status.result c.in_ok-start.start c.in_ok-table.ensures.same
+    c.from.ensures marks c.hands.ensures c.status.ensures.status played dealt start in
     let free : book_refusal book (Begin c.args.table c.args.row.now)
     ≡ None = ap (λ (book : BookState). book_refusal book (Begin c.args.table c.args.row.now)) c.self.view_is
     ∙ (begin_refusal now c.args.table c.args.row.now ∙ c.in_ok-table.ensures.checked) in
@@ -98,11 +98,11 @@ returns-clause-state c =
     let marks = c.next_at-next.ensures.next ∙ sym (ap (λ (book : BookState). next_at book number) c.self.view_is) in
     let played : c.set_status.new.self ≡ record book.seating {
       tables = with_status book.seating.tables number
-          (record c.status.result { marks = Some next.marks; playing = true });
+          (record c.status.result { marks = Some next.marks; playing = true; begun = c.hands.result });
     } = c.set_status.ensures.same in
     let dealt : c.deal_in.new.seats ≡ record c.set_status.new.self
     { players = dealt_in number next.waiting c.set_status.new.self.players } = c.deal_in.ensures in
     let state = begun_by_steps book c.args.table number c.from.result c.args.row.now.cards c.set_status.new.self
-    c.deal_in.new.seats next c.status.result c.in_ok-start.start c.in_ok-table.ensures.same c.from.ensures marks
-    c.status.ensures.status played dealt start in
+    c.deal_in.new.seats next c.hands.result c.status.result c.in_ok-start.start c.in_ok-table.ensures.same
+    c.from.ensures marks c.hands.ensures c.status.ensures.status played dealt start in
     state ∙ ap (λ (book : BookState). begun_book book c.args.table c.args.row.now.cards) c.self.view_is

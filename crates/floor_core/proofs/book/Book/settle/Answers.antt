@@ -1,4 +1,4 @@
-use Rattle.std.proofs.Common.{◌≡◌, ◌∙◌, sym, ap, subst, ℕ, List}
+use Rattle.std.proofs.Common.{◌≡◌, ◌∙◌, sym, ap, subst, ℕ, ◌+◌, Bool, cond, List}
 use Rattle.std.specs.Prelude.{slice_set, Option, Some, None}
 use Rattle.seat_book.specs.declared.seated.Seated.{Seated}
 use Rattle.seat_book.specs.Seatings.{Seating}
@@ -8,7 +8,7 @@ use Rattle.table_engine.specs.Results.{with_stacks, players_after}
 use Rattle.table_engine.proofs.Stacks.{players-of_record}
 use Rattle.tournament_rules.specs.Books.{BookState, start_at}
 use Rattle.tournament_rules.specs.Players.{put_back}
-use Rattle.tournament_rules.specs.Effects.{settled}
+use Rattle.tournament_rules.specs.Effects.{next_group, settled}
 use Rattle.tournament_rules.specs.Valid.{IsValid}
 use Rattle.tournament_rules.proofs.Ends.{valid_settled}
 use Rattle.floor_core.specs.Busts.{MayGoOut}
@@ -39,10 +39,12 @@ invariant_of-self c =
     rw (c.items.ensures, c.items-2.ensures) (players-of_record c.args.done.now c.requires.play) in
     let none : Option HandStart = None in
     let out = ap (λ (index : ℕ). slice_set c.self.inside.out.items index none) c.from.ensures in
+    let group : c.group_after-group.result ≡ next_group book = c.group_after-group.ensures
+    ∙ ap (λ (hands : Bool). cond hands book.group (book.group + 1)) c.hands.ensures in
     let state = settled_state book hand (with_stacks c.items.result.now c.items-2.result.now) c.pay_stacks.new.seats
     c.rest_table.new.seats c.bust_broke.new.seats c.bust_broke.new.busts
-    (slice_set c.self.inside.out.items c.from.result None) payees c.pay_stacks.ensures.paid c.rest_table.ensures
-    c.bust_broke.ensures.seats c.bust_broke.ensures.busts out in
+    (slice_set c.self.inside.out.items c.from.result None) c.group_after-group.result payees c.pay_stacks.ensures.paid c.rest_table.ensures
+    c.bust_broke.ensures.seats c.bust_broke.ensures.busts out group in
     let is : start_at book.out hand.start.table ≡ Some hand.start =
     ap (λ (book : BookState). start_at book.out hand.start.table) c.self.view_is ∙ c.requires.out in
     subst IsValid (sym state) (valid_settled book hand c.self.invariant is c.requires.play.play c.requires.play.over)
@@ -56,8 +58,10 @@ returns c =
     rw (c.items.ensures, c.items-2.ensures) (players-of_record c.args.done.now c.requires.play) in
     let none : Option HandStart = None in
     let out = ap (λ (index : ℕ). slice_set c.self.inside.out.items index none) c.from.ensures in
+    let group : c.group_after-group.result ≡ next_group book = c.group_after-group.ensures
+    ∙ ap (λ (hands : Bool). cond hands book.group (book.group + 1)) c.hands.ensures in
     let state = settled_state book hand (with_stacks c.items.result.now c.items-2.result.now) c.pay_stacks.new.seats
     c.rest_table.new.seats c.bust_broke.new.seats c.bust_broke.new.busts
-    (slice_set c.self.inside.out.items c.from.result None) payees c.pay_stacks.ensures.paid c.rest_table.ensures
-    c.bust_broke.ensures.seats c.bust_broke.ensures.busts out in
+    (slice_set c.self.inside.out.items c.from.result None) c.group_after-group.result payees c.pay_stacks.ensures.paid c.rest_table.ensures
+    c.bust_broke.ensures.seats c.bust_broke.ensures.busts out group in
     state ∙ ap (λ (book : BookState). settled book hand) c.self.view_is
