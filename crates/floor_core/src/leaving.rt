@@ -12,7 +12,7 @@ use floor_text::Refusal;
 use seat_book::SeatBook;
 
 /// Tells whether a chip race is pending at some table.
-fn is_race_pending(seats: &SeatBook) -> bool
+pub(crate) fn is_race_pending(seats: &SeatBook) -> bool
     ensures { result ≡ is_race_pending seats.now }
 {
     for below in 0..seats.table_count() {

@@ -1,0 +1,108 @@
+-- Tables that a level raises one after another.
+use Rattle.std.proofs.Common.{◌≡◌, ◌∙◌, refl, sym, ap, ◌<◌, ℕ, zero, suc, ◌+◌, List, [], ◌∷◌, map, length, set, get_or, add-one, arith}
+use Rattle.std.specs.Prelude.{Some, None, nat_lt, if◌then◌else◌}
+use Rattle.std.specs.List.{enumerate_from}
+use Rattle.rulebook.specs.Checks.{first_that_holds}
+use Rattle.level_plan.specs.Plans.{unit_of_level}
+use Rattle.seat_book.specs.declared.seated.Seated.{Seated}
+use Rattle.seat_book.specs.declared.table_status.TableStatus.{TableStatus}
+use Rattle.seat_book.specs.Counts.{is_open}
+use Rattle.seat_book.specs.Tables.{fresh_status, status_at}
+use Rattle.seat_book.specs.Seatings.{Seating}
+use Rattle.floor_events.specs.declared.event.Event.TheVariants.{Level}
+use Rattle.tournament_rules.specs.Books.{BookState}
+use Rattle.tournament_rules.specs.Checks.{level_checks, book_refusal}
+use Rattle.tournament_rules.specs.Effects.{with_table, leveled}
+use Rattle.tournament_rules.specs.Racing.{raised_table, raised}
+
+-- the tables of which so many are raised, where the first has this number
+raised_first : ℕ → List Seated → ℕ → ℕ → List TableStatus → List TableStatus
+raised_first unit players zero from tables = tables
+raised_first unit players (suc count) from [] = []
+raised_first unit players (suc count) from (status ∷ tables) =
+    raised_table unit (is_open players from) status ∷ raised_first unit players count (suc from) tables
+
+first-more : (unit : ℕ) (players : List Seated) (count from : ℕ) (tables : List TableStatus) → count < length tables
+    → set (raised_first unit players count from tables) count
+    (raised_table unit (is_open players (from + count))
+    (get_or (raised_first unit players count from tables) count fresh_status))
+    ≡ raised_first unit players (suc count) from tables
+unfolding raised_first
+first-more unit players count from [] within = absurd (omega arith)
+first-more unit players zero from (status ∷ tables) within =
+    let here : from + 0 ≡ from = omega arith in
+    ap (λ (n : ℕ). raised_table unit (is_open players n) status ∷ tables) here
+first-more unit players (suc count) from (status ∷ tables) within =
+    let here : from + suc count ≡ suc from + count = omega arith in
+    let rest = raised_first unit players count (suc from) tables in
+    ap (◌∷◌ (raised_table unit (is_open players from) status))
+    (ap (λ (n : ℕ). set rest count (raised_table unit (is_open players n) (get_or rest count fresh_status))) here
+    ∙ first-more unit players count (suc from) tables (omega (arith, within)))
+
+first-all : (unit : ℕ) (players : List Seated) (from : ℕ) (tables : List TableStatus)
+    → raised_first unit players (length tables) from tables
+    ≡ map (λ row. raised_table unit (is_open players row.0) row.1) (enumerate_from from tables)
+unfolding raised_first
+first-all unit players from [] = refl
+first-all unit players from (status ∷ tables) =
+    ap (◌∷◌ (raised_table unit (is_open players from) status)) (first-all unit players (suc from) tables
+    ∙ ap (λ (n : ℕ). map (λ row. raised_table unit (is_open players row.0) row.1) (enumerate_from n tables))
+    (sym (add-one from)))
+
+-- the seats once so many tables are raised
+pub raised_so_far : ℕ → Seating → ℕ → Seating
+raised_so_far unit seating below =
+    record seating { tables = raised_first unit seating.players below 1 seating.tables }
+
+-- Before any table all stand as they do.
+pub raised-none : (unit : ℕ) (seating : Seating) → seating ≡ raised_so_far unit seating 0
+unfolding raised_so_far raised_first
+raised-none unit seating = refl
+
+-- As many tables stay.
+pub raised-count : (unit : ℕ) (seating : Seating) (below : ℕ)
+    → (raised_so_far unit seating below).table_count ≡ seating.table_count
+unfolding raised_so_far
+raised-count unit seating below = refl
+
+-- One table more is raised.
+pub raised-next : (unit : ℕ) (before now next : Seating) (below : ℕ) → below < length before.tables
+    → now ≡ raised_so_far unit before below
+    → next ≡ with_table now (below + 1) (raised_table unit (is_open now.players (below + 1)))
+    → next ≡ raised_so_far unit before (below + 1)
+unfolding raised_so_far
+raised-next unit before now next below within now_is next_is =
+    let players = before.players in
+    let so_far = raised_first unit players below 1 before.tables in
+    let more : set so_far below (raised_table unit (is_open players (suc below)) (get_or so_far below fresh_status))
+    ≡ raised_first unit players (suc below) 1 before.tables =
+    ap (λ (n : ℕ). set so_far below (raised_table unit (is_open players n) (get_or so_far below fresh_status)))
+    (omega arith) ∙ first-more unit players below 1 before.tables within in
+    next_is
+    ∙ (ap (λ (seats : Seating). with_table seats (below + 1) (raised_table unit (is_open seats.players (below + 1))))
+    now_is
+    ∙ (ap (λ (n : ℕ). with_table (raised_so_far unit before below) n (raised_table unit (is_open players n)))
+    (add-one below)
+    ∙ (ap (λ (tables : List TableStatus). record before { tables = tables }) more
+    ∙ ap (λ (n : ℕ). raised_so_far unit before n) (sym (add-one below)))))
+
+-- All tables are raised.
+pub raised-all : (unit : ℕ) (before now : Seating) (below : ℕ) → below ≡ length before.tables
+    → now ≡ raised_so_far unit before below → now ≡ raised unit before
+unfolding raised_so_far
+raised-all unit before now below all now_is =
+    now_is ∙ (ap (raised_so_far unit before) all
+    ∙ ap (λ (tables : List TableStatus). record before { tables = tables })
+    (first-all unit before.players 1 before.tables))
+
+-- The refusal of a level is that of its checks.
+pub level_refusal : (book : BookState) → book_refusal book Level ≡ first_that_holds (level_checks book)
+unfolding book_refusal
+level_refusal book = refl
+
+-- The fields that a level writes make the book of the definition.
+pub leveled_state : (book : BookState) (before unit : ℕ) (seats : Seating)
+    → before ≡ unit_of_level book.plan.blinds book.level → unit ≡ unit_of_level book.plan.blinds (book.level + 1)
+    → seats ≡ (if nat_lt before unit then raised unit book.seating else book.seating)
+    → record book { seating = seats; level = book.level + 1; accepted = book.accepted + 1 } ≡ leveled book
+leveled_state book before unit seats before_is unit_is seats_is = rw (seats_is, before_is, unit_is) refl
