@@ -56,7 +56,7 @@ impl Book {
     }
 
     /// Checks that a table is open, and gives its number.
-    fn check_open(&self, table: u64) -> Result<u8, Refusal>
+    pub(crate) fn check_open(&self, table: u64) -> Result<u8, Refusal>
         ensures checked { IsChecked ((refusals.NoTable, not (is_table_open self.now table)) ∷ []) result }
         ensures same { IfOk result (λ number. number ≡ table) }
         ensures within { IfOk result (IsTableOf self.now.seating.table_count) }
