@@ -62,6 +62,10 @@ by_order book hands event tied leaves = by_book_alone book hands event tied (abo
     about_none (events.Settle table) leaves = absurd cc
     about_none (events.Balance from to) leaves = refl
     about_none (events.Break table places names) leaves = refl
+    about_none events.Level leaves = refl
+    about_none (events.Race table row) leaves = refl
+    about_none (events.Hands on) leaves = refl
+    about_none events.Round leaves = refl
     about_none events.Stop leaves = refl
 
 -- What the book does not refuse is refused by the hand alone.

@@ -146,9 +146,14 @@ fn take(rt: &impl Abort, tournament: &mut Tournament, event: &Event) -> Result<(
 fn order(rt: &impl Abort, both: &mut Beside, line: &Event) -> Result<Answer, Fail> {
     assert!(rt; both.book.accepted < 1 << 60 && both.tournament.accepted < 1 << 60);
     let told = match line {
-        Event::Enter { .. } | Event::Balance { .. } | Event::Break { .. } | Event::Stop => {
-            both.book.order(line)?
-        }
+        Event::Enter { .. }
+        | Event::Balance { .. }
+        | Event::Break { .. }
+        | Event::Level
+        | Event::Race { .. }
+        | Event::Hands(_)
+        | Event::Round
+        | Event::Stop => both.book.order(line)?,
         _ => return Err("no order".into()),
     };
     assert_eq!(rt; both.tournament.apply(line)?, told);

@@ -30,14 +30,18 @@ impl Book {
                 seats,
                 names,
             } => self.break_table(*table, seats.items(), names.items()),
+            Event::Level => self.next_level(),
+            Event::Race { table, row } => self.race(*table, row),
+            Event::Hands(on) => self.hands(*on),
+            Event::Round => self.end_round(),
             Event::Stop => self.stop(),
             _ => Ok(()),
         }
     }
 
-    /// Takes an order, which is `enter`, `balance`, `break` or `stop`, answers it by the first check that holds, and
-    /// carries it out where none does. A refused order and want of memory change nothing, and memory is wanted only
-    /// for an order that meets no check.
+    /// Takes an order, which is `enter`, `balance`, `break`, `level`, `race`, `hands`, `round` or `stop`, answers it by
+    /// the first check that holds, and carries it out where none does. A refused order and want of memory change
+    /// nothing, and memory is wanted only for an order that meets no check.
     pub fn order(&mut self, event: &Event) -> Result<Answer, AllocError>
         requires few { self.old.accepted < 2 ^ 60 }
         requires order { is_order event.now ≡ true }
