@@ -433,11 +433,11 @@ fn answers_have_their_text(rt: HostRuntime) -> Result<(), Fail> {
     write_answer(&Answer::Ok, &mut out)?;
     write_answer(&Answer::No(Refusal::Syntax), &mut out)?;
     write_answer(&Answer::No(Refusal::NotTurn), &mut out)?;
-    write_answer(&Answer::No(Refusal::NotBuilt), &mut out)?;
+    write_answer(&Answer::No(Refusal::ListFull), &mut out)?;
     write_answer(&Answer::PlanWrong(PlanItem::Seats), &mut out)?;
     assert_eq!(rt;
         out.as_slice(),
-        b"ok\nno 1 Syntax\nno 21 NotTurn\nno 99 NotBuilt\nno 4 PlanWrong seats\n".as_slice()
+        b"ok\nno 1 Syntax\nno 21 NotTurn\nno 44 ListFull\nno 4 PlanWrong seats\n".as_slice()
     );
     Ok(())
 }
