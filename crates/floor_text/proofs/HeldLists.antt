@@ -1,15 +1,16 @@
 -- Parts of the buffer in which bytes wait.
-use Rattle.std.proofs.Common.{◌≡◌, ℕ, zero, suc, ◌+◌, ◌-◌, ◌<◌, ◌≤◌, false, cond, List, [], ◌∷◌, ◌++◌, length, get_or, take, drop, Option, Some, None, MatchOption, refl, sym, ap, ◌∙◌, subst, inl, inr, arith, length-take, length-drop}
+use Rattle.std.proofs.Common.{◌≡◌, ℕ, zero, suc, ◌+◌, ◌-◌, ◌<◌, ◌≤◌, true, false, cond, List, [], ◌∷◌, ◌++◌, length, get_or, take, drop, Option, Some, None, MatchOption, refl, sym, ap, ◌∙◌, subst, inl, inr, arith, length-take, length-drop}
 use Rattle.std.specs.Prelude.{not, slice_range, position, min, nat_lt}
 use Rattle.std.specs.List.{list_any, position_or_len, copy_within}
 use Rattle.std.proofs.Math.Seq.{take-add}
-use Rattle.std.proofs.lemmas.Bool.{cases_lt, cases_eq}
+use Rattle.std.proofs.lemmas.Bool.{cases_Bool, cases_lt, cases_eq}
 use Rattle.std.proofs.lemmas.Bool.Decides.{nat_tests}
 use Rattle.std.proofs.lemmas.List.{drop-drop, drop-take, take-take, take_all, length-take-le, take_at}
 use Rattle.std.proofs.lemmas.List.Edits.{take-paste, length-between}
 use Rattle.std.proofs.lemmas.Slice.{between_from_start}
 use lib.Seq.{paste}
-use Rattle.std.proofs.lemmas.List.Sums.{prefix_len_stops}
+use Rattle.std.proofs.lemmas.List.Sums.{position_or_len_is, prefix_len_stops}
+use Rattle.memchr.specs.Find.{IsFirstByte, is_byte}
 use Rattle.floor_text.specs.HeldBytes.{IsFirstFeed}
 use Rattle.floor_text.specs.Lines.{is_line_feed, HasNoFeed}
 use Rattle.floor_text.proofs.CutLines.{HasNoFeed-cons}
@@ -44,6 +45,24 @@ position_within at len within = grind (arith, nat_tests)
 
 position_past : (at len : ℕ) → len ≤ at → cond (nat_lt at len) (Some at) None ≡ None
 position_past at len past = grind (arith, nat_tests)
+
+is_no_feed : (b : ℕ) → ¬ (is_line_feed b ≡ true) → is_line_feed b ≡ false
+is_no_feed b passes = elim (cases_Bool (is_line_feed b)) [ inl feed ↦ absurd (passes feed) | inr other ↦ other ]
+
+-- The first place that holds a line feed is the first that passes the test for one.
+pub first_byte_is_position : (bytes : List ℕ) (r : Option ℕ) → IsFirstByte (is_byte 10) bytes r
+    → r ≡ position is_line_feed bytes
+first_byte_is_position bytes None nowhere =
+    let all : position_or_len is_line_feed bytes ≡ length bytes =
+    position_or_len_is is_line_feed bytes (length bytes) 0 (omega arith)
+    (λ k before. is_no_feed (get_or bytes k 0) (nowhere k (omega arith) before)) (λ past. absurd (omega arith)) in
+    sym (position_past (position_or_len is_line_feed bytes) (length bytes) (omega (arith, all)))
+first_byte_is_position bytes (Some at) found =
+    let first : position_or_len is_line_feed bytes ≡ at =
+    position_or_len_is is_line_feed bytes at 0 (omega (arith, found.0.high))
+    (λ k before. is_no_feed (get_or bytes k 0) (found.0.before k (omega arith) before)) (λ within. found.1) in
+    let high : position_or_len is_line_feed bytes < length bytes = omega (arith, first, found.0.high) in
+    sym (position_within (position_or_len is_line_feed bytes) (length bytes) high ∙ ap Some first)
 
 pub first_feed_found : (bytes : List ℕ) (r : Option ℕ) → r ≡ position is_line_feed bytes
     → MatchOption r (HasNoFeed bytes) (λ at. IsFirstFeed bytes at)

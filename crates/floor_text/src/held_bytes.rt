@@ -7,6 +7,7 @@ ghost use Rattle.floor_text.specs.Outside.{HasCause};
 
 use crate::limits::{BLOCK, KEPT};
 use crate::outside::{Failed, Source};
+use memchr::memchr;
 use std::alloc::{AllocError, Global};
 use std::marker::Model;
 
@@ -37,7 +38,7 @@ impl Model for HeldBytes {
 fn first_feed(bytes: &[u8]) -> Option<usize>
     ensures { result ≡ position is_line_feed bytes.now }
 {
-    bytes.iter().position(|byte| *byte == b'\n')
+    memchr(b'\n', bytes)
 }
 
 fn take_at<S: Source>(
