@@ -37,6 +37,20 @@ own_rows =
     (λ a p. record { spelling = refl; parts = p }) ▸
     row3 (codes "break") number_field places_field names_field events.Break
     (λ a b c p q r. record { spelling = refl; parts = (p, q, r) }) ▸
+    row2_rest (codes "act") number_field name_field act_rest events.Act
+    (λ a b c p q r. record { spelling = refl; parts = (q, p, r) }) ▸
+    row2 (codes "begin") number_field row_field events.Begin (λ a b p q. record { spelling = refl; parts = p }) ▸
+    row1 (codes "settle") number_field events.Settle (λ a p. record { spelling = refl; parts = p }) ▸
+    row3 (codes "enter") name_field number_field number_field events.Enter
+    (λ a b c p q r. record { spelling = refl; parts = (p, q, r) }) ▸
+    row1 (codes "time") number_field events.Time (λ a p. record { spelling = refl; parts = p }) ▸
+    row2 (codes "balance") number_field number_field events.Balance
+    (λ a b p q. record { spelling = refl; parts = (p, q) }) ▸
+    row0 (codes "level") events.Level (record { spelling = refl; parts = tt }) ▸
+    row2 (codes "race") number_field row_field events.Race (λ a b p q. record { spelling = refl; parts = p }) ▸
+    row1 (codes "hands") switch_field events.Hands (λ a p. record { spelling = refl; parts = p }) ▸
+    row0 (codes "round") events.Round (record { spelling = refl; parts = tt }) ▸
+    row0 (codes "stop") events.Stop (record { spelling = refl; parts = tt }) ▸
     row1 (codes "game") game_field (λ game. events.Plan (lines.Game game))
     (λ a p. record { spelling = refl; parts = p }) ▸
     row1 (codes "tables") number_field (λ n. events.Plan (lines.Tables n))
@@ -51,20 +65,6 @@ own_rows =
     row3 (codes "blinds") number_field number_field number_field (λ s b u. events.Plan (lines.Blinds s b u))
     (λ a b c p q r. record { spelling = refl; parts = (p, q, r) }) ▸
     row0 (codes "go") events.Go (record { spelling = refl; parts = tt }) ▸
-    row3 (codes "enter") name_field number_field number_field events.Enter
-    (λ a b c p q r. record { spelling = refl; parts = (p, q, r) }) ▸
-    row2 (codes "begin") number_field row_field events.Begin (λ a b p q. record { spelling = refl; parts = p }) ▸
-    row2_rest (codes "act") number_field name_field act_rest events.Act
-    (λ a b c p q r. record { spelling = refl; parts = (q, p, r) }) ▸
-    row1 (codes "time") number_field events.Time (λ a p. record { spelling = refl; parts = p }) ▸
-    row1 (codes "settle") number_field events.Settle (λ a p. record { spelling = refl; parts = p }) ▸
-    row2 (codes "balance") number_field number_field events.Balance
-    (λ a b p q. record { spelling = refl; parts = (p, q) }) ▸
-    row0 (codes "level") events.Level (record { spelling = refl; parts = tt }) ▸
-    row2 (codes "race") number_field row_field events.Race (λ a b p q. record { spelling = refl; parts = p }) ▸
-    row1 (codes "hands") switch_field events.Hands (λ a p. record { spelling = refl; parts = p }) ▸
-    row0 (codes "round") events.Round (record { spelling = refl; parts = tt }) ▸
-    row0 (codes "stop") events.Stop (record { spelling = refl; parts = tt }) ▸
     tt
 
 -- each event is read from its words

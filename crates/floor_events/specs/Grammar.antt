@@ -73,11 +73,11 @@ plan_rows =
 -- the rows of all other events
 abbrev pub play_rows : List (List ℕ × Reader)
 play_rows =
-    (codes "enter", fields3 name_of number_of number_of events.Enter) ∷
-    (codes "begin", fields2 number_of row_of events.Begin) ∷
     (codes "act", rest2 number_of name_of act_of events.Act) ∷
-    (codes "time", fields1 number_of events.Time) ∷
+    (codes "begin", fields2 number_of row_of events.Begin) ∷
     (codes "settle", fields1 number_of events.Settle) ∷
+    (codes "enter", fields3 name_of number_of number_of events.Enter) ∷
+    (codes "time", fields1 number_of events.Time) ∷
     (codes "balance", fields2 number_of number_of events.Balance) ∷
     (codes "level", fields0 events.Level) ∷
     (codes "race", fields2 number_of row_of events.Race) ∷
@@ -87,7 +87,7 @@ play_rows =
 
 -- the rows of all events without a list
 abbrev pub plain_rows : List (List ℕ × Reader)
-plain_rows = plan_rows ++ play_rows
+plain_rows = play_rows ++ plan_rows
 
 -- the grammar: the rows of all events
 abbrev pub grammar : List (List ℕ × Reader)

@@ -5,7 +5,7 @@ ghost use Rattle.std.specs.Bool.{then_some};
 ghost use Rattle.std.specs.Str.{bytes_eq};
 ghost use Rattle.floor_events.specs.declared.event.Item.{Item};
 ghost use Rattle.floor_events.specs.Words.{no_word};
-ghost use Rattle.floor_events.specs.Grammar.{play_rows, plain_rows, grammar, event_by, item_of_words, item_of_bytes};
+ghost use Rattle.floor_events.specs.Grammar.{plan_rows, plain_rows, grammar, event_by, item_of_words, item_of_bytes};
 ghost use Rattle.floor_events.specs.Spelling.{IsWritable, item_text};
 
 use crate::event::{Event, Item};
@@ -21,54 +21,11 @@ fn is(word: &[u8], text: &[u8]) -> bool
     word == text
 }
 
-/// Reads an event that is no line of a plan and has no list by its first word, and leaves the words behind its fields.
-#[tactic(auto, unfolding(crate::specs::Grammar::fields0, crate::specs::Grammar::fields1, crate::specs::Grammar::fields2, crate::specs::Grammar::fields3, crate::specs::Grammar::rest0, crate::specs::Grammar::rest1, crate::specs::Grammar::rest2))]
-fn read_play_fields(word: &[u8], line: &mut Words<'_>) -> Option<Event>
-    ensures { option_and_then (λ event. then_some (no_word line.new) event) result
-        ≡ event_by play_rows word.now line.old }
-{
-    match word {
-        _ if is(word, b"enter") => Some(Event::Enter {
-            name: line.name()?,
-            table: line.number()?,
-            seat: line.number()?,
-        }),
-        _ if is(word, b"begin") => Some(Event::Begin {
-            table: line.number()?,
-            row: line.row()?,
-        }),
-        _ if is(word, b"act") => Some(Event::Act {
-            table: line.number()?,
-            name: line.name()?,
-            act: line.act()?,
-        }),
-        _ if is(word, b"time") => Some(Event::Time {
-            table: line.number()?,
-        }),
-        _ if is(word, b"settle") => Some(Event::Settle {
-            table: line.number()?,
-        }),
-        _ if is(word, b"balance") => Some(Event::Balance {
-            from: line.number()?,
-            to: line.number()?,
-        }),
-        _ if is(word, b"level") => Some(Event::Level),
-        _ if is(word, b"race") => Some(Event::Race {
-            table: line.number()?,
-            row: line.row()?,
-        }),
-        _ if is(word, b"hands") => Some(Event::Hands(line.switch()?)),
-        _ if is(word, b"round") => Some(Event::Round),
-        _ if is(word, b"stop") => Some(Event::Stop),
-        _ => None,
-    }
-}
-
-/// Reads an event without a list by its first word, and leaves the words behind its fields.
+/// Reads a line of a plan that has no list by its first word, and leaves the words behind its fields.
 #[tactic(auto, unfolding(crate::specs::Grammar::fields0, crate::specs::Grammar::fields1, crate::specs::Grammar::fields2, crate::specs::Grammar::fields3))]
-fn read_fields(word: &[u8], line: &mut Words<'_>) -> Option<Event>
+fn read_plan_fields(word: &[u8], line: &mut Words<'_>) -> Option<Event>
     ensures { option_and_then (λ event. then_some (no_word line.new) event) result
-        ≡ event_by plain_rows word.now line.old }
+        ≡ event_by plan_rows word.now line.old }
 {
     match word {
         _ if is(word, b"game") => Some(Event::Plan(PlanLine::Game(line.game()?))),
@@ -83,7 +40,51 @@ fn read_fields(word: &[u8], line: &mut Words<'_>) -> Option<Event>
             unit: line.number()?,
         })),
         _ if is(word, b"go") => Some(Event::Go),
-        _ => read_play_fields(word, line),
+        _ => None,
+    }
+}
+
+/// Reads an event without a list by its first word, the most frequent words first, and leaves the words behind its
+/// fields.
+#[tactic(auto, unfolding(crate::specs::Grammar::fields0, crate::specs::Grammar::fields1, crate::specs::Grammar::fields2, crate::specs::Grammar::fields3, crate::specs::Grammar::rest0, crate::specs::Grammar::rest1, crate::specs::Grammar::rest2))]
+fn read_fields(word: &[u8], line: &mut Words<'_>) -> Option<Event>
+    ensures { option_and_then (λ event. then_some (no_word line.new) event) result
+        ≡ event_by plain_rows word.now line.old }
+{
+    match word {
+        _ if is(word, b"act") => Some(Event::Act {
+            table: line.number()?,
+            name: line.name()?,
+            act: line.act()?,
+        }),
+        _ if is(word, b"begin") => Some(Event::Begin {
+            table: line.number()?,
+            row: line.row()?,
+        }),
+        _ if is(word, b"settle") => Some(Event::Settle {
+            table: line.number()?,
+        }),
+        _ if is(word, b"enter") => Some(Event::Enter {
+            name: line.name()?,
+            table: line.number()?,
+            seat: line.number()?,
+        }),
+        _ if is(word, b"time") => Some(Event::Time {
+            table: line.number()?,
+        }),
+        _ if is(word, b"balance") => Some(Event::Balance {
+            from: line.number()?,
+            to: line.number()?,
+        }),
+        _ if is(word, b"level") => Some(Event::Level),
+        _ if is(word, b"race") => Some(Event::Race {
+            table: line.number()?,
+            row: line.row()?,
+        }),
+        _ if is(word, b"hands") => Some(Event::Hands(line.switch()?)),
+        _ if is(word, b"round") => Some(Event::Round),
+        _ if is(word, b"stop") => Some(Event::Stop),
+        _ => read_plan_fields(word, line),
     }
 }
 
