@@ -138,6 +138,13 @@ fn answer_next<I: Source, O: Sink>(
     Ok(true)
 }
 
+/// Makes a reader of an input, which takes no more than the limit.
+fn input_reader(alloc: Global) -> Result<LineReader, AllocError>
+    ensures { IfOk result (λ reader. reader ≡ record { held = []; line = []; taken = 0; limit = INPUT_LIMIT }) }
+{
+    LineReader::new(alloc, INPUT_LIMIT)
+}
+
 /// Answers all lines of the input, and puts the report behind the answers.
 pub fn replay<I: Source, O: Sink>(alloc: Global, input: &mut I, out: &mut O) -> Result<(), Fault>
     ensures end { OnOk result (IfSome (I.left input.old) (λ _. I.left input.new ≡ Some [])) }
@@ -150,7 +157,7 @@ pub fn replay<I: Source, O: Sink>(alloc: Global, input: &mut I, out: &mut O) -> 
     ensures write { IsErrOf result Fault.Write → Rose (O.faults out.old) (O.faults out.new) }
     ensures words { IsErrOf result Fault.Usage → ⊥ }
 {
-    let mut reader = LineReader::new(alloc, INPUT_LIMIT)?;
+    let mut reader = input_reader(alloc)?;
     let mut tournament = Tournament::new(alloc)?;
     let mut text = Vec::new(alloc);
     'lines: while answer_next(alloc, &mut reader, &mut tournament, &mut text, input, out)? {}
