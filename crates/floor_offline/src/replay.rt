@@ -47,7 +47,7 @@ fn put_text<O: Sink>(text: &[u8], out: &mut O) -> Result<(), Fault>
     Ok(())
 }
 
-/// Puts an answer, by one put.
+/// Puts an answer, by one put. That of an accepted line is kept as it is.
 fn put_answer<O: Sink>(text: &mut Vec<u8>, answer: &Answer, out: &mut O) -> Result<(), Fault>
     ensures ok { OnOk result (IfSome (O.written out.old)
         (λ before. O.written out.new ≡ Some (before ++ answer_text answer.now))) }
@@ -55,6 +55,9 @@ fn put_answer<O: Sink>(text: &mut Vec<u8>, answer: &Answer, out: &mut O) -> Resu
     ensures write { IsErrOf result Fault.Write → Rose (O.faults out.old) (O.faults out.new) }
     ensures others { IfErr result IsOfWriting }
 {
+    if let Answer::Ok = answer {
+        return put_text(b"ok\n", out);
+    }
     text.clear();
     write_answer(answer, text)?;
     put_text(text, out)
