@@ -192,7 +192,8 @@ cut_at held rest at is =
     ∙ ap (λ (xs : List ℕ). take at held ++ xs) tail) ∙ append_assoc (take at held) (10 ∷ drop (at + 1) held) rest in
     ap lines_of_bytes split ∙ lines_of_bytes-line (take at held) (drop (at + 1) held ++ rest) is.before
 
-handed_at : (b c : Reading) (bytes : List ℕ) (at : ℕ) (handed : List (Option (List ℕ))) → IsFirstFeed b.held at
+-- a line that is held handed out, whatever bytes the source has
+pub handed_at : (b c : Reading) (bytes : List ℕ) (at : ℕ) (handed : List (Option (List ℕ))) → IsFirstFeed b.held at
     → handed ≡ cut_line (take at b.held) ∷ [] → c.held ≡ drop (at + 1) b.held → c.taken ≡ b.taken
     → Reads b c bytes (Some bytes) handed
 handed_at b c bytes at handed is line held taken =

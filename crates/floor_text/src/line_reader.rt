@@ -1,6 +1,6 @@
 //! Lines read from a source, block by block.
 
-ghost use Rattle.std.specs.Prelude.{◌≡◌, ◌≢◌, ◌≤◌, ◌<◌, ◌-◌, ◌+◌, ◌↔◌, ℕ, List, [], ◌∷◌, ◌++◌, length, take, drop, Some, Ok, Err, MatchOption, IfOk, IfErr, IfSome, OnErr, true};
+ghost use Rattle.std.specs.Prelude.{◌≡◌, ◌≢◌, ◌≤◌, ◌<◌, ◌-◌, ◌+◌, ◌↔◌, ℕ, List, [], ◌∷◌, ◌++◌, length, take, drop, Some, Ok, Err, MatchOption, is_some, IfOk, IfErr, IfSome, IfNone, OnErr, true};
 ghost use Rattle.floor_text.specs.HeldBytes.{IsFirstFeed};
 ghost use Rattle.std.specs.List.{list_any};
 ghost use Rattle.floor_text.specs.Lines.{HasNoFeed, is_line_feed, cut_line, lines_of_bytes};
@@ -76,11 +76,20 @@ impl LineReader {
         })
     }
 
-    /// Tells whether a line feed is held within the limit. Then the next line is there, and `next_line` takes nothing.
-    pub fn holds_line(&self) -> bool
-        ensures { result ≡ list_any is_line_feed (take (held_within self.now) self.now.held) }
+    /// Hands out the next line where its line feed is held within the limit, and else nothing. It takes nothing.
+    pub fn next_held(&mut self) -> Option<Next>
+        ensures held { is_some result ≡ list_any is_line_feed (take (held_within self.old) self.old.held) }
+        ensures reads { IfSome result (λ next. (bytes : List ℕ)
+            → Reads self.old self.new bytes (Some bytes) (lines_of_next (Ok next) self.new.line)) }
+        ensures taken { self.new.taken ≡ self.old.taken }
+        ensures limit { self.new.limit ≡ self.old.limit }
+        ensures line { IfSome result (λ next. next ≢ Next.End) }
+        ensures shorter { IfSome result (λ _. bytes_ahead self.new < bytes_ahead self.old) }
+        ensures within_limit { IfSome result (λ _. self.new.limit < self.new.taken → 0 < length self.new.held) }
+        ensures none { IfNone result (self.new ≡ self.old) }
     {
-        self.feed_from(0).is_some()
+        let at = self.feed_from(0)?;
+        Some(self.hand_out(at, 1))
     }
 
     /// Hands out the next line. It takes from the source, in blocks of 65536 bytes, as far as it needs to.
