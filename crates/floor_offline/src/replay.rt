@@ -1,7 +1,8 @@
 //! Lines are answered one by one, and at the end comes the report.
 
-ghost use Rattle.std.specs.Prelude.{◌⊎◌, ◌≡◌, ◌≤◌, ◌<◌, ◌+◌, ◌^◌, ◌++◌, List, ℕ, length, Option, Ok, Err, true, false, [], Some, IfOk, IfSome, OnOk, OnErr, IfErr, IsErrOf};
+ghost use Rattle.std.specs.Prelude.{◌⊎◌, ◌≡◌, ◌≢◌, ◌≤◌, ◌<◌, ◌+◌, ◌^◌, ◌++◌, List, ℕ, length, Option, Ok, Err, true, false, [], Some, IfOk, IfSome, OnOk, OnErr, IfErr, IsErrOf};
 ghost use Rattle.floor_text.specs.Outside.{Rose};
+ghost use Rattle.floor_text.specs.LineReader.{Reads, lines_of_next};
 ghost use Rattle.floor_text.specs.Reading.{bytes_ahead};
 ghost use Rattle.floor_events.specs.Spelling.{answer_text};
 ghost use Rattle.floor_events.specs.Grammar.{item_of_bytes};
@@ -81,18 +82,41 @@ fn put_report<O: Sink>(
     put_text(text, out)
 }
 
-/// Has `out` let go of the answers that it holds back, unless the next line is held already: whoever sends lines has
-/// the answer to each before the program waits for more.
-fn show_answers<O: Sink>(reader: &LineReader, out: &mut O) -> Result<(), Fault>
+/// Hands out the next line. Before the input is asked for more, `out` lets go of the answers that it holds back: whoever
+/// sends lines has the answer to each before the program waits.
+fn next_line<I: Source, O: Sink>(
+    reader: &mut LineReader,
+    input: &mut I,
+    out: &mut O,
+) -> Result<Next, Fault>
+    ensures reads { IfOk result (λ next. IfSome (I.left input.old)
+        (λ bytes. Reads reader.old reader.new bytes (I.left input.new) (lines_of_next (Ok next) reader.new.line))) }
     ensures kept { OnOk result (Keeps (O.written out.old) (O.written out.new)) }
-    ensures later { O.faults out.old ≤ O.faults out.new }
-    ensures write { OnErr result (Rose (O.faults out.old) (O.faults out.new)) }
-    ensures others { IfErr result IsOfWriting }
+    ensures shorter { IfOk result (λ next. next ≢ Next.End → bytes_ahead reader.new < bytes_ahead reader.old) }
+
+    // At the end nothing is held or left, and no more was taken than the limit allows.
+    ensures end { result ≡ Ok Next.End → reader.new.held ≡ [] }
+    ensures source_end { result ≡ Ok Next.End → IfSome (I.left input.old) (λ _. I.left input.new ≡ Some []) }
+    ensures within { IfOk result (λ _. reader.new.limit < reader.new.taken → 0 < length reader.new.held) }
+
+    // The bytes taken are counted, whatever comes.
+    ensures counts { (first : Option (List ℕ)) → Counts first (I.left input.old) reader.old.taken
+        → Counts first (I.left input.new) reader.new.taken }
+    ensures limit { reader.new.limit ≡ reader.old.limit }
+    ensures too_long { IsErrOf result Fault.InputTooLong → reader.new.limit < reader.new.taken }
+
+    // The other faults have their causes.
+    ensures input_later { I.faults input.old ≤ I.faults input.new }
+    ensures out_later { O.faults out.old ≤ O.faults out.new }
+    ensures read { IsErrOf result Fault.Read → Rose (I.faults input.old) (I.faults input.new) }
+    ensures write { IsErrOf result Fault.Write → Rose (O.faults out.old) (O.faults out.new) }
+    ensures others { IsErrOf result Fault.Usage → ⊥ }
 {
-    if reader.holds_line() {
-        return Ok(());
+    if let Some(next) = reader.next_held() {
+        return Ok(next);
     }
-    Ok(out.flush()?)
+    out.flush()?;
+    Ok(reader.next_line(input)?)
 }
 
 /// Answers the next line, and tells whether there was one.
@@ -131,8 +155,7 @@ fn answer_next<I: Source, O: Sink>(
     ensures write { IsErrOf result Fault.Write → Rose (O.faults out.old) (O.faults out.new) }
     ensures words { IsErrOf result Fault.Usage → ⊥ }
 {
-    show_answers(reader, out)?;
-    let answer = match reader.next_line(input)? {
+    let answer = match next_line(reader, input, out)? {
         Next::End => return Ok(false),
         Next::TooLong => Answer::No(Refusal::Syntax),
         Next::Line => answer_line(alloc, tournament, reader.line())?,
@@ -174,6 +197,7 @@ pub fn close<O: Sink>(ran: Result<(), Fault>, out: &mut O) -> Result<(), Fault>
     ensures later { O.faults out.old ≤ O.faults out.new }
     ensures ran { (result ≡ ran) ⊎ ((result ≡ Err Fault.Write) × Rose (O.faults out.old) (O.faults out.new)) }
 {
-    out.flush()?;
+    let flushed = out.flush();
+    flushed?;
     ran
 }
