@@ -6,8 +6,8 @@ use Rattle.tournament_rules.specs.Books.{BookState}
 use Rattle.tournament_rules.specs.Checks.{book_refusal}
 use Rattle.tournament_rules.specs.Effects.{book_effect}
 
--- a player enters, two tables are balanced, a table breaks, a level, a race, a switch or an end of a round comes, or the
--- tournament is stopped
+-- a player enters, two tables are balanced, a table breaks, a level, a race, a switch or an end of a round comes, or
+-- the tournament is stopped
 abbrev pub is_order : Event → Bool
 is_order (events.Plan line) = false
 is_order events.Go = false

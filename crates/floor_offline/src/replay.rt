@@ -82,8 +82,8 @@ fn put_report<O: Sink>(
     put_text(text, out)
 }
 
-/// Hands out the next line. Before the input is asked for more, `out` lets go of the answers that it holds back: whoever
-/// sends lines has the answer to each before the program waits.
+/// Hands out the next line. Before the input is asked for more, `out` lets go of the answers that it holds back:
+/// whoever sends lines has the answer to each before the program waits.
 fn next_line<I: Source, O: Sink>(
     reader: &mut LineReader,
     input: &mut I,
