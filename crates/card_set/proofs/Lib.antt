@@ -1,5 +1,5 @@
 pub mod CardLaws
 pub mod DeckLaws
-pub mod RowLaws
+pub mod TextLaws
 pub mod RowReading
 pub mod SeenCards

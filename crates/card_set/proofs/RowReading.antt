@@ -1,6 +1,6 @@
 -- What is read as a card or a row is spelled so, and each card and each row is read from its text. This project's own.
 use Rattle.std.proofs.Common.{◌≡◌, ℕ, zero, suc, ◌+◌, ◌-◌, ◌<◌, ◌≤◌, Bool, true, false, ◌&&◌, eqb, List, [], ◌∷◌, ◌++◌, length, slice_index, Option, Some, None, option_map, option_and_then, refl, sym, ap, ◌∙◌, arith}
-use Rattle.std.specs.Prelude.{nat_le, nat_lt, ◌==◌, codes}
+use Rattle.std.specs.Prelude.{nat_le, nat_lt, ◌==◌, codes, cond}
 use Rattle.std.specs.List.{position, position_or_len}
 use Rattle.std.specs.Option.{IfSome}
 use Rattle.std.proofs.lemmas.Bool.{eqb-true}
@@ -9,7 +9,7 @@ use Rattle.std.proofs.lemmas.Option.{same_Some}
 use Rattle.std.proofs.lemmas.List.Quantifiers.{position-Some}
 use Rattle.card_set.specs.declared.card.Card.{Card}
 use Rattle.card_set.specs.declared.card.CardRow.{CardRow}
-use Rattle.card_set.specs.Cards.{rank_letters, rank_letter, suit_letter, card_text, row_text, rank_of, suit_of, card_by, card_at, card_of, cards_of, row_by, row_at, row_of}
+use Rattle.card_set.specs.Cards.{rank_letters, rank_letter, suit_letter, card_text, cards_text, row_text, rank_of, suit_of, card_by, card_at, card_of, cards_of, so_many, so_many_of, row_by, row_at, row_of}
 use Rattle.card_set.proofs.CardLaws.{same_card, same_row}
 
 -- what reads exactly the things that satisfy a property reads the same as another that does
@@ -122,22 +122,44 @@ unfolding card_of
 card_again card = rw (rank_again card.rank card.from_two card.up_to_ace, suit_again card.suit card.one_of_four)
     (card_by_again card (nat_le 2 card.rank) (nat_le card.rank 14) (nat_lt card.suit 4) refl refl refl)
 
-cards_found : (bytes : List ℕ) (cards : List Card) → cards_of bytes ≡ Some cards → row_text cards ≡ bytes
+cards_found : (bytes : List ℕ) (cards : List Card) → cards_of bytes ≡ Some cards → cards_text cards ≡ bytes
 unfolding cards_of
-cards_found [] cards h = ap row_text (sym (same_Some [] cards h))
+cards_found [] cards h = ap cards_text (sym (same_Some [] cards h))
 cards_found (only ∷ []) cards h = absurd cc
 cards_found (a ∷ b ∷ bytes) cards h =
     let card = bind_found (card_of a b) (λ c. option_map (λ cs. c ∷ cs) (cards_of bytes)) cards h in
     let others = map_found (λ cs. card.0 ∷ cs) (cards_of bytes) cards card.2 in
     let first = card_found a b card.0 card.1 in
     let rest = cards_found bytes others.0 others.1 in
-    ap row_text (sym others.2) ∙ ap (λ (text : List ℕ). text ++ row_text others.0) first
+    ap cards_text (sym others.2) ∙ ap (λ (text : List ℕ). text ++ cards_text others.0) first
     ∙ ap (λ (text : List ℕ). a ∷ b ∷ text) rest
 
-cards_again : (cards : List Card) → cards_of (row_text cards) ≡ Some cards
+cards_again : (cards : List Card) → cards_of (cards_text cards) ≡ Some cards
 unfolding cards_of
 cards_again [] = refl
 cards_again (card ∷ cards) = rw (card_again card, cards_again cards) refl
+
+so_many_found : (count : ℕ) (all cards : List Card) (test : Bool) → (length all == count) ≡ test
+    → cond test (Some all) None ≡ Some cards → (all ≡ cards) × (length all ≡ count)
+so_many_found count all cards true is h = (same_Some all cards h, eqb-true (length all) count is)
+so_many_found count all cards false is h = absurd cc
+
+-- the cards that are read are so many, and they are spelled so
+pub cards_are_found : (count : ℕ) (bytes : List ℕ) (cards : List Card) → so_many_of count bytes ≡ Some cards
+    → (length cards ≡ count) × (cards_text cards ≡ bytes)
+unfolding so_many_of
+cards_are_found count bytes cards h =
+    let all = bind_found (cards_of bytes) (so_many count) cards h in
+    let same = so_many_found count all.0 cards (length all.0 == count) refl all.2 in
+    (ap length (sym same.0) ∙ same.1, ap cards_text (sym same.0) ∙ cards_found bytes all.0 all.1)
+
+-- so many cards are read from their text
+pub cards_are_read : (count : ℕ) (bytes : List ℕ) (cards : List Card)
+    → (length cards ≡ count) × (cards_text cards ≡ bytes) → so_many_of count bytes ≡ Some cards
+unfolding so_many_of
+cards_are_read count bytes cards (size, spelled) =
+    let counted : (length cards == count) ≡ true = grind (arith, nat_tests) in
+    rw (← spelled, cards_again cards, counted) refl
 
 row_by_found : (cards : List Card) (whole : Bool) (is : (length cards == 52) ≡ whole) (row : CardRow)
     → row_by cards whole is ≡ Some row → cards ≡ row.cards
@@ -162,6 +184,12 @@ pub row_again : (row : CardRow) → row_of (row_text row.cards) ≡ Some row
 unfolding row_of
 row_again row = rw (cards_again row.cards) (row_by_again row (length row.cards == 52) refl)
 
+both_found : (count : ℕ) (bytes : List ℕ) (read : Option (List Card)) → IfSome read (λ cards. length cards ≡ count)
+    → IfSome read (λ cards. cards_text cards ≡ bytes)
+    → IfSome read (λ cards. (length cards ≡ count) × (cards_text cards ≡ bytes))
+both_found count bytes None size found = tt
+both_found count bytes (Some cards) size found = (size, found)
+
 card_spelled : (a b : ℕ) (card : Card) → card_text card ≡ a ∷ b ∷ [] → card_of a b ≡ Some card
 card_spelled a b card spelled =
     let first : rank_letter card.rank ≡ a = cc in
@@ -173,6 +201,16 @@ pub reads_card : (a b : ℕ) (read : Option Card) → IfSome read (λ card. card
     → ((card : Card) → card_text card ≡ a ∷ b ∷ [] → read ≡ Some card) → read ≡ card_of a b
 reads_card a b read found only = reads_same (λ card. card_text card ≡ a ∷ b ∷ []) read (card_of a b) found only
     (card_found a b) (card_spelled a b)
+
+-- what reads exactly the texts of so many cards reads the cards that bytes spell
+pub reads_cards : (count : ℕ) (bytes : List ℕ) (read : Option (List Card)) → IfSome read (λ cards. length cards ≡ count)
+    → IfSome read (λ cards. cards_text cards ≡ bytes)
+    → ((cards : List Card) → length cards ≡ count → cards_text cards ≡ bytes → read ≡ Some cards)
+    → read ≡ so_many_of count bytes
+reads_cards count bytes read size found only = reads_same
+    (λ cards. (length cards ≡ count) × (cards_text cards ≡ bytes)) read
+    (so_many_of count bytes) (both_found count bytes read size found) (λ cards is. only cards is.0 is.1)
+    (cards_are_found count bytes) (cards_are_read count bytes)
 
 -- what reads exactly the texts of rows reads the row that bytes spell
 pub reads_row : (bytes : List ℕ) (read : Option CardRow) → IfSome read (λ row. row_text row.cards ≡ bytes)

@@ -1,5 +1,5 @@
 -- Cards and rows, and their text. This project's own.
-use Rattle.std.specs.Prelude.{◌≡◌, ℕ, ◌+◌, ◌-◌, ◌==◌, nat_le, nat_lt, Bool, true, false, List, [], ◌∷◌, length, slice_index, codes, Option, Some, None, option_map, option_and_then}
+use Rattle.std.specs.Prelude.{◌≡◌, ℕ, ◌+◌, ◌-◌, ◌==◌, nat_le, nat_lt, Bool, true, false, List, [], ◌∷◌, length, slice_index, codes, cond, Option, Some, None, option_map, option_and_then}
 use Rattle.std.specs.List.{flat_map, position}
 use Rattle.std.proofs.Common.{refl}
 use Rattle.std.proofs.lemmas.Bool.{leb-true, ltb-true, eqb-true}
@@ -22,9 +22,13 @@ suit_letter suit = slice_index (codes "cdhs") suit
 abbrev pub card_text : Card → List ℕ
 card_text card = rank_letter card.rank ∷ suit_letter card.suit ∷ []
 
--- the text of a row is the texts of its cards, one after another with nothing between them
+-- the text of cards is the texts of each of them, one after another with nothing between them
+abbrev pub cards_text : List Card → List ℕ
+cards_text cards = flat_map card_text cards
+
+-- the text of a row is the text of its cards
 abbrev pub row_text : List Card → List ℕ
-row_text cards = flat_map card_text cards
+row_text cards = cards_text cards
 
 -- the rank that a letter spells: the one of 2 to 14 whose letter it is
 abbrev pub rank_of : ℕ → Option ℕ
@@ -59,6 +63,14 @@ unfoldable pub cards_of : List ℕ → Option (List Card)
 cards_of [] = Some []
 cards_of (only ∷ []) = None
 cards_of (a ∷ b ∷ bytes) = option_and_then (λ card. option_map (λ cards. card ∷ cards) (cards_of bytes)) (card_of a b)
+
+-- the cards, where they are so many
+abbrev pub so_many : ℕ → List Card → Option (List Card)
+so_many count cards = cond (length cards == count) (Some cards) None
+
+-- so many cards that bytes spell: just the texts of so many cards, in which a card may come twice
+unfoldable pub so_many_of : ℕ → List ℕ → Option (List Card)
+so_many_of count bytes = option_and_then (so_many count) (cards_of bytes)
 
 -- the row of cards, where the test of their count holds
 abbrev pub row_by : (cards : List Card) (whole : Bool) → (length cards == 52) ≡ whole → Option CardRow

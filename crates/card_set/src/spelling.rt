@@ -1,9 +1,9 @@
 //! The text of cards and of rows.
 
-ghost use Rattle.std.specs.Prelude.{◌≡◌, ◌∷◌, [], ℕ, ◌<◌, ◌≤◌, Some, IfSome, position, ◌==◌};
+ghost use Rattle.std.specs.Prelude.{◌≡◌, ◌∷◌, [], ℕ, ◌<◌, ◌≤◌, List, length, Some, IfSome, position, ◌==◌};
 ghost use Rattle.card_set.specs.declared.card.Card.{Card};
 ghost use Rattle.card_set.specs.declared.card.CardRow.{CardRow};
-ghost use Rattle.card_set.specs.Cards.{rank_letters, rank_letter, suit_letter, card_text, row_text, card_of, row_of};
+ghost use Rattle.card_set.specs.Cards.{rank_letters, rank_letter, suit_letter, card_text, cards_text, row_text, card_of, so_many_of, row_of};
 
 use crate::card::{Card, CardRow};
 
@@ -53,18 +53,29 @@ pub fn card_text(card: Card) -> [u8; 2]
     [RANKS[card.rank as usize - 2], SUITS[card.suit as usize]]
 }
 
+/// Reads so many cards: their texts without a separator. `None` exactly where the bytes are no such text.
+pub fn read_cards<const N: usize>(bytes: &[u8]) -> Option<[Card; N]>
+    ensures found { IfSome result (λ cards. cards_text cards ≡ bytes.now) }
+    ensures count { IfSome result (λ cards. length cards ≡ N) }
+    ensures only { (cards : List Card) → length cards ≡ N → cards_text cards ≡ bytes.now → result ≡ Some cards }
+    ensures exact { result ≡ so_many_of N bytes.now }
+{
+    if bytes.len() % 2 != 0 || bytes.len() / 2 != N {
+        return None;
+    }
+    let mut cards = [Card { rank: 2, suit: 0 }; N];
+    for place in 0..N {
+        cards[place] = read_card(bytes[2 * place], bytes[2 * place + 1])?;
+    }
+    Some(cards)
+}
+
 /// Reads a row: the texts of 52 cards without a separator. `None` exactly where the bytes are no such row.
 pub fn read_row(bytes: &[u8]) -> Option<CardRow>
     ensures found { IfSome result (λ row. row_text row.cards ≡ bytes.now) }
     ensures only { (row : CardRow) → row_text row.cards ≡ bytes.now → result ≡ Some row }
     ensures exact { result ≡ row_of bytes.now }
 {
-    if bytes.len() != 104 {
-        return None;
-    }
-    let mut cards = [Card { rank: 2, suit: 0 }; 52];
-    for place in 0..52 {
-        cards[place] = read_card(bytes[2 * place], bytes[2 * place + 1])?;
-    }
+    let cards = read_cards(bytes)?;
     Some(CardRow { cards })
 }

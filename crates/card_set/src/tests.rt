@@ -1,4 +1,4 @@
-use crate::{Card, CardRow, Deck, card_text, read_card, read_row};
+use crate::{Card, CardRow, Deck, card_text, read_card, read_cards, read_row};
 use std::process::Abort;
 use std::test::Fail;
 
@@ -37,6 +37,27 @@ fn other_bytes_are_no_card(rt: HostRuntime) {
     ] {
         assert_eq!(rt; read_card(text[0], text[1]), None, "{text:?}");
     }
+}
+
+#[test]
+fn so_many_cards_are_read(rt: HostRuntime) -> Result<(), Fail> {
+    let [ten, ace] = read_cards::<2>(b"TdAs").ok_or("two cards")?;
+    assert_eq!(rt; ten, Card { rank: 10, suit: 1 });
+    assert_eq!(rt; ace, Card { rank: 14, suit: 3 });
+    assert_eq!(rt; read_cards(b"2c2c"), Some([Card { rank: 2, suit: 0 }; 2]));
+    assert!(rt; read_cards::<0>(b"").is_some());
+    for bytes in [
+        b"".as_slice(),
+        b"Td",
+        b"TdA",
+        b"TdAs2",
+        b"TdAs2c",
+        b"tdAs",
+        b"TdSa",
+    ] {
+        assert!(rt; read_cards::<2>(bytes).is_none(), "{bytes:?}");
+    }
+    Ok(())
 }
 
 /// The sorted deck with some bytes in place of its first ones.

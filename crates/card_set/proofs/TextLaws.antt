@@ -1,19 +1,19 @@
--- The text of a row, place by place. This project's own.
+-- The text of cards, place by place. This project's own.
 use Rattle.std.proofs.Common.{◌≡◌, ℕ, suc, zero, ◌+◌, ◌*◌, ◌<◌, List, [], ◌∷◌, ◌++◌, length, take, slice_index, slice_index_or, slice_set, arith, refl, ap, append_assoc}
 use Rattle.std.proofs.lemmas.List.{take_more, take_more_set}
 use Rattle.std.proofs.lemmas.Grind.{flat_map-append}
 use Rattle.card_set.specs.declared.card.Card.{Card}
-use Rattle.card_set.specs.Cards.{card_text, row_text}
+use Rattle.card_set.specs.Cards.{card_text, cards_text}
 
 -- each card takes two bytes
-pub length-row_text : (cards : List Card) → length (row_text cards) ≡ 2 * length cards
-length-row_text [] = refl
-length-row_text (card ∷ cards) = omega (arith, length-row_text cards)
+pub length-cards_text : (cards : List Card) → length (cards_text cards) ≡ 2 * length cards
+length-cards_text [] = refl
+length-cards_text (card ∷ cards) = omega (arith, length-cards_text cards)
 
 -- the text of the card at a place stands at twice the place
 pub card_text-at : (cards : List Card) (place : ℕ) (other : Card) → place < length cards
-    → card_text (slice_index_or cards place other) ≡ slice_index (row_text cards) (2 * place) ∷ slice_index
-    (row_text cards) (2 * place + 1) ∷ []
+    → card_text (slice_index_or cards place other) ≡ slice_index (cards_text cards) (2 * place) ∷ slice_index
+    (cards_text cards) (2 * place + 1) ∷ []
 card_text-at [] place other within = absurd (omega arith)
 card_text-at (card ∷ cards) zero other within = refl
 card_text-at (card ∷ cards) (suc place) other within =
@@ -22,14 +22,14 @@ card_text-at (card ∷ cards) (suc place) other within =
     rw (odd, even) (card_text-at cards place other (omega arith))
 
 -- one more card that is spelled by the next two bytes
-pub row_text-more : (cards : List Card) (place : ℕ) (card : Card) (bytes : List ℕ) → place < length cards
-    → 2 * place + 1 < length bytes → row_text (take place cards) ≡ take (2 * place) bytes
+pub cards_text-more : (cards : List Card) (place : ℕ) (card : Card) (bytes : List ℕ) → place < length cards
+    → 2 * place + 1 < length bytes → cards_text (take place cards) ≡ take (2 * place) bytes
     → card_text card ≡ slice_index bytes (2 * place) ∷ slice_index bytes (2 * place + 1) ∷ []
-    → row_text (take (place + 1) (slice_set cards place card)) ≡ take (2 * (place + 1)) bytes
-row_text-more cards place card bytes within room read spelled =
+    → cards_text (take (place + 1) (slice_set cards place card)) ≡ take (2 * (place + 1)) bytes
+cards_text-more cards place card bytes within room read spelled =
     let cards_more : take (place + 1) (slice_set cards place card) ≡ take place cards ++ card ∷ [] =
     take_more_set cards place card within in
-    let text_more : row_text (take place cards ++ card ∷ []) ≡ row_text (take place cards) ++ row_text (card ∷ []) =
+    let text_more : cards_text (take place cards ++ card ∷ []) ≡ cards_text (take place cards) ++ cards_text (card ∷ []) =
     flat_map-append card_text (take place cards) (card ∷ []) in
     let one_more : take (2 * place + 1) bytes ≡ take (2 * place) bytes ++ slice_index bytes (2 * place) ∷ [] =
     take_more bytes (2 * place) 0 (omega arith) in
