@@ -1,37 +1,12 @@
 use crate::{LowValue, best_low};
 use card_choices::are_distinct;
-use card_set::{Card, read_card};
+use card_set::read_cards;
 use std::process::Abort;
-
-fn card(rt: &impl Abort, rank: u8, suit: u8) -> Card {
-    read_card(rank, suit).expect(rt, "the text of a card")
-}
-
-fn four_cards(rt: &impl Abort, text: &[u8; 8]) -> [Card; 4] {
-    let [a, b, c, d, e, f, g, h] = *text;
-    [
-        card(rt, a, b),
-        card(rt, c, d),
-        card(rt, e, f),
-        card(rt, g, h),
-    ]
-}
-
-fn five_cards(rt: &impl Abort, text: &[u8; 10]) -> [Card; 5] {
-    let [a, b, c, d, e, f, g, h, i, j] = *text;
-    [
-        card(rt, a, b),
-        card(rt, c, d),
-        card(rt, e, f),
-        card(rt, g, h),
-        card(rt, i, j),
-    ]
-}
 
 /// The best low of the cards that two texts spell, of which none comes twice.
 fn low(rt: &impl Abort, hole: &[u8; 8], board: &[u8; 10]) -> Option<LowValue> {
-    let hole = four_cards(rt, hole);
-    let board = five_cards(rt, board);
+    let hole = read_cards::<4>(hole).expect(rt, "the texts of cards");
+    let board = read_cards::<5>(board).expect(rt, "the texts of cards");
     assert!(rt; are_distinct(&hole, &board));
     best_low(hole, board)
 }
