@@ -2,51 +2,21 @@ ghost use Rattle.std.specs.Prelude.{◌≤◌};
 
 use crate::{Category, HighValue, best_holdem, best_omaha, five_card_value};
 use card_choices::{are_distinct, fives, pairs, threes};
-use card_set::{Card, Deck, read_card};
+use card_set::{Card, Deck, read_cards};
 use std::process::Abort;
-
-fn card(rt: &impl Abort, rank: u8, suit: u8) -> Card {
-    read_card(rank, suit).expect(rt, "the text of a card")
-}
-
-fn two_cards(rt: &impl Abort, text: &[u8; 4]) -> [Card; 2] {
-    let [a, b, c, d] = *text;
-    [card(rt, a, b), card(rt, c, d)]
-}
-
-fn four_cards(rt: &impl Abort, text: &[u8; 8]) -> [Card; 4] {
-    let [a, b, c, d, e, f, g, h] = *text;
-    [
-        card(rt, a, b),
-        card(rt, c, d),
-        card(rt, e, f),
-        card(rt, g, h),
-    ]
-}
-
-fn five_cards(rt: &impl Abort, text: &[u8; 10]) -> [Card; 5] {
-    let [a, b, c, d, e, f, g, h, i, j] = *text;
-    [
-        card(rt, a, b),
-        card(rt, c, d),
-        card(rt, e, f),
-        card(rt, g, h),
-        card(rt, i, j),
-    ]
-}
 
 /// The best value in hold'em of the cards that two texts spell, of which none comes twice.
 fn holdem(rt: &impl Abort, hole: &[u8; 4], board: &[u8; 10]) -> HighValue {
-    let hole = two_cards(rt, hole);
-    let board = five_cards(rt, board);
+    let hole = read_cards::<2>(hole).expect(rt, "the text of cards");
+    let board = read_cards::<5>(board).expect(rt, "the text of cards");
     assert!(rt; are_distinct(&hole, &board));
     best_holdem(hole, board)
 }
 
 /// The best value in Omaha of the cards that two texts spell, of which none comes twice.
 fn omaha(rt: &impl Abort, hole: &[u8; 8], board: &[u8; 10]) -> HighValue {
-    let hole = four_cards(rt, hole);
-    let board = five_cards(rt, board);
+    let hole = read_cards::<4>(hole).expect(rt, "the text of cards");
+    let board = read_cards::<5>(board).expect(rt, "the text of cards");
     assert!(rt; are_distinct(&hole, &board));
     best_omaha(hole, board)
 }
@@ -291,22 +261,27 @@ fn walk_holdem(hole: [Card; 2], board: [Card; 5]) -> HighValue {
     best
 }
 
-/// Some card of a deck, by shifts of a number.
-fn draw(deck: &Deck, state: &mut u64) -> Card {
+/// Some card of those that come first in a deck, by shifts of a number.
+fn draw(deck: &Deck, state: &mut u64, cards: u64) -> Card
+    requires some { 1 ≤ cards }
+    requires few { cards ≤ 52 }
+{
     *state ^= *state << 13;
     *state ^= *state >> 7;
     *state ^= *state << 17;
-    deck.card((*state % 52) as usize)
+    deck.card((*state % cards) as usize)
 }
 
-fn draw_board(deck: &Deck, state: &mut u64) -> [Card; 5] {
-    [
-        draw(deck, state),
-        draw(deck, state),
-        draw(deck, state),
-        draw(deck, state),
-        draw(deck, state),
-    ]
+/// So many cards of those that come first in a deck, of which one may come twice.
+fn draw_cards<const N: usize>(deck: &Deck, state: &mut u64, cards: u64) -> [Card; N]
+    requires some { 1 ≤ cards }
+    requires few { cards ≤ 52 }
+{
+    let mut drawn = [deck.card(0); N];
+    for card in &mut drawn {
+        *card = draw(deck, state, cards);
+    }
+    drawn
 }
 
 #[test]
@@ -315,8 +290,8 @@ fn holdem_is_as_the_walk_finds_it(rt: HostRuntime) {
     let mut state = 88172645463325252;
     let mut compared = 0u32;
     for _ in 0..4000 {
-        let hole = [draw(&deck, &mut state), draw(&deck, &mut state)];
-        let board = draw_board(&deck, &mut state);
+        let hole = draw_cards(&deck, &mut state, 52);
+        let board = draw_cards(&deck, &mut state, 52);
         if are_distinct(&hole, &board) {
             assert!(rt;
                 best_holdem(hole, board) == walk_holdem(hole, board),
@@ -351,17 +326,6 @@ fn is_as_walked(hole: [Card; 4], board: [Card; 5]) -> Option<(bool, Option<u8>)>
     ))
 }
 
-/// Some card of those that come first in a deck.
-fn draw_first(deck: &Deck, state: &mut u64, cards: u64) -> Card
-    requires some { 1 ≤ cards }
-    requires few { cards ≤ 52 }
-{
-    *state ^= *state << 13;
-    *state ^= *state >> 7;
-    *state ^= *state << 17;
-    deck.card((*state % cards) as usize)
-}
-
 /// Compares the best values of hands of so many cards with those of the walk, and counts them by their categories.
 fn compare_omaha(rt: &impl Abort, cards: u64) -> [u32; 9]
     requires some { 1 ≤ cards }
@@ -371,19 +335,8 @@ fn compare_omaha(rt: &impl Abort, cards: u64) -> [u32; 9]
     let mut state = 88172645463325252;
     let mut seen = [0u32; 9];
     for _ in 0..4000 {
-        let hole = [
-            draw_first(&deck, &mut state, cards),
-            draw_first(&deck, &mut state, cards),
-            draw_first(&deck, &mut state, cards),
-            draw_first(&deck, &mut state, cards),
-        ];
-        let board = [
-            draw_first(&deck, &mut state, cards),
-            draw_first(&deck, &mut state, cards),
-            draw_first(&deck, &mut state, cards),
-            draw_first(&deck, &mut state, cards),
-            draw_first(&deck, &mut state, cards),
-        ];
+        let hole = draw_cards(&deck, &mut state, cards);
+        let board = draw_cards(&deck, &mut state, cards);
         if let Some((same, category)) = is_as_walked(hole, board) {
             assert!(rt; same, "{hole:?} {board:?}");
             if let Some(category) = category {
