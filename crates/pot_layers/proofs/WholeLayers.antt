@@ -1,7 +1,6 @@
 -- Where all that was put in is of whole units, so is each pot.
-use Rattle.std.proofs.Common.{◌≡◌, ◌∙◌, ℕ, zero, suc, ◌+◌, ◌-◌, ◌%◌, ◌≤◌, List, [], ◌∷◌, Bool, true, false, cond, refl, ap, sym, inl, inr, arith}
-use Rattle.std.specs.Prelude.{◌==◌, ◌&&◌, ◌||◌, nat_le, not}
-use Rattle.std.specs.List.{list_all}
+use Rattle.std.proofs.Common.{◌≡◌, ◌∙◌, ℕ, zero, suc, ◌+◌, ◌-◌, ◌%◌, List, [], ◌∷◌, Bool, true, false, cond, refl, ap, sym, inl, inr, arith}
+use Rattle.std.specs.Prelude.{◌==◌, ◌&&◌, ◌||◌, nat_le}
 use Rattle.std.proofs.Math.Nat.{zero-mod}
 use Rattle.std.proofs.lemmas.Bool.{and_from, and_parts, cases_Bool}
 use Rattle.std.proofs.lemmas.Bool.Decides.{nat_tests}
@@ -10,7 +9,7 @@ use Rattle.pot_layers.specs.declared.put.Put.{Put}
 use Rattle.pot_layers.specs.declared.pot_list.Pot.{Pot}
 use Rattle.pot_layers.specs.Layers.{are_same_seats, greatest_put, is_eligible, is_nobody, lay, layers, live_payers, payments, pots_to}
 use Rattle.pot_layers.specs.PotTests.{are_whole_pots, are_whole_puts, total_of}
-use Rattle.pot_layers.specs.Tallies.{total_put, total_to}
+use Rattle.pot_layers.specs.Tallies.{total_to}
 use Rattle.pot_layers.proofs.Heights.{are_same_seats-self, total_to-greatest}
 use Rattle.pot_layers.proofs.ListTests.{map-agree}
 use Rattle.pot_layers.proofs.PotLaws.{list_all-reverse, total_of-pots_to}

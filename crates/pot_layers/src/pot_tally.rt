@@ -39,10 +39,7 @@ impl PotTally {
     pub fn new() -> PotTally
         ensures { result ≡ nothing_put }
     {
-        let put = Put {
-            amount: 0,
-            live: true,
-        };
+        let put = Put::live(0);
         PotTally {
             standings: [Standing { put, total: 0 }; MOST_SEATS],
             total: 0,

@@ -1,32 +1,7 @@
-ghost use Rattle.std.specs.Prelude.{◌≡◌, true, false};
-
 use crate::{Pot, PotTally, Pots, Put, halves, pots, share};
 use button_blinds::SeatSet;
 use std::process::Abort;
 use std::test::Fail;
-
-/// What a live player has put in.
-fn live(amount: u64) -> Put
-    ensures { result ≡ record { amount = amount; live = true } }
-{
-    Put { amount, live: true }
-}
-
-/// What a player has put in who folded.
-fn folded(amount: u64) -> Put
-    ensures { result ≡ record { amount = amount; live = false } }
-{
-    Put {
-        amount,
-        live: false,
-    }
-}
-
-/// A seat where nobody was dealt in.
-const NOBODY: Put = Put {
-    amount: 0,
-    live: false,
-};
 
 /// A set of seats.
 fn seats(list: &[u8]) -> SeatSet {
@@ -48,16 +23,16 @@ fn is_pot(pots: &Pots, index: usize, amount: u64, list: &[u8]) -> bool {
 #[test]
 fn four_puts_of_whom_one_folded(rt: HostRuntime) -> Result<(), Fail> {
     let puts = [
-        live(100),
-        live(300),
-        live(300),
-        folded(200),
-        NOBODY,
-        NOBODY,
-        NOBODY,
-        NOBODY,
-        NOBODY,
-        NOBODY,
+        Put::live(100),
+        Put::live(300),
+        Put::live(300),
+        Put::folded(200),
+        Put::NOBODY,
+        Put::NOBODY,
+        Put::NOBODY,
+        Put::NOBODY,
+        Put::NOBODY,
+        Put::NOBODY,
     ];
     let cut = pots(&puts);
     assert_eq!(rt; cut.len(), 2);
@@ -69,16 +44,16 @@ fn four_puts_of_whom_one_folded(rt: HostRuntime) -> Result<(), Fail> {
 #[test]
 fn a_short_big_blind(rt: HostRuntime) -> Result<(), Fail> {
     let puts = [
-        live(200),
-        live(200),
-        live(50),
-        NOBODY,
-        NOBODY,
-        NOBODY,
-        NOBODY,
-        NOBODY,
-        NOBODY,
-        NOBODY,
+        Put::live(200),
+        Put::live(200),
+        Put::live(50),
+        Put::NOBODY,
+        Put::NOBODY,
+        Put::NOBODY,
+        Put::NOBODY,
+        Put::NOBODY,
+        Put::NOBODY,
+        Put::NOBODY,
     ];
     let cut = pots(&puts);
     assert_eq!(rt; cut.len(), 2);
@@ -90,16 +65,16 @@ fn a_short_big_blind(rt: HostRuntime) -> Result<(), Fail> {
 #[test]
 fn four_all_ins_of_different_height(rt: HostRuntime) -> Result<(), Fail> {
     let puts = [
-        live(100),
-        NOBODY,
-        live(700),
-        live(400),
-        folded(50),
-        NOBODY,
-        live(1000),
-        NOBODY,
-        folded(500),
-        NOBODY,
+        Put::live(100),
+        Put::NOBODY,
+        Put::live(700),
+        Put::live(400),
+        Put::folded(50),
+        Put::NOBODY,
+        Put::live(1000),
+        Put::NOBODY,
+        Put::folded(500),
+        Put::NOBODY,
     ];
     let cut = pots(&puts);
     assert_eq!(rt; cut.len(), 4);
@@ -113,16 +88,16 @@ fn four_all_ins_of_different_height(rt: HostRuntime) -> Result<(), Fail> {
 #[test]
 fn heights_without_a_live_payer(rt: HostRuntime) -> Result<(), Fail> {
     let puts = [
-        live(100),
-        folded(500),
-        live(300),
-        NOBODY,
-        NOBODY,
-        NOBODY,
-        NOBODY,
-        NOBODY,
-        NOBODY,
-        folded(400),
+        Put::live(100),
+        Put::folded(500),
+        Put::live(300),
+        Put::NOBODY,
+        Put::NOBODY,
+        Put::NOBODY,
+        Put::NOBODY,
+        Put::NOBODY,
+        Put::NOBODY,
+        Put::folded(400),
     ];
     let cut = pots(&puts);
     assert_eq!(rt; cut.len(), 2);
@@ -133,7 +108,7 @@ fn heights_without_a_live_payer(rt: HostRuntime) -> Result<(), Fail> {
 
 #[test]
 fn ten_players_with_a_billion_each(rt: HostRuntime) -> Result<(), Fail> {
-    let cut = pots(&[live(1_000_000_000); 10]);
+    let cut = pots(&[Put::live(1_000_000_000); 10]);
     assert_eq!(rt; cut.len(), 1);
     assert!(rt; is_pot(&cut, 0, 10_000_000_000, &[1, 2, 3, 4, 5, 6, 7, 8, 9, 10]));
     Ok(())
