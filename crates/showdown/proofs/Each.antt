@@ -1,6 +1,6 @@
 -- What each player is awarded.
-use Rattle.std.proofs.Common.{◌≡◌, ◌∙◌, ℕ, zero, suc, ◌+◌, ◌-◌, ◌*◌, ◌/◌, ◌%◌, ◌<◌, ◌≤◌, List, [], ◌∷◌, Bool, true, false, cond, length, get_or, set, replicate, refl, ap, sym, arith}
-use Rattle.std.specs.Prelude.{◌==◌, ◌||◌, ◌&&◌, not, map, fold, Option, is_some}
+use Rattle.std.proofs.Common.{◌≡◌, ◌∙◌, ℕ, zero, suc, ◌+◌, ◌*◌, ◌/◌, ◌%◌, List, [], ◌∷◌, Bool, true, false, cond, length, get_or, set, replicate, refl, ap, sym, arith}
+use Rattle.std.specs.Prelude.{◌==◌, ◌||◌, not, map, fold, Option, is_some}
 use Rattle.std.specs.List.{list_all}
 use Rattle.std.proofs.Math.Nat.{div-add-mod, mul-add-mod_self_left, zero-mod}
 use Rattle.std.proofs.lemmas.Bool.{and_from, and_parts}

@@ -7,41 +7,16 @@ ghost use Rattle.showdown.specs.Hands.{hole_cards, AreDealtApart};
 
 use crate::{Live, award};
 use card_choices::are_distinct;
-use card_set::{Card, Game, read_card};
+use card_set::{Card, Game, read_cards};
 use pot_layers::{Put, pots};
 use std::process::Abort;
 use std::test::Fail;
-
-fn card(rt: &impl Abort, rank: u8, suit: u8) -> Card {
-    read_card(rank, suit).expect(rt, "the text of a card")
-}
-
-fn four_cards(rt: &impl Abort, text: &[u8; 8]) -> [Card; 4] {
-    let [a, b, c, d, e, f, g, h] = *text;
-    [
-        card(rt, a, b),
-        card(rt, c, d),
-        card(rt, e, f),
-        card(rt, g, h),
-    ]
-}
-
-fn five_cards(rt: &impl Abort, text: &[u8; 10]) -> [Card; 5] {
-    let [a, b, c, d, e, f, g, h, i, j] = *text;
-    [
-        card(rt, a, b),
-        card(rt, c, d),
-        card(rt, e, f),
-        card(rt, g, h),
-        card(rt, i, j),
-    ]
-}
 
 /// A live player's cards, of which none is on the board and no two are the same.
 fn player(rt: &impl Abort, game: Game, board: [Card; 5], seat: u8, text: &[u8; 8]) -> Live
     ensures { AreDistinct (hole_cards game result ++ board) }
 {
-    let hole = four_cards(rt, text);
+    let hole = read_cards::<4>(text).expect(rt, "the texts of cards");
     match game {
         Game::Holdem => assert!(rt; are_distinct(&hole[..2], &board)),
         Game::Omaha => assert!(rt; are_distinct(&hole, &board)),
@@ -94,34 +69,11 @@ fn awards(
     requires first { 1 ≤ button }
     requires last { button ≤ 10 }
 {
-    let board = five_cards(rt, board);
+    let board = read_cards::<5>(board).expect(rt, "the texts of cards");
     let live = dealt(rt, game, board, hands);
     assert!(rt; are_alike(&live, puts));
     award(&pots(puts), &live, board, game, 100, button, 10)
 }
-
-/// What a live player has put in.
-fn live(amount: u64) -> Put
-    ensures { result ≡ record { amount = amount; live = true } }
-{
-    Put { amount, live: true }
-}
-
-/// What a player has put in who folded.
-fn folded(amount: u64) -> Put
-    ensures { result ≡ record { amount = amount; live = false } }
-{
-    Put {
-        amount,
-        live: false,
-    }
-}
-
-/// A seat where nobody was dealt in.
-const NOBODY: Put = Put {
-    amount: 0,
-    live: false,
-};
 
 /// Three players who put in 100, 300 and 300, and one who folded with 200.
 fn three_and_one_folded() -> [Put; 10]
@@ -130,16 +82,16 @@ fn three_and_one_folded() -> [Put; 10]
     ensures units { are_whole_puts 100 result ≡ true }
 {
     [
-        live(100),
-        live(300),
-        live(300),
-        folded(200),
-        NOBODY,
-        NOBODY,
-        NOBODY,
-        NOBODY,
-        NOBODY,
-        NOBODY,
+        Put::live(100),
+        Put::live(300),
+        Put::live(300),
+        Put::folded(200),
+        Put::NOBODY,
+        Put::NOBODY,
+        Put::NOBODY,
+        Put::NOBODY,
+        Put::NOBODY,
+        Put::NOBODY,
     ]
 }
 
@@ -150,16 +102,16 @@ fn two_with_300() -> [Put; 10]
     ensures units { are_whole_puts 100 result ≡ true }
 {
     [
-        NOBODY,
-        live(300),
-        NOBODY,
-        NOBODY,
-        live(300),
-        NOBODY,
-        NOBODY,
-        NOBODY,
-        NOBODY,
-        NOBODY,
+        Put::NOBODY,
+        Put::live(300),
+        Put::NOBODY,
+        Put::NOBODY,
+        Put::live(300),
+        Put::NOBODY,
+        Put::NOBODY,
+        Put::NOBODY,
+        Put::NOBODY,
+        Put::NOBODY,
     ]
 }
 
@@ -170,16 +122,16 @@ fn three_with_200() -> [Put; 10]
     ensures units { are_whole_puts 100 result ≡ true }
 {
     [
-        NOBODY,
-        live(200),
-        live(200),
-        NOBODY,
-        live(200),
-        NOBODY,
-        NOBODY,
-        NOBODY,
-        NOBODY,
-        NOBODY,
+        Put::NOBODY,
+        Put::live(200),
+        Put::live(200),
+        Put::NOBODY,
+        Put::live(200),
+        Put::NOBODY,
+        Put::NOBODY,
+        Put::NOBODY,
+        Put::NOBODY,
+        Put::NOBODY,
     ]
 }
 
@@ -190,16 +142,16 @@ fn a_pot_of_1000() -> [Put; 10]
     ensures units { are_whole_puts 100 result ≡ true }
 {
     [
-        live(300),
-        live(300),
-        live(300),
-        NOBODY,
-        folded(100),
-        NOBODY,
-        NOBODY,
-        NOBODY,
-        NOBODY,
-        NOBODY,
+        Put::live(300),
+        Put::live(300),
+        Put::live(300),
+        Put::NOBODY,
+        Put::folded(100),
+        Put::NOBODY,
+        Put::NOBODY,
+        Put::NOBODY,
+        Put::NOBODY,
+        Put::NOBODY,
     ]
 }
 
@@ -210,16 +162,16 @@ fn a_pot_of_1100() -> [Put; 10]
     ensures units { are_whole_puts 100 result ≡ true }
 {
     [
-        live(300),
-        live(300),
-        live(300),
-        NOBODY,
-        folded(200),
-        NOBODY,
-        NOBODY,
-        NOBODY,
-        NOBODY,
-        NOBODY,
+        Put::live(300),
+        Put::live(300),
+        Put::live(300),
+        Put::NOBODY,
+        Put::folded(200),
+        Put::NOBODY,
+        Put::NOBODY,
+        Put::NOBODY,
+        Put::NOBODY,
+        Put::NOBODY,
     ]
 }
 
@@ -230,16 +182,16 @@ fn four_all_ins() -> [Put; 10]
     ensures units { are_whole_puts 100 result ≡ true }
 {
     [
-        live(100),
-        live(200),
-        live(300),
-        live(400),
-        NOBODY,
-        NOBODY,
-        NOBODY,
-        NOBODY,
-        NOBODY,
-        NOBODY,
+        Put::live(100),
+        Put::live(200),
+        Put::live(300),
+        Put::live(400),
+        Put::NOBODY,
+        Put::NOBODY,
+        Put::NOBODY,
+        Put::NOBODY,
+        Put::NOBODY,
+        Put::NOBODY,
     ]
 }
 
