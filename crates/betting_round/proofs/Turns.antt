@@ -16,7 +16,7 @@ use Rattle.betting_round.specs.declared.bettor.Player.{Player}
 use Rattle.betting_round.specs.declared.facing.Facing.{Facing}
 use Rattle.betting_round.specs.declared.street.Street.{Street}
 use Rattle.betting_round.specs.Acts.{amount}
-use Rattle.betting_round.specs.ActChecks.{act_checks, act_refusal, facing_in, turn_checks}
+use Rattle.betting_round.specs.ActChecks.{IsAllowed, act_checks, act_refusal, facing_in, turn_checks}
 use Rattle.betting_round.specs.Limits.{Limits}
 use Rattle.betting_round.specs.StreetActs.{IsStreetStart, SeatAct, StreetStart, chips_of, chips_on, greatest, level, put_by_acts, put_on_street, street_after}
 use Rattle.betting_round.specs.WhoIsDue.{can_act, due_seat, is_closed, is_there, may_be_due, player_at}
@@ -221,6 +221,15 @@ slot-there test (Some player) passes = (player, refl)
 pub due-sits : (street : Street) (seat : ℕ) → due_seat street ≡ Some seat → IsSome (player_at street.players seat)
 due-sits street seat due =
     let there = slot-there can_act (player_at street.players seat) (due-can_act street seat due) in rw there.1 refl
+
+-- It is the turn of a seat of whom an act is allowed.
+pub allowed-due : (street : Street) (seat : ℕ) (act : Act) → IsAllowed street seat act → due_seat street ≡ Some seat
+allowed-due street seat act allowed = accepted-due allowed.limits street seat act allowed.free
+
+-- A player of whom an act is allowed has the chips for it.
+pub allowed-covered : (street : Street) (seat : ℕ) (act : Act) → IsAllowed street seat act
+    → IfSome (player_at street.players seat) (λ player. amount_of street.level player act ≤ player.bettor.behind)
+allowed-covered street seat act allowed = accepted-covered allowed.limits street seat act allowed.free
 
 -- An act of a player who has the chips for it keeps the chips of the street.
 chips-placed : (street : Street) (seat : ℕ) (player : Player) (act : Act) (put_in : ℕ)

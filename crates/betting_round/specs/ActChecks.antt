@@ -1,5 +1,5 @@
 -- Which acts are refused on a street as it stands.
-use Rattle.std.specs.Prelude.{ℕ, ◌+◌, ◌%◌, Bool, false, not, ◌==◌, ◌&&◌, nat_lt, List, [], ◌∷◌, ◌++◌, Option, is_none}
+use Rattle.std.specs.Prelude.{◌≡◌, ℕ, ◌+◌, ◌%◌, Bool, false, not, ◌==◌, ◌&&◌, nat_lt, List, [], ◌∷◌, ◌++◌, Option, None, is_none}
 use Rattle.std.specs.Option.{option_map_or}
 use Rattle.floor_text.specs.declared.refusal.Refusal.{Refusal}
 use Rattle.floor_text.specs.declared.refusal.Refusal.TheVariants.{NotTurn, HandOver, CheckFacing, NothingToCall, BetFacing, NothingToRaise, TooSmall, PastStack, PastPot, NotReopened, NotUnit}
@@ -75,3 +75,8 @@ seat_checks limits street seat act =
 -- Why an act of a seat is refused, if it is: by the first check that holds.
 unfoldable pub act_refusal : Limits → Street → ℕ → Act → Option Refusal
 act_refusal limits street seat act = first_that_holds (seat_checks limits street seat act)
+
+-- An act of a seat is allowed: there are limits by which it is not refused.
+pub record IsAllowed (street : Street) (seat : ℕ) (act : Act) : Type 0 where
+  pub limits : Limits
+  pub free : act_refusal limits street seat act ≡ None

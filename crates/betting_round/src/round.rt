@@ -4,7 +4,7 @@ ghost use Rattle.std.specs.Prelude.{◌≡◌, ◌<◌, ◌^◌, [], ◌∷◌, 
 ghost use Rattle.betting_round.specs.Acts.{done_by};
 ghost use Rattle.betting_round.specs.StreetActs.{IsStreetStart, StreetStart, SeatAct, next_bettors, put_by_all, street_start, street_after};
 ghost use Rattle.betting_round.specs.WhoIsDue.{player_in, is_one_live, due_seat};
-ghost use Rattle.betting_round.specs.ActChecks.{facing_in, act_refusal};
+ghost use Rattle.betting_round.specs.ActChecks.{facing_in, act_refusal, IsAllowed};
 
 use crate::act::{Act, Done};
 use crate::bettor::{Bettor, all_at_next_street};
@@ -100,9 +100,30 @@ impl Round {
         self.street.facing(seat)
     }
 
-    /// Takes an act of a seat. It is refused exactly with the first of the checks of the turn and then of the act
-    /// that holds, and then nothing changes. Whatever start and acts the street stands for, it stands for that start
-    /// and one act more.
+    /// Tells what an act of a seat comes to, where it is taken. It is refused exactly with the first of the checks of the
+    /// turn and then of the act that holds.
+    pub fn check<B: Bounds>(&self, bounds: &B, seat: u8, act: Act) -> Result<Done, Refusal>
+        ensures ok { OnOk result (act_refusal (B.limits bounds.now) self.now seat act ≡ None) }
+        ensures done { IfOk result (λ done. done ≡ done_by (facing_in self.now seat) act) }
+        ensures err { IfErr result (λ refusal. act_refusal (B.limits bounds.now) self.now seat act ≡ Some refusal) }
+    {
+        let facing = self.street.check(bounds, self.due, seat, act)?;
+        Ok(done_by(&facing, act))
+    }
+
+    /// Takes an act of a seat that is not refused. Whatever start and acts the street stands for, it stands for that
+    /// start and one act more.
+    pub fn take(&mut self, seat: u8, act: Act)
+        requires { IsAllowed self.old seat act }
+        ensures after { (start : StreetStart) → (acts : List SeatAct) → IsStreetStart start
+            → self.old ≡ street_after start acts
+            → self.new ≡ street_after start (record { seat = seat; act = act } ∷ acts) }
+    {
+        self.street.take(seat, act);
+        self.due = self.street.due();
+    }
+
+    /// Takes an act of a seat, where `check` does not refuse it. A refusal changes nothing.
     pub fn apply<B: Bounds>(&mut self, bounds: &B, seat: u8, act: Act) -> Result<Done, Refusal>
         ensures ok { OnOk result (act_refusal (B.limits bounds.now) self.old seat act ≡ None) }
         ensures done { IfOk result (λ done. done ≡ done_by (facing_in self.old seat) act) }
@@ -112,9 +133,8 @@ impl Round {
         ensures err { IfErr result (λ refusal. act_refusal (B.limits bounds.now) self.old seat act ≡ Some refusal) }
         ensures kept { IfErr result (λ _. self.new ≡ self.old) }
     {
-        let facing = self.street.check(bounds, self.due, seat, act)?;
-        self.street.take(seat, act);
-        self.due = self.street.due();
-        Ok(done_by(&facing, act))
+        let done = self.check(bounds, seat, act)?;
+        self.take(seat, act);
+        Ok(done)
     }
 }

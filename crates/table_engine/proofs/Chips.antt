@@ -6,14 +6,12 @@ use Rattle.std.specs.Option.{is_some, option_map_or}
 use Rattle.std.proofs.lemmas.Bool.{and_from, and_parts, eqb-true, le-leb}
 use Rattle.std.proofs.lemmas.List.Sums.{sum-map, sum_by-cons}
 use Rattle.betting_round.specs.declared.bettor.Player.{Player}
-use Rattle.betting_round.specs.StreetActs.{put_by_all, street_after, sum_over}
+use Rattle.betting_round.specs.StreetActs.{street_after, sum_over}
 use Rattle.betting_round.specs.WhoIsDue.{is_live, is_there, player_in}
 use Rattle.table_engine.specs.declared.start.HandStart.{HandStart}
 use Rattle.table_engine.specs.declared.start.StartSeat.{StartSeat}
 use Rattle.table_engine.specs.Starts.{IsLawfulStart, chips_of}
-use Rattle.table_engine.specs.Hands.{HandTerms, StreetPlayed, behind, is_live as is_live_in, player_of, players_by_seat, put_from, put_in_hand, put_on, put_so_far, street_of, streets_of}
-use Rattle.table_engine.specs.declared.standing.Standing.{Standing}
-use Rattle.table_engine.specs.Standings.{IsAt}
+use Rattle.table_engine.specs.Hands.{HandTerms, StreetPlayed, behind, player_of, players_by_seat, put_from, put_in_hand, put_on, put_so_far, street_of, streets_of}
 use Rattle.table_engine.specs.Plays.{IsLawfulPlay}
 use Rattle.table_engine.specs.Results.{pot, award, is_won_by_folds, starting_stacks}
 use Rattle.table_engine.proofs.BySeat.{AreFound, found-all, found-within, number_of, player_in-there, sum-of_street, there-at}

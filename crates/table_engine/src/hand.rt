@@ -12,7 +12,7 @@ use crate::awards::Awards;
 use crate::dealing::{all_live, board_of, dealt_seats};
 use crate::players::pay;
 use crate::record::{ActFault, ActOf, HandRecord};
-use crate::standing::Standing;
+use crate::standing::{Standing, players_by_seat};
 use crate::start::HandStart;
 use crate::telling::{first_puts, tell};
 use betting_round::{Act, Done};
@@ -21,6 +21,9 @@ use pot_layers::PotTally;
 use showdown::award;
 use std::alloc::Global;
 use std::marker::Model;
+
+/// For how many acts a hand takes the room when it begins. It takes more where more come.
+const ACTS_OF_MOST: usize = 16;
 
 /// A hand that is played. It cannot be cloned: who has it plays it to its end, by `finish`, or gives its start
 /// back, by `void`. Contracts see it as its start and its acts so far.
@@ -56,11 +59,16 @@ impl Hand {
         let Ok(stacks) = Vec::from_elem(alloc, 0, start.seats.items().len()) else {
             return Err(start);
         };
-        let standing = Standing::first(&start).deal_on(&start);
-        let tally = PotTally::of(&first_puts(&start));
+        let Ok(acts) = Vec::with_capacity(alloc, ACTS_OF_MOST) else {
+            return Err(start);
+        };
+        let players = players_by_seat(&start);
+        let mut standing = Standing::first(&start, &players);
+        standing.deal_on(&start);
+        let tally = PotTally::of(&first_puts(&start, &players));
         Ok(Hand {
             start,
-            acts: List::new(alloc),
+            acts: List::from_vec(acts),
             standing,
             tally,
             stacks,
@@ -121,12 +129,13 @@ impl Hand {
         ensures err { OnErr result (self.new ≡ self.old) }
         ensures played { IsLawfulPlay self.new }
     {
-        let mut standing = self.standing;
-        let done = standing.apply(self.start.game, seat, act)?;
-        let put_in = standing.round.facing(seat).put - self.standing.round.facing(seat).put;
+        let done = self.standing.check(self.start.game, seat, act)?;
         self.acts.push(ActOf { name, act, by_time })?;
+        let before = self.standing.round.facing(seat).put;
+        self.standing.take(seat, act);
+        let put_in = self.standing.round.facing(seat).put - before;
         tell(&mut self.tally, seat, put_in, act);
-        self.standing = standing.deal_on(&self.start);
+        self.standing.deal_on(&self.start);
         Ok(done)
     }
 

@@ -3,8 +3,8 @@
 ghost use Rattle.std.specs.Prelude.{◌≡◌, ◌+◌, ◌<◌, ◌≤◌, ◌^◌, List, ◌∷◌, None, Some, option_map, map, IfOk, OnOk, IfErr};
 ghost use Rattle.std.specs.Option.{is_some};
 ghost use Rattle.betting_round.specs.Acts.{done_by};
-ghost use Rattle.betting_round.specs.ActChecks.{act_refusal, facing_in};
-ghost use Rattle.betting_round.specs.StreetActs.{StreetStart, SeatAct, IsStreetStart, sum_over, street_after};
+ghost use Rattle.betting_round.specs.ActChecks.{act_refusal, facing_in, IsAllowed};
+ghost use Rattle.betting_round.specs.StreetActs.{sum_over};
 ghost use Rattle.table_engine.specs.Starts.{IsLawfulStart};
 ghost use Rattle.table_engine.specs.Hands.{Streets, blind_of, posted, lacking, seated, player_of, players_by_seat, first_streets, has_ended, with_next_street, dealt_on, with_act};
 ghost use Rattle.table_engine.specs.Acts.{limits_of};
@@ -68,30 +68,31 @@ fn seated(start: &HandStart, player: &StartSeat) -> Bettor
 }
 
 /// Who is dealt in at a seat, as he begins the hand.
-fn seated_in(start: &HandStart, seat: u8) -> Option<Bettor>
-    ensures { result ≡ option_map (seated start.now) (player_of start.now seat) }
+fn seated_in(start: &HandStart, slot: &Option<StartSeat>) -> Option<Bettor>
+    ensures { result ≡ option_map (seated start.now) slot.now }
 {
-    match start.player_of(seat) {
-        Some(player) => Some(seated(start, &player)),
+    match slot {
+        Some(player) => Some(seated(start, player)),
         None => None,
     }
 }
 
 /// The players who are dealt in, by the seats 1 to 10, as they begin the hand.
-fn all_seated(start: &HandStart) -> [Option<Bettor>; 10]
+fn all_seated(start: &HandStart, players: &[Option<StartSeat>; 10]) -> [Option<Bettor>; 10]
+    requires { players.now ≡ players_by_seat start.now }
     ensures { result ≡ map (option_map (seated start.now)) (players_by_seat start.now) }
 {
     [
-        seated_in(start, 1),
-        seated_in(start, 2),
-        seated_in(start, 3),
-        seated_in(start, 4),
-        seated_in(start, 5),
-        seated_in(start, 6),
-        seated_in(start, 7),
-        seated_in(start, 8),
-        seated_in(start, 9),
-        seated_in(start, 10),
+        seated_in(start, &players[0]),
+        seated_in(start, &players[1]),
+        seated_in(start, &players[2]),
+        seated_in(start, &players[3]),
+        seated_in(start, &players[4]),
+        seated_in(start, &players[5]),
+        seated_in(start, &players[6]),
+        seated_in(start, &players[7]),
+        seated_in(start, &players[8]),
+        seated_in(start, &players[9]),
     ]
 }
 
@@ -132,32 +133,30 @@ fn has_ended(round: &Round) -> bool
     round.due().is_none() && !round.is_one_live()
 }
 
-/// Takes an act of a seat on a street, by the limits of the game.
-fn apply(round: &mut Round, game: Game, seat: u8, act: Act) -> Result<Done, Refusal>
-    ensures ok { OnOk result (act_refusal (limits_of game) round.old seat act ≡ None) }
-    ensures done { IfOk result (λ done. done ≡ done_by (facing_in round.old seat) act) }
-    ensures after { OnOk result ((start : StreetStart) → (acts : List SeatAct) → IsStreetStart start
-        → round.old ≡ street_after start acts
-        → round.new ≡ street_after start (record { seat = seat; act = act } ∷ acts)) }
-    ensures err { IfErr result (λ refusal. act_refusal (limits_of game) round.old seat act ≡ Some refusal) }
+/// Tells what an act of a seat on a street comes to, by the limits of the game, or why it is refused.
+fn check(round: &Round, game: Game, seat: u8, act: Act) -> Result<Done, Refusal>
+    ensures ok { OnOk result (act_refusal (limits_of game) round.now seat act ≡ None) }
+    ensures done { IfOk result (λ done. done ≡ done_by (facing_in round.now seat) act) }
+    ensures err { IfErr result (λ refusal. act_refusal (limits_of game) round.now seat act ≡ Some refusal) }
 {
     match game {
-        Game::Holdem => round.apply(&NoLimit, seat, act),
-        Game::Omaha => round.apply(&PotLimit, seat, act),
-        Game::Hilo => round.apply(&PotLimit, seat, act),
+        Game::Holdem => round.check(&NoLimit, seat, act),
+        Game::Omaha => round.check(&PotLimit, seat, act),
+        Game::Hilo => round.check(&PotLimit, seat, act),
     }
 }
 
 impl Standing {
-    /// A hand before the first act, on its first street.
-    pub fn first(start: &HandStart) -> Standing
-        requires { IsLawfulStart start.now }
+    /// A hand before the first act, on its first street, with its players by seat.
+    pub fn first(start: &HandStart, players: &[Option<StartSeat>; 10]) -> Standing
+        requires lawful { IsLawfulStart start.now }
+        requires players { players.now ≡ players_by_seat start.now }
         ensures at { IsAt (first_streets start.now) result }
         ensures ready { IsReady result }
         ensures there { map is_some result.round.players ≡ map is_some (players_by_seat start.now) }
     {
-        let bettors = all_seated(start);
-        let counted = all_lacking(start, &players_by_seat(start));
+        let bettors = all_seated(start, players);
+        let counted = all_lacking(start, players);
         let opening = start.big;
         Standing {
             round: Round::start(
@@ -199,36 +198,45 @@ impl Standing {
         }
     }
 
-    /// The hand once every street has begun that may: a later one begins where the one before it has ended.
-    pub fn deal_on(self, start: &HandStart) -> Standing
+    /// Begins every street that may begin: a later one begins where the one before it has ended.
+    pub fn deal_on(&mut self, start: &HandStart)
         requires lawful { IsLawfulStart start.now }
-        requires ready { IsReady self }
-        ensures at { (streets : Streets) → IsAt streets self → IsAt (dealt_on start.now self.left streets) result }
-        ensures ready { IsReady result }
-        ensures there { map is_some result.round.players ≡ map is_some self.round.players }
+        requires ready { IsReady self.old }
+        ensures at { (streets : Streets) → IsAt streets self.old
+            → IsAt (dealt_on start.now self.old.left streets) self.new }
+        ensures ready { IsReady self.new }
+        ensures there { map is_some self.new.round.players ≡ map is_some self.old.round.players }
     {
         if self.left == 0 {
-            return self;
+            return;
         }
         if !has_ended(&self.round) {
-            return self;
+            return;
         }
-        self.next(start).deal_on(start)
+        *self = self.next(start);
+        self.deal_on(start)
     }
 
-    /// Takes an act of a seat, by the limits of the game.
-    pub fn apply(&mut self, game: Game, seat: u8, act: Act) -> Result<Done, Refusal>
-        requires { IsReady self.old }
-        ensures ok { OnOk result (act_refusal (limits_of game) self.old.round seat act ≡ None) }
-        ensures done { IfOk result (λ done. done ≡ done_by (facing_in self.old.round seat) act) }
-        ensures at { OnOk result ((streets : Streets) → IsAt streets self.old
-            → IsAt (with_act streets (record { seat = seat; act = act })) self.new) }
-        ensures ready { OnOk result ((streets : Streets) → IsAt streets self.old → IsReady self.new) }
-        ensures there { OnOk result ((streets : Streets) → IsAt streets self.old
-            → map is_some self.new.round.players ≡ map is_some self.old.round.players) }
-        ensures err { IfErr result (λ refusal. act_refusal (limits_of game) self.old.round seat act ≡ Some refusal) }
+    /// Tells what an act of a seat comes to, by the limits of the game, or why it is refused.
+    pub fn check(&self, game: Game, seat: u8, act: Act) -> Result<Done, Refusal>
+        ensures ok { OnOk result (act_refusal (limits_of game) self.now.round seat act ≡ None) }
+        ensures allowed { OnOk result (IsAllowed self.now.round seat act) }
+        ensures done { IfOk result (λ done. done ≡ done_by (facing_in self.now.round seat) act) }
+        ensures err { IfErr result (λ refusal. act_refusal (limits_of game) self.now.round seat act ≡ Some refusal) }
     {
-        let done = apply(&mut self.round, game, seat, act)?;
-        Ok(done)
+        check(&self.round, game, seat, act)
+    }
+
+    /// Takes an act of a seat that is not refused.
+    pub fn take(&mut self, seat: u8, act: Act)
+        requires ready { IsReady self.old }
+        requires allowed { IsAllowed self.old.round seat act }
+        ensures at { (streets : Streets) → IsAt streets self.old
+            → IsAt (with_act streets (record { seat = seat; act = act })) self.new }
+        ensures stand { (streets : Streets) → IsAt streets self.old → IsReady self.new }
+        ensures there { (streets : Streets) → IsAt streets self.old
+            → map is_some self.new.round.players ≡ map is_some self.old.round.players }
+    {
+        self.round.take(seat, act);
     }
 }

@@ -3,21 +3,21 @@
 ghost use Rattle.std.specs.Prelude.{◌≡◌, ◌+◌, ◌-◌, ◌≤◌, ◌<◌, ◌^◌, map};
 ghost use Rattle.betting_round.specs.Acts.{is_fold};
 ghost use Rattle.pot_layers.specs.Tallies.{total_put};
-ghost use Rattle.table_engine.specs.Hands.{player_of, players_by_seat};
+ghost use Rattle.table_engine.specs.Hands.{players_by_seat};
 ghost use Rattle.table_engine.specs.Tellings.{first_put, told};
 
 use crate::standing::posted;
-use crate::start::HandStart;
+use crate::start::{HandStart, StartSeat};
 use betting_round::Act;
 use pot_layers::{PotTally, Put};
 
 /// What was put in at a seat before any act.
-fn first_put(start: &HandStart, seat: u8) -> Put
-    ensures { result ≡ first_put start.now (player_of start.now seat) }
+fn first_put(start: &HandStart, slot: &Option<StartSeat>) -> Put
+    ensures { result ≡ first_put start.now slot.now }
 {
-    match start.player_of(seat) {
+    match slot {
         Some(player) => Put {
-            amount: posted(start, &player),
+            amount: posted(start, player),
             live: true,
         },
         None => Put {
@@ -28,20 +28,21 @@ fn first_put(start: &HandStart, seat: u8) -> Put
 }
 
 /// What was put in before any act, by the seats 1 to 10.
-pub(crate) fn first_puts(start: &HandStart) -> [Put; 10]
+pub(crate) fn first_puts(start: &HandStart, players: &[Option<StartSeat>; 10]) -> [Put; 10]
+    requires { players.now ≡ players_by_seat start.now }
     ensures { result ≡ map (first_put start.now) (players_by_seat start.now) }
 {
     [
-        first_put(start, 1),
-        first_put(start, 2),
-        first_put(start, 3),
-        first_put(start, 4),
-        first_put(start, 5),
-        first_put(start, 6),
-        first_put(start, 7),
-        first_put(start, 8),
-        first_put(start, 9),
-        first_put(start, 10),
+        first_put(start, &players[0]),
+        first_put(start, &players[1]),
+        first_put(start, &players[2]),
+        first_put(start, &players[3]),
+        first_put(start, &players[4]),
+        first_put(start, &players[5]),
+        first_put(start, &players[6]),
+        first_put(start, &players[7]),
+        first_put(start, &players[8]),
+        first_put(start, &players[9]),
     ]
 }
 

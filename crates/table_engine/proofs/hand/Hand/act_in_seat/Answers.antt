@@ -23,14 +23,14 @@ overflow_sub-put_in c =
     let hand = the_view c.self.inside in
     let streets = streets_of hand in
     let at = c.self.invariant.at in
-    let acted = c.in_ok-done.ensures.at streets at in
+    let acted = c.take.ensures.at streets at in
     let free : refusal_in_seat hand c.args.act c.args.seat ≡ None = rw (← at.round) c.in_ok-done.ensures.ok in
     let tells = act-tells hand c.args.seat c.args.act c.self.invariant.lawful c.self.invariant.played free in
     let after : c.facing.result.put ≡ (facing_in (street_of hand) c.args.seat).put + tells.0 =
     ap (λ (f : Facing). f.put) c.facing.ensures ∙ ap (λ (s : Street). (facing_in s c.args.seat).put) acted.round
     ∙ tells.1.put in
-    let before : c.facing-2.result.put ≡ (facing_in (street_of hand) c.args.seat).put =
-    ap (λ (f : Facing). f.put) c.facing-2.ensures ∙ ap (λ (s : Street). (facing_in s c.args.seat).put) at.round in
+    let before : c.facing-before.result.put ≡ (facing_in (street_of hand) c.args.seat).put =
+    ap (λ (f : Facing). f.put) c.facing-before.ensures ∙ ap (λ (s : Street). (facing_in s c.args.seat).put) at.round in
     omega arith
 
 pub tell-requires : goal.tell-requires
@@ -38,14 +38,14 @@ tell-requires c =
     let hand = the_view c.self.inside in
     let streets = streets_of hand in
     let at = c.self.invariant.at in
-    let acted = c.in_ok-done.ensures.at streets at in
+    let acted = c.take.ensures.at streets at in
     let free : refusal_in_seat hand c.args.act c.args.seat ≡ None = rw (← at.round) c.in_ok-done.ensures.ok in
     let tells = act-tells hand c.args.seat c.args.act c.self.invariant.lawful c.self.invariant.played free in
     let after : c.facing.result.put ≡ (facing_in (street_of hand) c.args.seat).put + tells.0 =
     ap (λ (f : Facing). f.put) c.facing.ensures ∙ ap (λ (s : Street). (facing_in s c.args.seat).put) acted.round
     ∙ tells.1.put in
-    let before : c.facing-2.result.put ≡ (facing_in (street_of hand) c.args.seat).put =
-    ap (λ (f : Facing). f.put) c.facing-2.ensures ∙ ap (λ (s : Street). (facing_in s c.args.seat).put) at.round in
+    let before : c.facing-before.result.put ≡ (facing_in (street_of hand) c.args.seat).put =
+    ap (λ (f : Facing). f.put) c.facing-before.ensures ∙ ap (λ (s : Street). (facing_in s c.args.seat).put) at.round in
     let low = tells.1.low in
     let high = tells.1.high in
     let room = tells.1.room in
@@ -59,8 +59,8 @@ invariant_of-self-2 c =
     let streets = streets_of hand in
     let entry : SeatAct = record { seat = c.args.seat; act = c.args.act } in
     let at = c.self.invariant.at in
-    let acted = c.in_ok-done.ensures.at streets at in
-    let dealt = c.deal_on-self-inside.ensures.at (with_act streets entry) acted in
+    let acted = c.take.ensures.at streets at in
+    let dealt = c.deal_on.ensures.at (with_act streets entry) acted in
     let found : seat_of_name c.self.inside.start c.args.name ≡ Some c.args.seat = rw (← c.self.view_is) at c.requires in
     let act : ActOf = record { name = c.args.name; act = c.args.act; by_time = c.args.by_time } in
     let more = streets-more c.self.inside.start c.self.inside.acts act c.args.seat found in
@@ -71,17 +71,17 @@ invariant_of-self-2 c =
     let after : c.facing.result.put ≡ (facing_in (street_of hand) c.args.seat).put + tells.0 =
     ap (λ (f : Facing). f.put) c.facing.ensures ∙ ap (λ (s : Street). (facing_in s c.args.seat).put) acted.round
     ∙ tells.1.put in
-    let before : c.facing-2.result.put ≡ (facing_in (street_of hand) c.args.seat).put =
-    ap (λ (f : Facing). f.put) c.facing-2.ensures ∙ ap (λ (s : Street). (facing_in s c.args.seat).put) at.round in
-    let put_in : c.facing.result.put - c.facing-2.result.put ≡ tells.0 = omega arith in
+    let before : c.facing-before.result.put ≡ (facing_in (street_of hand) c.args.seat).put =
+    ap (λ (f : Facing). f.put) c.facing-before.ensures ∙ ap (λ (s : Street). (facing_in s c.args.seat).put) at.round in
+    let put_in : c.facing.result.put - c.facing-before.result.put ≡ tells.0 = omega arith in
     record {
       at = rw (c.in_ok-push.ensures.ok, more) (rw acted.left at dealt);
-      ready = c.deal_on-self-inside.ensures.ready;
-      there = c.deal_on-self-inside.ensures.there ∙ c.in_ok-done.ensures.there streets at ∙ c.self.invariant.there;
+      ready = c.deal_on.ensures.ready;
+      there = c.deal_on.ensures.there ∙ c.take.ensures.there streets at ∙ c.self.invariant.there;
       told =
           rw c.in_ok-push.ensures.ok
           (c.tell.ensures
-          ∙ ap (λ (puts : List Put). told puts (c.args.seat - 1) (c.facing.result.put - c.facing-2.result.put)
+          ∙ ap (λ (puts : List Put). told puts (c.args.seat - 1) (c.facing.result.put - c.facing-before.result.put)
           (is_fold c.args.act)) c.self.invariant.told
           ∙ ap (λ (n : ℕ). told (puts_in_hand hand) (c.args.seat - 1) n (is_fold c.args.act)) put_in
           ∙ sym tells.1.puts

@@ -12,12 +12,12 @@ of-tally-requires c =
 
 pub invariant_of-result : goal.invariant_of-result
 invariant_of-result c = record {
-  at = rw (c.new.ensures, streets-none c.args.start)
-      (rw c.first.ensures.at.left at (c.deal_on-standing.ensures.at _ c.first.ensures.at));
-  ready = c.deal_on-standing.ensures.ready;
-  there = c.deal_on-standing.ensures.there ∙ c.first.ensures.there;
-  told = rw c.new.ensures (c.of-tally.ensures ∙ c.first_puts.ensures ∙ sym (puts-begun c.args.start c.requires));
+  at = rw (c.from_vec.ensures, c.in-Ok-with_capacity.ensures.items, streets-none c.args.start)
+      (rw c.first-standing.ensures.at.left at (c.deal_on.ensures.at _ c.first-standing.ensures.at));
+  ready = c.deal_on.ensures.ready;
+  there = c.deal_on.ensures.there ∙ c.first-standing.ensures.there;
+  told = rw (c.from_vec.ensures, c.in-Ok-with_capacity.ensures.items) (c.of-tally.ensures ∙ c.first_puts.ensures ∙ sym (puts-begun c.args.start c.requires));
   room = search rules;
   lawful = c.requires;
-  played = rw c.new.ensures (lawful_play-none c.args.start);
+  played = rw (c.from_vec.ensures, c.in-Ok-with_capacity.ensures.items) (lawful_play-none c.args.start);
 }

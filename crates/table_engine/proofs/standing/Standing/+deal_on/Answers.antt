@@ -4,11 +4,11 @@ use Rattle.table_engine.proofs.Standings.{at-ended, at-open}
 use Rattle.table_engine.proofs.standing.Standing.+deal_on.Goals as goal
 
 pub returns-then-not-has_ended-clause-at : goal.returns-then-not-has_ended-clause-at
-returns-then-not-has_ended-clause-at t c = λ streets at. at-open c.args.start.now streets c.args.self
+returns-then-not-has_ended-clause-at t c = λ streets at. at-open c.args.start.now streets c.args.self.now
     (sym c.has_ended.ensures ∙ c.if-not-has_ended.true) at
 
 pub returns-clause-at : goal.returns-clause-at
 returns-clause-at t c = λ streets at.
-    at-ended c.args.start.now streets c.args.self c.next.result _ c.if-self-eq0.false
+    at-ended c.args.start.now streets c.args.self.now c.next.result _ c.if-self-eq0.false
     (sym c.has_ended.ensures ∙ c.if-not-has_ended.false) c.next.ensures.left at
     (c.deal_on.ensures.at (with_next_street c.args.start.now streets) (c.next.ensures.at streets at))

@@ -8,30 +8,30 @@ use Rattle.table_engine.proofs.Starts.{few-lacking, right-first}
 use Rattle.table_engine.proofs.standing.Standing.first.Goals as goal
 
 pub all_lacking-counted-requires : goal.all_lacking-counted-requires
-all_lacking-counted-requires c = rw c.players_by_seat.ensures (omega (arith, few-lacking c.args.start.now c.requires))
+all_lacking-counted-requires c = rw c.requires.players (omega (arith, few-lacking c.args.start.now c.requires.lawful))
 
 pub start-requires : goal.start-requires
-start-requires c = rw (c.all_seated-bettors.ensures, c.all_lacking-counted.ensures, c.players_by_seat.ensures)
-    (right-first c.args.start.now c.requires)
+start-requires c = rw (c.all_seated-bettors.ensures, c.all_lacking-counted.ensures, c.requires.players)
+    (right-first c.args.start.now c.requires.lawful)
 
 pub returns-clause-at : goal.returns-clause-at
 returns-clause-at c = record {
   round = rw (
     c.all_seated-bettors.ensures,
     c.all_lacking-counted.ensures,
-    c.players_by_seat.ensures,
+    c.requires.players,
   ) at c.start.ensures;
   before = refl;
   left = refl;
-  right = right-first c.args.start.now c.requires;
+  right = right-first c.args.start.now c.requires.lawful;
 }
 
 pub returns-clause-ready : goal.returns-clause-ready
 returns-clause-ready c = ready-start _ _ (rw (
   c.all_seated-bettors.ensures,
   c.all_lacking-counted.ensures,
-  c.players_by_seat.ensures,
-) (right-first c.args.start.now c.requires)) c.start.ensures (omega arith)
+  c.requires.players,
+) (right-first c.args.start.now c.requires.lawful)) c.start.ensures (omega arith)
 
 pub returns-clause-there : goal.returns-clause-there
 returns-clause-there c =
