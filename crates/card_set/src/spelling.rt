@@ -17,7 +17,22 @@ const SUITS: [u8; 4] = *b"cdhs";
 fn rank_place(letter: u8) -> Option<usize>
     ensures { result ≡ position (λ known. known == letter) rank_letters }
 {
-    RANKS.iter().position(|known| *known == letter)
+    match letter {
+        b'2' => Some(0),
+        b'3' => Some(1),
+        b'4' => Some(2),
+        b'5' => Some(3),
+        b'6' => Some(4),
+        b'7' => Some(5),
+        b'8' => Some(6),
+        b'9' => Some(7),
+        b'T' => Some(8),
+        b'J' => Some(9),
+        b'Q' => Some(10),
+        b'K' => Some(11),
+        b'A' => Some(12),
+        _ => None,
+    }
 }
 
 fn read_rank(letter: u8) -> Option<u8>
@@ -31,8 +46,13 @@ fn read_suit(letter: u8) -> Option<u8>
     ensures found { IfSome result (λ suit. (suit < 4) × (suit_letter suit ≡ letter)) }
     ensures only { (suit : ℕ) → suit < 4 → suit_letter suit ≡ letter → result ≡ Some suit }
 {
-    let place = SUITS.iter().position(|suit| *suit == letter)?;
-    Some(place as u8)
+    match letter {
+        b'c' => Some(0),
+        b'd' => Some(1),
+        b'h' => Some(2),
+        b's' => Some(3),
+        _ => None,
+    }
 }
 
 /// Reads a card: the letter of a rank and the letter of a suit. `None` exactly where the two are no card.
