@@ -16,14 +16,8 @@ fn first_put(start: &HandStart, slot: &Option<StartSeat>) -> Put
     ensures { result ≡ first_put start.now slot.now }
 {
     match slot {
-        Some(player) => Put {
-            amount: posted(start, player),
-            live: true,
-        },
-        None => Put {
-            amount: 0,
-            live: false,
-        },
+        Some(player) => Put::live(posted(start, player)),
+        None => Put::NOBODY,
     }
 }
 
