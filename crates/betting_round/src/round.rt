@@ -100,8 +100,8 @@ impl Round {
         self.street.facing(seat)
     }
 
-    /// Tells what an act of a seat comes to, where it is taken. It is refused exactly with the first of the checks of the
-    /// turn and then of the act that holds.
+    /// Tells what an act of a seat comes to, where it is taken. It is refused exactly with the first of the checks of
+    /// the turn and then of the act that holds.
     pub fn check<B: Bounds>(&self, bounds: &B, seat: u8, act: Act) -> Result<Done, Refusal>
         ensures ok { OnOk result (act_refusal (B.limits bounds.now) self.now seat act ≡ None) }
         ensures done { IfOk result (λ done. done ≡ done_by (facing_in self.now seat) act) }
