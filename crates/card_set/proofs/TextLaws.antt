@@ -29,7 +29,8 @@ pub cards_text-more : (cards : List Card) (place : ℕ) (card : Card) (bytes : L
 cards_text-more cards place card bytes within room read spelled =
     let cards_more : take (place + 1) (slice_set cards place card) ≡ take place cards ++ card ∷ [] =
     take_more_set cards place card within in
-    let text_more : cards_text (take place cards ++ card ∷ []) ≡ cards_text (take place cards) ++ cards_text (card ∷ []) =
+    let text_more :
+    cards_text (take place cards ++ card ∷ []) ≡ cards_text (take place cards) ++ cards_text (card ∷ []) =
     flat_map-append card_text (take place cards) (card ∷ []) in
     let one_more : take (2 * place + 1) bytes ≡ take (2 * place) bytes ++ slice_index bytes (2 * place) ∷ [] =
     take_more bytes (2 * place) 0 (omega arith) in

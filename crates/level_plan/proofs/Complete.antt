@@ -59,7 +59,8 @@ lawful : {A : Type 0} (o : Option A) (x : A) (test : A → Bool) → o ≡ Some 
     → test x ≡ true
 lawful o x test is holds = let P : Option _ → Type 0 = λ o. is_lawful_if_given test o ≡ true in subst P is holds
 
-is_level : (late levels : ℕ) → is_between 1 40 late ≡ true → nat_lt levels late ≡ false → is_between 1 levels late ≡ true
+is_level : (late levels : ℕ) → is_between 1 40 late ≡ true → nat_lt levels late ≡ false
+    → is_between 1 levels late ≡ true
 is_level late levels between few = grind (arith, nat_tests)
 
 holds_of : (b : Bool) → not b ≡ false → b ≡ true

@@ -25,6 +25,6 @@ returns c =
       after = λ start acts right is.
           c.take.ensures.stepped
           ∙ street_more_acts c.self.inside.street c.args.seat c.args.act
-          (due-low c.self.inside.street c.args.seat due) (due-sits c.self.inside.street c.args.seat due) start acts right
-          (c.self.view_is ∙ is);
+          (due-low c.self.inside.street c.args.seat due) (due-sits c.self.inside.street c.args.seat due) start acts
+          right (c.self.view_is ∙ is);
     }

@@ -43,7 +43,8 @@ invariant_of-self c =
     ∙ ap (λ (hands : Bool). cond hands book.group (book.group + 1)) c.hands.ensures in
     let state = settled_state book hand (with_stacks c.items.result.now c.items-2.result.now) c.pay_stacks.new.seats
     c.rest_table.new.seats c.bust_broke.new.seats c.bust_broke.new.busts
-    (slice_set c.self.inside.out.items c.from.result None) c.group_after-group.result payees c.pay_stacks.ensures.paid c.rest_table.ensures
+    (slice_set c.self.inside.out.items c.from.result None) c.group_after-group.result payees c.pay_stacks.ensures.paid
+    c.rest_table.ensures
     c.bust_broke.ensures.seats c.bust_broke.ensures.busts out group in
     let is : start_at book.out hand.start.table ≡ Some hand.start =
     ap (λ (book : BookState). start_at book.out hand.start.table) c.self.view_is ∙ c.requires.out in
@@ -62,6 +63,7 @@ returns c =
     ∙ ap (λ (hands : Bool). cond hands book.group (book.group + 1)) c.hands.ensures in
     let state = settled_state book hand (with_stacks c.items.result.now c.items-2.result.now) c.pay_stacks.new.seats
     c.rest_table.new.seats c.bust_broke.new.seats c.bust_broke.new.busts
-    (slice_set c.self.inside.out.items c.from.result None) c.group_after-group.result payees c.pay_stacks.ensures.paid c.rest_table.ensures
+    (slice_set c.self.inside.out.items c.from.result None) c.group_after-group.result payees c.pay_stacks.ensures.paid
+    c.rest_table.ensures
     c.bust_broke.ensures.seats c.bust_broke.ensures.busts out group in
     state ∙ ap (λ (book : BookState). settled book hand) c.self.view_is

@@ -5,9 +5,11 @@ use Rattle.floor_events.proofs.WordSplits.{first_word, last_word}
 use Rattle.floor_events.proofs.line_words.Words.next_word.Goals as goal
 
 pub returns-in-Some : goal.returns-in-Some
-returns-in-Some c = sym c.self.view_is ∙ ap (λ r. pieces_of_rest c.self.inside.between (option_copied r)) c.in_ok-rest.was
+returns-in-Some c =
+    sym c.self.view_is ∙ ap (λ r. pieces_of_rest c.self.inside.between (option_copied r)) c.in_ok-rest.was
     ∙ first_word c.self.inside.between c.in_ok-rest.rest.now c.in-Some.end c.in-Some.ensures
 
 pub returns-in-None : goal.returns-in-None
-returns-in-None c = sym c.self.view_is ∙ ap (λ r. pieces_of_rest c.self.inside.between (option_copied r)) c.in_ok-rest.was
+returns-in-None c =
+    sym c.self.view_is ∙ ap (λ r. pieces_of_rest c.self.inside.between (option_copied r)) c.in_ok-rest.was
     ∙ last_word c.self.inside.between c.in_ok-rest.rest.now c.in-None.ensures

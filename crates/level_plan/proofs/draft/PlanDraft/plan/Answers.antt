@@ -7,7 +7,8 @@ use Rattle.level_plan.specs.Fields.{draft_of}
 use Rattle.level_plan.proofs.Complete.{IsComplete, complete, right}
 use Rattle.level_plan.proofs.draft.PlanDraft.plan.Goals as goal
 
-all : (draft : fields.Inside) (seen : Draft) → draft_of draft ≡ seen → go_fault seen ≡ None → IsComplete (draft_of draft)
+all : (draft : fields.Inside) (seen : Draft) → draft_of draft ≡ seen → go_fault seen ≡ None
+    → IsComplete (draft_of draft)
 all draft seen is none = complete (draft_of draft) (ap go_fault is ∙ none)
 
 pub unwrap-requires-2 : goal.unwrap-requires-2

@@ -16,7 +16,8 @@ invariant_of-result c = record {
       (rw c.first-standing.ensures.at.left at (c.deal_on.ensures.at _ c.first-standing.ensures.at));
   ready = c.deal_on.ensures.ready;
   there = c.deal_on.ensures.there ∙ c.first-standing.ensures.there;
-  told = rw (c.from_vec.ensures, c.in-Ok-with_capacity.ensures.items) (c.of-tally.ensures ∙ c.first_puts.ensures ∙ sym (puts-begun c.args.start c.requires));
+  told = rw (c.from_vec.ensures, c.in-Ok-with_capacity.ensures.items)
+      (c.of-tally.ensures ∙ c.first_puts.ensures ∙ sym (puts-begun c.args.start c.requires));
   room = search rules;
   lawful = c.requires;
   played = rw (c.from_vec.ensures, c.in-Ok-with_capacity.ensures.items) (lawful_play-none c.args.start);
