@@ -1,4 +1,4 @@
-ghost use Rattle.std.specs.Prelude.{◌≡◌, ◌++◌, ◌<◌, ◌≤◌, ◌^◌, true, false, map, is_some};
+ghost use Rattle.std.specs.Prelude.{◌≡◌, ◌++◌, ◌<◌, ◌≤◌, ◌^◌, true, map, is_some};
 ghost use Rattle.card_choices.specs.Choices.{AreDistinct};
 ghost use Rattle.pot_layers.specs.Layers.{is_contested};
 ghost use Rattle.pot_layers.specs.PotTests.{live_seats, are_whole_puts};
