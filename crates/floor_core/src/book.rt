@@ -109,6 +109,13 @@ impl Book {
         &self.seats
     }
 
+    /// Counts the events that were accepted. `begin`, `settle` and `order` ask that they are fewer than 2^60.
+    pub fn accepted(&self) -> u64
+        ensures { result ≡ self.now.accepted }
+    {
+        self.accepted
+    }
+
     /// Counts the players who are in: all who entered but those who are out.
     fn count_players(&self) -> u32
         ensures { result ≡ length self.now.seating.players }

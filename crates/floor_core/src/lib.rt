@@ -31,8 +31,3 @@ mod tournament;
 pub use book::Book;
 pub use table_engine::ActFault as BookFault;
 pub use tournament::Tournament;
-
-#[cfg(test)]
-mod apart_tests;
-#[cfg(test)]
-mod tests;

@@ -27,7 +27,7 @@ pub struct Tournament {
     alloc: Global,
     draft: PlanDraft,
     play: Option<Play>,
-    pub(crate) accepted: u64,
+    accepted: u64,
 }
 
 impl Model for Tournament {
@@ -132,6 +132,13 @@ impl Tournament {
             self.accepted += 1;
         }
         Ok(answer)
+    }
+
+    /// Counts the events that were accepted. `apply` asks that they are fewer than 2^60.
+    pub fn accepted(&self) -> u64
+        ensures { result ≡ self.now.accepted }
+    {
+        self.accepted
     }
 
     /// Tells whether the tournament is over, which it is not before there is a plan.

@@ -19,6 +19,10 @@ mod betting_tests;
 #[cfg(test)]
 mod betting_transcripts;
 #[cfg(test)]
+mod book_scripts;
+#[cfg(test)]
+mod book_tests;
+#[cfg(test)]
 mod break_transcripts;
 #[cfg(test)]
 mod entry_transcripts;

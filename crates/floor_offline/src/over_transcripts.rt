@@ -3,7 +3,7 @@
 use crate::transcripts::{TWO, Transcript};
 
 /// A plan of two tables with a greater unit at the second level, and a third level.
-const THREE_LEVELS: &str = "game holdem
+pub const THREE_LEVELS: &str = "game holdem
 tables 2
 seats 6
 stack 1000

@@ -4,7 +4,7 @@ use crate::table_plans::ONE_LEVEL;
 use crate::transcripts::{PLAN, Transcript};
 
 /// Two players at each of two tables.
-const TWO_TWICE: &str = "enter ann 1 1
+pub const TWO_TWICE: &str = "enter ann 1 1
 enter bob 2 1
 enter cat 1 2
 enter dan 2 2

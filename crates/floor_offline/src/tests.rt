@@ -41,11 +41,17 @@ fn with_row(line: &str) -> (&str, &str) {
     (line, "")
 }
 
-/// Adds a line, with the row that its last word stands for.
-fn add_line(input: &mut Vec<u8>, line: &str) -> Result<(), AllocError> {
+/// Adds the words of a line, with the row that its last word stands for.
+pub fn add_words(input: &mut Vec<u8>, line: &str) -> Result<(), AllocError> {
     let (front, row) = with_row(line);
     input.extend_from_slice(front.as_bytes())?;
     input.extend_from_slice(row.as_bytes())?;
+    Ok(())
+}
+
+/// Adds a line.
+fn add_line(input: &mut Vec<u8>, line: &str) -> Result<(), AllocError> {
+    add_words(input, line)?;
     input.push(b'\n')?;
     Ok(())
 }
@@ -129,7 +135,7 @@ fn scripts_are_answered(rt: HostRuntime) -> Result<(), Fail> {
 }
 
 /// A line of a transcript, and what it is answered.
-fn with_answer(line: &str) -> (&str, &str) {
+pub fn with_answer(line: &str) -> (&str, &str) {
     line.split_once(" : ").unwrap_or((line, "ok"))
 }
 
