@@ -17,7 +17,7 @@ module _ {A : Type 0} where
   pub none_there : (k : ℕ) (x : A) → slice_get [] k ≡ Some x → ⊥
   none_there k x e = cc
 
-  -- what stands in a longer list, at an old place or at the new one
+  -- what stands in a longer list, at an old index or at the new one
   pub get_push : (xs : List A) (x y : A) (j : ℕ) → slice_get (xs ++ x ∷ []) j ≡ Some y
       → (slice_get xs j ≡ Some y) ⊎ ((j ≡ length xs) × (x ≡ y))
   get_push [] x y zero e = inr (refl, cc)
@@ -88,8 +88,8 @@ module _ {E : Type 0} where
 
 module _ {Val E : Type 0} {g : Ghosts Val E} where
   -- and its pass is fresh
-  pub giving_is_fresh : (lock : TableId) (k : ℕ) (seen : List E) (pass : Pass Val E g) → pass.place.table_id ≡ lock
-      → pass.number ≡ k → pass.known ≡ 0 → pass.place.me.0 ≡ giving k 1 seen → IsFresh lock k seen pass
+  pub giving_is_fresh : (lock : TableId) (k : ℕ) (seen : List E) (pass : Pass Val E g) → pass.seat.table_id ≡ lock
+      → pass.number ≡ k → pass.known ≡ 0 → pass.seat.me.0 ≡ giving k 1 seen → IsFresh lock k seen pass
   giving_is_fresh lock k seen pass at number known is = record {
     its_lock = at;
     its_number = number;
@@ -100,13 +100,13 @@ module _ {Val E : Type 0} {g : Ghosts Val E} where
   }
 
   -- a pass at rest has the one share that stands of it
-  pub share_at_rest : (pass : Pass Val E g) → pass.place.me.0.shares ≡ share_of pass ∷ []
+  pub share_at_rest : (pass : Pass Val E g) → pass.seat.me.0.shares ≡ share_of pass ∷ []
   share_at_rest pass = ap (λ (z : View E). z.shares) pass.at_rest
 
   -- the shares of a list whose last pass is taken from it
   pub shares-pop : (passes rest : List (Pass Val E g)) (pass : Pass Val E g) (taken : List (Share E))
       → passes ≡ rest ++ pass ∷ []
-      → map share_of passes ++ taken ≡ map share_of rest ++ (pass.place.me.0.shares ++ taken)
+      → map share_of passes ++ taken ≡ map share_of rest ++ (pass.seat.me.0.shares ++ taken)
   shares-pop passes rest pass taken e =
       ap (λ (l : List (Pass Val E g)). map share_of l ++ taken) e
       ∙ (ap (λ (l : List (Share E)). l ++ taken) (map-append share_of rest (pass ∷ []))

@@ -22,7 +22,7 @@ module _ {E : Type 0} where
   abbrev pub shares_of : View E → ℕ
   shares_of v = length v.shares
 
-  -- two views at one place are one view
+  -- two views at one index are one view
   pub same_view : (views : List (View E)) (j : ℕ) (v w : View E) → HasView views j v → HasView views j w → v ≡ w
   same_view views j v w a b = some-injective v w (sym a ∙ b)
 

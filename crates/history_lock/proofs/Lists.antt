@@ -6,7 +6,7 @@ use lib.ListN.{get_elem?}
 use Rattle.atomic_table.proofs.Lists.{at_set}
 use Rattle.history_lock.specs.Views.{Each, AtLeastOne}
 
--- the function with another value at one place
+-- the function with another value at one index
 abbrev pub put : (ℕ → ℕ) → ℕ → ℕ → ℕ → ℕ
 put f i x j = cond (eqb j i) x (f j)
 

@@ -20,7 +20,7 @@ use Rattle.history_lock.proofs.Frames.{shares_of, same_view, tickets_stay, serve
 use Rattle.history_lock.proofs.Tickets.{tickets_push, served_push, spent_push, slot_push, slot_stays}
 
 module _ {E : Type 0} where
-  -- a place that is not id is as it was
+  -- an index that is not id is as it was
   same_else : (views : List (View E)) (id j : ℕ) (w a : View E) → j ≢ id → HasView views j a
       → HasView (set views id w) j a
   same_else views id j w a ne h = set_else views id j w ne ∙ h

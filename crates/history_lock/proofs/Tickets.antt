@@ -25,7 +25,7 @@ mod-step a = omega arith
 pub mod-shift : (s i : ℕ) → (s + (i + 1)) % 2 ^ 64 ≡ ((s + 1) % 2 ^ 64 + i) % 2 ^ 64
 mod-shift s i = omega arith
 
--- two places of a short range are apart
+-- two numbers of a short range are apart
 pub places_differ : (s i k : ℕ) → i < k → k ≤ 256 → (s + i) % 2 ^ 64 ≡ (s + k) % 2 ^ 64 → ⊥
 places_differ s i k lt few e = let same : s + i ≡ s + k =
     one_turn (s + i) (s + k) 18446744073709551616 (omega arith) (omega arith) e in omega arith

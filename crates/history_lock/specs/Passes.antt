@@ -20,7 +20,7 @@ module _ {Val E : Type 0} where
 module _ {Val E : Type 0} {g : Ghosts Val E} where
   -- The lock whose pass it is.
   abbrev pub lock_of : Pass Val E g → TableId
-  lock_of pass = pass.place.table_id
+  lock_of pass = pass.seat.table_id
 
   -- The number of the pass.
   abbrev pub pass_number : Pass Val E g → ℕ
@@ -28,15 +28,15 @@ module _ {Val E : Type 0} {g : Ghosts Val E} where
 
   -- The history that the pass has seen.
   abbrev pub seen : Pass Val E g → List E
-  seen pass = (first_share pass.place.me.0.shares).seen
+  seen pass = (first_share pass.seat.me.0.shares).seen
 
   -- The entries that the pass made, in order.
   abbrev pub own : Pass Val E g → List E
-  own pass = (first_share pass.place.me.0.shares).own
+  own pass = (first_share pass.seat.me.0.shares).own
 
   -- How often the pass has entered.
   abbrev pub holds : Pass Val E g → ℕ
-  holds pass = pass.place.me.0.holds
+  holds pass = pass.seat.me.0.holds
 
   -- The last count that `news` or `await_news` loaded for the pass.
   abbrev pub known : Pass Val E g → ℕ
@@ -48,7 +48,7 @@ module _ {Val E : Type 0} {g : Ghosts Val E} where
 
   -- The lock that it is inside of.
   abbrev pub inside_lock : Inside Val E g → TableId
-  inside_lock inside = inside.turn.place.table_id
+  inside_lock inside = inside.turn.seat.table_id
 
   -- The number of the pass that is inside.
   abbrev pub inside_number : Inside Val E g → ℕ
@@ -56,15 +56,15 @@ module _ {Val E : Type 0} {g : Ghosts Val E} where
 
   -- The history of the value as the pass found it.
   abbrev pub found : Inside Val E g → List E
-  found inside = (first_share inside.turn.place.me.0.shares).seen
+  found inside = (first_share inside.turn.seat.me.0.shares).seen
 
   -- The entries that the pass made before it entered, in order.
   abbrev pub inside_own : Inside Val E g → List E
-  inside_own inside = (first_share inside.turn.place.me.0.shares).own
+  inside_own inside = (first_share inside.turn.seat.me.0.shares).own
 
   -- How often the pass has entered, this time included.
   abbrev pub inside_holds : Inside Val E g → ℕ
-  inside_holds inside = inside.turn.place.me.0.holds
+  inside_holds inside = inside.turn.seat.me.0.holds
 
   -- The last count that was loaded for the pass.
   abbrev pub inside_known : Inside Val E g → ℕ

@@ -8,7 +8,7 @@ use crate::grows::{Grows, OPENER};
 use crate::lock::HistoryLock;
 use crate::pass::Pass;
 use crate::plays::TakeIn;
-use crate::rule::{Place, SLOT, Steps};
+use crate::rule::{LockSeat, SLOT, Steps};
 
 /// Not all passes of the lock were given. The lock and those that were come back.
 #[derive(Drop)]
@@ -18,7 +18,7 @@ pub struct NotAll<V: Grows> {
 }
 
 // The seat of the last pass, which takes in the others.
-fn take_in<V: Grows>(steps: &Steps<V>, passes: Vec<Pass<V>>) -> Place<V>
+fn take_in<V: Grows>(steps: &Steps<V>, passes: Vec<Pass<V>>) -> LockSeat<V>
     requires table { All (λ p. lock_of p ≡ steps.now.table_id) passes.items × (steps.now.table_id.words ≡ 4) }
     requires some { 0 < vec_len passes }
     ensures table { result.table_id ≡ steps.now.table_id }
@@ -26,12 +26,12 @@ fn take_in<V: Grows>(steps: &Steps<V>, passes: Vec<Pass<V>>) -> Place<V>
     ensures at_rest { (result.me.0.ticket ≡ None) × (result.me.0.served ≡ false) × (result.me.1 ≡ []) }
 {
     let mut passes = passes;
-    let (_, _, mut place) = passes.pop().unwrap().into_parts();
+    let (_, _, mut seat) = passes.pop().unwrap().into_parts();
     while let Some(pass) = passes.pop() {
         let (_, _, other) = pass.into_parts();
-        steps.join_seat::<TakeIn>(&mut place, other);
+        steps.join_seat::<TakeIn>(&mut seat, other);
     }
-    place
+    seat
 }
 
 impl<V: Grows> HistoryLock<V> {
@@ -57,8 +57,8 @@ impl<V: Grows> HistoryLock<V> {
             return Err(NotAll { lock: self, passes });
         }
         let HistoryLock { table, passes: _ } = self;
-        let place = take_in(&table.shared, passes);
-        let mut closed = table.close_with(place);
+        let seat = take_in(&table.shared, passes);
+        let mut closed = table.close_with(seat);
         let value = closed.take(SLOT).unwrap();
         closed.free();
         Ok(value)

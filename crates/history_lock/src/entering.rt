@@ -11,26 +11,26 @@ use crate::inside::{Inside, Turn};
 use crate::lock::HistoryLock;
 use crate::pass::Pass;
 use crate::plays::{Draw, Leaving, Look, PassOn, Publish};
-use crate::rule::{COUNT, Place, SERVING, SLOT, Steps, TICKET};
+use crate::rule::{COUNT, LockSeat, SERVING, SLOT, Steps, TICKET};
 use crossbeam_utils::Backoff;
 use std::marker::Brand;
 use std::snapshot::Snapshot;
 use std::sync::Wait;
 
 // Waits until the ticket is served, and takes the value out of the slot.
-fn wait_turn<V: Grows, R: Wait>(rt: &R, steps: &Steps<V>, place: &mut Place<V>, ticket: u64) -> V
-    requires table { (place.old.table_id ≡ steps.now.table_id) × (steps.now.table_id.words ≡ 4)
+fn wait_turn<V: Grows, R: Wait>(rt: &R, steps: &Steps<V>, seat: &mut LockSeat<V>, ticket: u64) -> V
+    requires table { (seat.old.table_id ≡ steps.now.table_id) × (steps.now.table_id.words ≡ 4)
         × (steps.now.table_id.slots ≡ 1) }
-    requires ready { (place.old.me.0 ≡ ticketed_view ticket place.old.me.0) × (place.old.me.1 ≡ []) }
-    ensures seat { (place.new.table_id ≡ place.old.table_id) × (place.new.id ≡ place.old.id) }
-    ensures served { place.new.me
-        ≡ (served_view place.old.me.0 (first_share place.old.me.0.shares) (V.history result), (0, None) ∷ []) }
-    ensures found { IsFound V.history V.caller_of (first_share place.old.me.0.shares) place.old.me.0.known result }
+    requires ready { (seat.old.me.0 ≡ ticketed_view ticket seat.old.me.0) × (seat.old.me.1 ≡ []) }
+    ensures seat { (seat.new.table_id ≡ seat.old.table_id) × (seat.new.id ≡ seat.old.id) }
+    ensures served { seat.new.me
+        ≡ (served_view seat.old.me.0 (first_share seat.old.me.0.shares) (V.history result), (0, None) ∷ []) }
+    ensures found { IsFound V.history V.caller_of (first_share seat.old.me.0.shares) seat.old.me.0.known result }
 {
     let backoff = Backoff::new();
     for _ in rt.forever() {
-        if steps.load::<Look>(place, SERVING) == ticket {
-            return steps.exchange(place, SLOT, None).unwrap();
+        if steps.load::<Look>(seat, SERVING) == ticket {
+            return steps.exchange(seat, SLOT, None).unwrap();
         }
         backoff.snooze();
     }
@@ -40,28 +40,28 @@ fn wait_turn<V: Grows, R: Wait>(rt: &R, steps: &Steps<V>, place: &mut Place<V>, 
 // Publishes how many entries the history has that is to be left.
 fn publish<V: Grows, J: Leaving<V::Entry>>(
     steps: &Steps<V>,
-    place: &mut Place<V>,
+    seat: &mut LockSeat<V>,
     left: &Snapshot<V>,
     count: u64,
 )
     requires left { V.history left.now.value ≡ J.left }
     requires count { count ≡ length (V.history left.now.value) }
-    requires table { (place.old.table_id ≡ steps.now.table_id) × (steps.now.table_id.words ≡ 4)
+    requires table { (seat.old.table_id ≡ steps.now.table_id) × (steps.now.table_id.words ≡ 4)
         × (steps.now.table_id.slots ≡ 1) }
-    requires served { (place.old.me.0 ≡ let_in_view place.old.me.0) × (place.old.me.1 ≡ (0, None) ∷ []) }
-    requires grown { IsGrownBy V.caller_of (first_share place.old.me.0.shares).number
-        (first_share place.old.me.0.shares).seen (V.history left.now.value) }
-    ensures seat { (place.new.table_id ≡ place.old.table_id) × (place.new.id ≡ place.old.id) }
-    ensures left { place.new.me
+    requires served { (seat.old.me.0 ≡ let_in_view seat.old.me.0) × (seat.old.me.1 ≡ (0, None) ∷ []) }
+    requires grown { IsGrownBy V.caller_of (first_share seat.old.me.0.shares).number
+        (first_share seat.old.me.0.shares).seen (V.history left.now.value) }
+    ensures seat { (seat.new.table_id ≡ seat.old.table_id) × (seat.new.id ≡ seat.old.id) }
+    ensures left { seat.new.me
         ≡ (
-          record place.old.me.0 {
-            shares = share_left (first_share place.old.me.0.shares) (V.history left.now.value)
+          record seat.old.me.0 {
+            shares = share_left (first_share seat.old.me.0.shares) (V.history left.now.value)
                 ∷ [];
           },
           (0, None) ∷ [],
         ) }
 {
-    steps.store::<Publish<J>>(place, COUNT, count);
+    steps.store::<Publish<J>>(seat, COUNT, count);
 }
 
 impl<V: Grows> HistoryLock<V> {
@@ -83,16 +83,16 @@ impl<V: Grows> HistoryLock<V> {
         ensures same { (inside_lock result ≡ lock_of pass) × (inside_number result ≡ pass_number pass)
             × (inside_own result ≡ own pass) × (inside_known result ≡ known pass) }
     {
-        let (number, known, mut place) = pass.into_parts();
+        let (number, known, mut seat) = pass.into_parts();
         let steps = &self.table.shared;
-        let ticket = steps.fetch_add::<Draw>(&mut place, TICKET, 1);
-        let value = wait_turn(rt, steps, &mut place, ticket);
+        let ticket = steps.fetch_add::<Draw>(&mut seat, TICKET, 1);
+        let value = wait_turn(rt, steps, &mut seat, ticket);
         Inside {
             value,
             turn: Turn {
                 number,
                 known,
-                place,
+                seat,
             },
         }
     }
@@ -116,19 +116,19 @@ impl<V: Grows> HistoryLock<V> {
         let Turn {
             number,
             known,
-            mut place,
+            mut seat,
         } = turn;
         let steps = &self.table.shared;
         let left = Snapshot::of(&value);
         let count = value.count();
-        publish::<V, Brand>(steps, &mut place, &left, count);
-        let taken = steps.exchange(&mut place, SLOT, Some(value));
+        publish::<V, Brand>(steps, &mut seat, &left, count);
+        let taken = steps.exchange(&mut seat, SLOT, Some(value));
         let None = taken else { unreachable!() };
-        steps.fetch_add::<PassOn>(&mut place, SERVING, 1);
+        steps.fetch_add::<PassOn>(&mut seat, SERVING, 1);
         Pass {
             number,
             known,
-            place,
+            seat,
         }
     }
 }

@@ -3,15 +3,15 @@ ghost use Rattle.std.specs.Prelude.{◌≡◌, [], ◌∷◌, None};
 ghost use Rattle.history_lock.specs.Views.{inside_view};
 
 use crate::grows::Grows;
-use crate::rule::Place;
+use crate::rule::LockSeat;
 
 /// A pass while it is inside: it has the slot, which is empty.
 pub struct Turn<V: Grows> {
     pub(crate) number: u32,
     pub(crate) known: u64,
-    pub(crate) place: Place<V>,
-    ghost empty_slot: { place.me.1 ≡ (0, None) ∷ [] },
-    ghost let_in: { place.me.0 ≡ inside_view number known place.me.0 },
+    pub(crate) seat: LockSeat<V>,
+    ghost empty_slot: { seat.me.1 ≡ (0, None) ∷ [] },
+    ghost let_in: { seat.me.0 ≡ inside_view number known seat.me.0 },
 }
 
 /// The value of a lock, while one pass is inside. It is not `Drop`: end it by `leave`.

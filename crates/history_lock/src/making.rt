@@ -7,33 +7,33 @@ use crate::grows::{Grows, OPENER};
 use crate::lock::HistoryLock;
 use crate::pass::Pass;
 use crate::plays::Deal;
-use crate::rule::{Place, Steps, Terms};
+use crate::rule::{LockSeat, Steps, Terms};
 use atomic_table::{Refused, Table};
 use std::alloc::Global;
 use std::snapshot::Snapshot;
 
 // Gives out the passes: one is split off for each number but the last, which the seat itself has.
-fn deal<V: Grows>(steps: &Steps<V>, place: Place<V>, passes: Vec<Pass<V>>, n: u32) -> Vec<Pass<V>>
-    requires table { (place.table_id ≡ steps.now.table_id) × (steps.now.table_id.words ≡ 4) }
-    requires all { (place.me.0 ≡ opening_view n (first_share place.me.0.shares).seen) × (place.me.1 ≡ []) × (0 < n) }
+fn deal<V: Grows>(steps: &Steps<V>, seat: LockSeat<V>, passes: Vec<Pass<V>>, n: u32) -> Vec<Pass<V>>
+    requires table { (seat.table_id ≡ steps.now.table_id) × (steps.now.table_id.words ≡ 4) }
+    requires all { (seat.me.0 ≡ opening_view n (first_share seat.me.0.shares).seen) × (seat.me.1 ≡ []) × (0 < n) }
     requires room { (passes.items ≡ []) × (n ≤ vec_capacity passes) }
     ensures count { vec_len result ≡ n }
-    ensures fresh { AreFresh place.table_id (first_share place.me.0.shares).seen result.items }
+    ensures fresh { AreFresh seat.table_id (first_share seat.me.0.shares).seen result.items }
 {
-    let mut place = place;
+    let mut seat = seat;
     let mut passes = passes;
     for number in 0..n - 1 {
-        let given = steps.split_seat::<Deal>(&mut place);
+        let given = steps.split_seat::<Deal>(&mut seat);
         passes.push_reserved(Pass {
             number,
             known: 0,
-            place: given,
+            seat: given,
         });
     }
     passes.push_reserved(Pass {
         number: n - 1,
         known: 0,
-        place,
+        seat,
     });
     passes
 }
@@ -75,8 +75,8 @@ pub fn make<V: Grows>(alloc: Global, value: V, n: u32) -> Result<(HistoryLock<V>
         Err(value) => return Err(value),
     };
     match Table::new(alloc, &[0, 0, count, 0], slots, &terms) {
-        Ok((table, place)) => {
-            let passes = deal(&table.shared, place, passes, n);
+        Ok((table, seat)) => {
+            let passes = deal(&table.shared, seat, passes, n);
             Ok((HistoryLock { table, passes: n }, passes))
         }
         Err(refused) => {

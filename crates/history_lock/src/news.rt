@@ -24,7 +24,7 @@ impl<V: Grows> HistoryLock<V> {
         ensures not_below_seen { length (seen pass.old) ≤ result }
         ensures same { IsSameButKnown pass.old pass.new }
     {
-        let count = self.table.shared.load::<Count>(&mut pass.place, COUNT);
+        let count = self.table.shared.load::<Count>(&mut pass.seat, COUNT);
         pass.known = count;
         count
     }
@@ -56,8 +56,8 @@ impl<V: Grows> HistoryLock<V> {
     /// Ends the waits of all threads that await news. It takes no memory.
     pub fn wake(&self) {
         let steps = &self.table.shared;
-        let (_, mut place) = steps.load_new_seat::<Arrive>(CALLS);
-        steps.fetch_add::<Call>(&mut place, CALLS, 1);
+        let (_, mut seat) = steps.load_new_seat::<Arrive>(CALLS);
+        steps.fetch_add::<Call>(&mut seat, CALLS, 1);
         steps.wake_all(CALLS);
     }
 }

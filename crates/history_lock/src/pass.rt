@@ -3,16 +3,16 @@ ghost use Rattle.std.specs.Prelude.{◌≡◌, []};
 ghost use Rattle.history_lock.specs.Views.{resting_view};
 
 use crate::grows::Grows;
-use crate::rule::Place;
+use crate::rule::LockSeat;
 
 /// The right to enter one lock. A contract sees its number, the history that it has seen, the list of its own
 /// entries, the number of its holds and the last count that it loaded.
 pub struct Pass<V: Grows> {
     pub(crate) number: u32,
     pub(crate) known: u64,
-    pub(crate) place: Place<V>,
-    ghost empty_handed: { place.me.1 ≡ [] },
-    ghost at_rest: { place.me.0 ≡ resting_view number known place.me.0 },
+    pub(crate) seat: LockSeat<V>,
+    ghost empty_handed: { seat.me.1 ≡ [] },
+    ghost at_rest: { seat.me.0 ≡ resting_view number known seat.me.0 },
 }
 
 impl<V: Grows> Pass<V> {
@@ -25,15 +25,15 @@ impl<V: Grows> Pass<V> {
         self.number
     }
 
-    pub(crate) fn into_parts(self) -> (u32, u64, Place<V>)
-        ensures { (result.0 ≡ self.number) × (result.1 ≡ self.known) × (result.2 ≡ self.place) }
+    pub(crate) fn into_parts(self) -> (u32, u64, LockSeat<V>)
+        ensures { (result.0 ≡ self.number) × (result.1 ≡ self.known) × (result.2 ≡ self.seat) }
     {
         let Self {
             number,
             known,
-            place,
+            seat,
         } = self;
-        (number, known, place)
+        (number, known, seat)
     }
 }
 
@@ -42,7 +42,7 @@ impl<V: Grows> Drop for Pass<V> {
         let Self {
             number: _,
             known: _,
-            place: _,
+            seat: _,
         } = self;
     }
 }

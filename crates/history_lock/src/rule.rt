@@ -46,4 +46,4 @@ pub(crate) type Board<V> = Table<Option<V>, View<<V as Grows>::Entry>, Terms<V>,
 
 pub(crate) type Steps<V> = Shared<Option<V>, View<<V as Grows>::Entry>, Terms<V>, Law<V>>;
 
-pub(crate) type Place<V> = Seat<Option<V>, View<<V as Grows>::Entry>>;
+pub(crate) type LockSeat<V> = Seat<Option<V>, View<<V as Grows>::Entry>>;

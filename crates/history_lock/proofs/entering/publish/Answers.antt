@@ -12,9 +12,9 @@ use Rattle.history_lock.proofs.entering.publish.Goals as goal
 pub store-requires : goal.store-requires
 store-requires g c =
     let H = g.V.Grows.history in let C = g.V.Grows.caller_of in let n : ℕ = c.args.steps.now.key.passes in
-    let slots : ℕ = c.args.steps.now.table_id.slots in let id : ℕ = c.args.place.now.id in
+    let slots : ℕ = c.args.steps.now.table_id.slots in let id : ℕ = c.args.seat.now.id in
     let M : Type 0 = Me (Option g.row.V.Denot) (View g.row.V-Entry.Denot) in
-    let before : M = c.args.place.now.me in
+    let before : M = c.args.seat.now.me in
     let v : View g.row.V-Entry.Denot = let_in_view before.0 in
     let is : before ≡ (v, (0, None) ∷ []) = λ i. (c.requires.served.0 i, c.requires.served.1 i) in
     let grown = c.requires.grown in
@@ -33,7 +33,7 @@ store-requires g c =
 pub returns : goal.returns
 returns g c =
     let M : Type 0 = Me (Option g.row.V.Denot) (View g.row.V-Entry.Denot) in
-    let before : M = c.args.place.now.me in
+    let before : M = c.args.seat.now.me in
     let shares : before.0.shares ≡ first_share before.0.shares ∷ [] =
     ap (λ (v : View g.row.V-Entry.Denot). v.shares) c.requires.served.0 in
     record {

@@ -19,8 +19,8 @@ split_seat-given-requires g c =
     let left = c.loop-number.invariant.2 in (
       search rules,
       search rules,
-      gives g.V.Grows.history g.V.Grows.caller_of c.args.steps.now.key.passes c.loop-number.place.id
-          c.loop-number.number left.0 c.args.n (first_share c.args.place.me.0.shares).seen c.loop-number.place.me.0
+      gives g.V.Grows.history g.V.Grows.caller_of c.args.steps.now.key.passes c.loop-number.seat.id
+          c.loop-number.number left.0 c.args.n (first_share c.args.seat.me.0.shares).seen c.loop-number.seat.me.0
           left.2 left.1
           c.loop-number-test.true,
     )
@@ -29,12 +29,12 @@ pub invariant_of-push_reserved : goal.invariant_of-push_reserved
 invariant_of-push_reserved g c =
     let left = c.loop-number.invariant.2 in
     let given = c.split_seat-given.ensures.4 in
-    let seen : List g.row.V-Entry.Denot = (first_share c.args.place.me.0.shares).seen in
+    let seen : List g.row.V-Entry.Denot = (first_share c.args.seat.me.0.shares).seen in
     let below : c.loop-number.number < c.args.n = let lt = c.loop-number-test.true in omega arith in
     record {
       empty_handed = ap (λ m. m.1) given;
       at_rest = giving_rests c.loop-number.number seen c.split_seat-given.result.me.0
-          (ap (λ m. m.0) given ∙ given_one c.loop-number.number left.0 c.args.n seen c.loop-number.place.me.0 left.2
+          (ap (λ m. m.0) given ∙ given_one c.loop-number.number left.0 c.args.n seen c.loop-number.seat.me.0 left.2
           left.1 below);
     }
 
@@ -43,12 +43,12 @@ loop-number-preserved g c =
     let left = c.loop-number.invariant.2 in
     let given = c.split_seat-given.ensures.4 in
     let kept = c.split_seat-given.ensures.2 in
-    let seen : List g.row.V-Entry.Denot = (first_share c.args.place.me.0.shares).seen in
+    let seen : List g.row.V-Entry.Denot = (first_share c.args.seat.me.0.shares).seen in
     let below : c.loop-number.number < c.args.n = let lt = c.loop-number-test.true in omega arith in
-    let over = left_over c.loop-number.number left.0 c.args.n seen c.loop-number.place.me.0 left.2 left.1
+    let over = left_over c.loop-number.number left.0 c.args.n seen c.loop-number.seat.me.0 left.2 left.1
     c.loop-number-test.true in
     let one : c.split_seat-given.result.me.0 ≡ giving c.loop-number.number 1 seen = ap (λ m. m.0) given
-    ∙ given_one c.loop-number.number left.0 c.args.n seen c.loop-number.place.me.0 left.2 left.1 below in
+    ∙ given_one c.loop-number.number left.0 c.args.n seen c.loop-number.seat.me.0 left.2 left.1 below in
     let len : length c.loop-number.passes.items ≡ c.loop-number.number = omega (arith, c.loop-number.passes.ok.0) in (
       search rules,
       ap (λ m. m.1) kept ∙ c.loop-number.invariant.1,
@@ -56,25 +56,25 @@ loop-number-preserved g c =
       omega arith,
       omega arith,
       rw c.push_reserved.ensures.items
-          (fresh_push c.args.place.table_id seen c.loop-number.passes.items _ c.loop-number.number len
+          (fresh_push c.args.seat.table_id seen c.loop-number.passes.items _ c.loop-number.number len
           c.loop-number.invariant.5
-          (giving_is_fresh c.args.place.table_id c.loop-number.number seen _ (c.split_seat-given.ensures.3
+          (giving_is_fresh c.args.seat.table_id c.loop-number.number seen _ (c.split_seat-given.ensures.3
           ∙ c.loop-number.invariant.0) refl refl one)),
     )
 
 pub returns-clause-fresh : goal.returns-clause-fresh
 returns-clause-fresh g c =
     let left = c.loop-number.invariant.2 in
-    let seen : List g.row.V-Entry.Denot = (first_share c.args.place.me.0.shares).seen in
+    let seen : List g.row.V-Entry.Denot = (first_share c.args.seat.me.0.shares).seen in
     let some : 0 < c.args.n = c.requires.all.2 in
     let below : c.loop-number.number < c.args.n = let le = c.loop-number.auto.number-end in omega arith in
     let last : c.args.n - 1 ≡ c.loop-number.number = let le = c.loop-number.auto.number-end in let ge =
     c.loop-number-test.false in omega arith in
     let len : length c.loop-number.passes.items ≡ c.loop-number.number = omega (arith, c.loop-number.passes.ok.0) in
-    let one : c.loop-number.place.me.0 ≡ giving c.loop-number.number 1 seen =
-    last_one c.loop-number.number left.0 c.args.n seen c.loop-number.place.me.0 left.2 left.1
+    let one : c.loop-number.seat.me.0 ≡ giving c.loop-number.number 1 seen =
+    last_one c.loop-number.number left.0 c.args.n seen c.loop-number.seat.me.0 left.2 left.1
     c.loop-number-test.false below in
     rw c.push_reserved-2.ensures.items
-    (fresh_push c.args.place.table_id seen c.loop-number.passes.items _ c.loop-number.number len
+    (fresh_push c.args.seat.table_id seen c.loop-number.passes.items _ c.loop-number.number len
     c.loop-number.invariant.5
-    (giving_is_fresh c.args.place.table_id c.loop-number.number seen _ c.loop-number.invariant.0 last refl one))
+    (giving_is_fresh c.args.seat.table_id c.loop-number.number seen _ c.loop-number.invariant.0 last refl one))

@@ -7,10 +7,10 @@ use Rattle.history_lock.proofs.making.deal.Given as goal
 -- the passes so far are fresh, and the seat has the shares of the others
 abbrev pub invariant-loop-number : goal.invariant-loop-number
 invariant-loop-number g l =
-    let seen = (first_share l.initial.place.me.0.shares).seen in
-    (l.place.table_id ≡ l.initial.place.table_id)
-    × (l.place.me.1 ≡ [])
-    × ((m : ℕ) × (l.number + m ≡ l.n) × (l.place.me.0 ≡ giving l.number m seen))
+    let seen = (first_share l.initial.seat.me.0.shares).seen in
+    (l.seat.table_id ≡ l.initial.seat.table_id)
+    × (l.seat.me.1 ≡ [])
+    × ((m : ℕ) × (l.number + m ≡ l.n) × (l.seat.me.0 ≡ giving l.number m seen))
     × (vec_len l.passes ≡ l.number)
     × (l.n ≤ vec_capacity l.passes)
-    × AreFresh l.initial.place.table_id seen l.passes.items
+    × AreFresh l.initial.seat.table_id seen l.passes.items

@@ -23,7 +23,7 @@ pub deal-passes-requires-clause-all : goal.deal-passes-requires-clause-all
 deal-passes-requires-clause-all g c =
     let H = g.V.Grows.history in
     let first = c.in-Ok-new.ensures.ok.4 in
-    let seen : (first_share c.in-Ok-new.place.me.0.shares).seen ≡ H c.of.result.value =
+    let seen : (first_share c.in-Ok-new.seat.me.0.shares).seen ≡ H c.of.result.value =
     ap (λ m. (first_share m.0.shares).seen) first
     ∙ opening_seen c.args.n (H c.of.result.value) c.requires.passes.0 in
     (ap (λ m. m.0) first ∙ ap (opening_view c.args.n) (sym seen), ap (λ m. m.1) first, c.requires.passes.0)
@@ -32,7 +32,7 @@ pub returns-in-Ok-new-clause-fresh : goal.returns-in-Ok-new-clause-fresh
 returns-in-Ok-new-clause-fresh g c =
     let H = g.V.Grows.history in
     let first = c.in-Ok-new.ensures.ok.4 in
-    let seen : (first_share c.in-Ok-new.place.me.0.shares).seen ≡ H c.args.value =
+    let seen : (first_share c.in-Ok-new.seat.me.0.shares).seen ≡ H c.args.value =
     ap (λ m. (first_share m.0.shares).seen) first
     ∙ (opening_seen c.args.n (H c.of.result.value) c.requires.passes.0 ∙ ap H c.of.ensures) in
     subst (λ (t : TableId × List g.row.V-Entry.Denot). AreFresh t.0 t.1 c.deal-passes.result.items)

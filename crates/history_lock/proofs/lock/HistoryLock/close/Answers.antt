@@ -9,9 +9,9 @@ unwrap-value-requires g c =
     let H = g.V.Grows.history in let C = g.V.Grows.caller_of in let n : ℕ = c.args.self.table.shared.key.passes in
     let enough : n ≤ length c.args.passes.items =
     omega (arith, c.args.self.counted, c.if-len-self.false, c.len.ensures, c.args.passes.ok.0) in
-    let out = comes_out H C n c.args.passes.items c.take_in-place.result.id c.take_in-place.result.me.0
+    let out = comes_out H C n c.args.passes.items c.take_in-seat.result.id c.take_in-seat.result.me.0
     (slots_items c.close_with-closed.result.words) (slots_items c.close_with-closed.result.slots) c.take.result
-    c.take_in-place.ensures.shares c.take_in-place.ensures.at_rest.1
+    c.take_in-seat.ensures.shares c.take_in-seat.ensures.at_rest.1
     enough c.close_with-closed.ensures.values.2 c.take.ensures.value in
     subst IsSome (sym out.1) refl
 
@@ -20,9 +20,9 @@ returns-clause-seen g c =
     let H = g.V.Grows.history in let C = g.V.Grows.caller_of in let n : ℕ = c.args.self.table.shared.key.passes in
     let enough : n ≤ length c.args.passes.items =
     omega (arith, c.args.self.counted, c.if-len-self.false, c.len.ensures, c.args.passes.ok.0) in
-    let out = comes_out H C n c.args.passes.items c.take_in-place.result.id c.take_in-place.result.me.0
+    let out = comes_out H C n c.args.passes.items c.take_in-seat.result.id c.take_in-seat.result.me.0
     (slots_items c.close_with-closed.result.words) (slots_items c.close_with-closed.result.slots) c.take.result
-    c.take_in-place.ensures.shares c.take_in-place.ensures.at_rest.1
+    c.take_in-seat.ensures.shares c.take_in-seat.ensures.at_rest.1
     enough c.close_with-closed.ensures.values.2 c.take.ensures.value in
     let fit = fits_value H C n c.args.passes.items out.0 c.unwrap-value.result (sym out.1
     ∙ c.unwrap-value.ensures) out.2 in
@@ -33,9 +33,9 @@ returns-clause-own g c =
     let H = g.V.Grows.history in let C = g.V.Grows.caller_of in let n : ℕ = c.args.self.table.shared.key.passes in
     let enough : n ≤ length c.args.passes.items =
     omega (arith, c.args.self.counted, c.if-len-self.false, c.len.ensures, c.args.passes.ok.0) in
-    let out = comes_out H C n c.args.passes.items c.take_in-place.result.id c.take_in-place.result.me.0
+    let out = comes_out H C n c.args.passes.items c.take_in-seat.result.id c.take_in-seat.result.me.0
     (slots_items c.close_with-closed.result.words) (slots_items c.close_with-closed.result.slots) c.take.result
-    c.take_in-place.ensures.shares c.take_in-place.ensures.at_rest.1
+    c.take_in-seat.ensures.shares c.take_in-seat.ensures.at_rest.1
     enough c.close_with-closed.ensures.values.2 c.take.ensures.value in
     let fit = fits_value H C n c.args.passes.items out.0 c.unwrap-value.result (sym out.1
     ∙ c.unwrap-value.ensures) out.2 in
@@ -46,9 +46,9 @@ returns-clause-numbers g c =
     let H = g.V.Grows.history in let C = g.V.Grows.caller_of in let n : ℕ = c.args.self.table.shared.key.passes in
     let enough : n ≤ length c.args.passes.items =
     omega (arith, c.args.self.counted, c.if-len-self.false, c.len.ensures, c.args.passes.ok.0) in
-    let out = comes_out H C n c.args.passes.items c.take_in-place.result.id c.take_in-place.result.me.0
+    let out = comes_out H C n c.args.passes.items c.take_in-seat.result.id c.take_in-seat.result.me.0
     (slots_items c.close_with-closed.result.words) (slots_items c.close_with-closed.result.slots) c.take.result
-    c.take_in-place.ensures.shares c.take_in-place.ensures.at_rest.1
+    c.take_in-seat.ensures.shares c.take_in-seat.ensures.at_rest.1
     enough c.close_with-closed.ensures.values.2 c.take.ensures.value in
     λ k below. let same = c.args.self.counted in out.2.numbers k (omega arith)
 
@@ -57,9 +57,9 @@ returns-clause-others g c =
     let H = g.V.Grows.history in let C = g.V.Grows.caller_of in let n : ℕ = c.args.self.table.shared.key.passes in
     let enough : n ≤ length c.args.passes.items =
     omega (arith, c.args.self.counted, c.if-len-self.false, c.len.ensures, c.args.passes.ok.0) in
-    let out = comes_out H C n c.args.passes.items c.take_in-place.result.id c.take_in-place.result.me.0
+    let out = comes_out H C n c.args.passes.items c.take_in-seat.result.id c.take_in-seat.result.me.0
     (slots_items c.close_with-closed.result.words) (slots_items c.close_with-closed.result.slots) c.take.result
-    c.take_in-place.ensures.shares c.take_in-place.ensures.at_rest.1
+    c.take_in-seat.ensures.shares c.take_in-seat.ensures.at_rest.1
     enough c.close_with-closed.ensures.values.2 c.take.ensures.value in
     let fit = fits_value H C n c.args.passes.items out.0 c.unwrap-value.result (sym out.1
     ∙ c.unwrap-value.ensures) out.2 in

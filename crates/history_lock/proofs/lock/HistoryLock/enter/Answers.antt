@@ -13,7 +13,7 @@ fetch_add-ticket-requires g c =
     let H = g.V.Grows.history in let C = g.V.Grows.caller_of in let n : ℕ = c.args.self.now.table.shared.key.passes in
     let slots : ℕ = c.args.self.now.table.shared.table_id.slots in let id : ℕ = c.into_parts-number.result.2.id in
     let M : Type 0 = Me (Option g.row.V.Denot) (View g.row.V-Entry.Denot) in
-    let before : M = c.args.pass.place.me in
+    let before : M = c.args.pass.seat.me in
     let share = record (first_share before.0.shares) { number = c.args.pass.number } in
     let v : View g.row.V-Entry.Denot = resting_view c.args.pass.number c.args.pass.known before.0 in
     let is : c.into_parts-number.result.2.me ≡ (v, []) = ap (λ p. p.me) c.into_parts-number.ensures.2

@@ -13,7 +13,7 @@ fetch_add-requires g c =
     let H = g.V.Grows.history in let C = g.V.Grows.caller_of in let n : ℕ = c.args.self.now.table.shared.key.passes in
     let slots : ℕ = c.args.self.now.table.shared.table_id.slots in let id : ℕ = c.exchange-taken.new.seat.id in
     let M : Type 0 = Me (Option g.row.V.Denot) (View g.row.V-Entry.Denot) in
-    let before : M = c.args.inside.turn.place.me in
+    let before : M = c.args.inside.turn.seat.me in
     let val : g.row.V.Denot = c.args.inside.value in
     let share = share_left (first_share before.0.shares) (H val) in
     let v : View g.row.V-Entry.Denot = record before.0 { shares = share ∷ [] } in

@@ -11,9 +11,9 @@ use Rattle.history_lock.proofs.lock.HistoryLock.news.Goals as goal
 pub load-count-requires : goal.load-count-requires
 load-count-requires g c =
     let H = g.V.Grows.history in let C = g.V.Grows.caller_of in let n : ℕ = c.args.self.now.table.shared.key.passes in
-    let slots : ℕ = c.args.self.now.table.shared.table_id.slots in let id : ℕ = c.args.pass.now.place.id in
+    let slots : ℕ = c.args.self.now.table.shared.table_id.slots in let id : ℕ = c.args.pass.now.seat.id in
     let M : Type 0 = Me (Option g.row.V.Denot) (View g.row.V-Entry.Denot) in
-    let before : M = c.args.pass.now.place.me in
+    let before : M = c.args.pass.now.seat.me in
     let v : View g.row.V-Entry.Denot = resting_view c.args.pass.now.number c.args.pass.now.known before.0 in
     let is : before ≡ (v, []) = λ i. (c.args.pass.now.at_rest i, c.args.pass.now.empty_handed i) in (
       search rules,

@@ -3,8 +3,8 @@ use Rattle.history_lock.specs.Views.{opening_view}
 use Rattle.history_lock.proofs.Seats.{arrives, calls}
 use Rattle.history_lock.proofs.lock.HistoryLock.wake.Goals as goal
 
-pub load_new_seat-place-requires : goal.load_new_seat-place-requires
-load_new_seat-place-requires g c =
+pub load_new_seat-seat-requires : goal.load_new_seat-seat-requires
+load_new_seat-seat-requires g c =
     let t = c.args.self.now.table.shared in (
       search rules,
       arrives g.V.Grows.history g.V.Grows.caller_of t.key.passes t.table_id.slots
@@ -14,7 +14,7 @@ load_new_seat-place-requires g c =
 pub fetch_add-requires : goal.fetch_add-requires
 fetch_add-requires g c =
     let t = c.args.self.now.table.shared in
-    let seat = c.load_new_seat-place.result.1 in (
+    let seat = c.load_new_seat-seat.result.1 in (
       search rules,
       search rules,
       calls g.V.Grows.history g.V.Grows.caller_of t.key.passes t.table_id.slots seat.id
