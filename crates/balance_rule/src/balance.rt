@@ -10,6 +10,7 @@ ghost use Rattle.balance_rule.specs.Balance.{balance_checks, balance_move};
 use crate::worst_seat;
 use button_blinds::next_big;
 use floor_text::Refusal;
+use rulebook::MOST_ENTRIES;
 use seat_book::{Place, SeatBook};
 
 /// The move of a player from his place to another.
@@ -33,7 +34,7 @@ pub fn balance_order(book: &SeatBook, from: u8, to: u8) -> Result<Move, Refusal>
     requires to_open { IsTrue (is_open book.now.players to) }
     ensures checked { IsChecked (balance_checks book.now from to) result }
     ensures order { IfOk result (λ order. balance_move book.now from to ≡ Some order) }
-    ensures entry { IfOk result (λ order. order.player < 640) }
+    ensures entry { IfOk result (λ order. order.player < MOST_ENTRIES) }
     ensures sits { IfOk result (λ order. place_of book.now.players order.player ≡ Some order.from) }
     ensures place { IfOk result (λ order. IsPlaceOf book.now.table_count book.now.seat_count order.to) }
     ensures empty { IfOk result (λ order. player_at book.now.players order.to ≡ None) }

@@ -1,15 +1,13 @@
 -- A list that is longer by a name that was not in it.
-use Rattle.std.proofs.Common.{◌≡◌, ◌∙◌, refl, sym, ap, ℕ, ◌+◌, ◌≤◌, Bool, true, false, List, [], ◌∷◌, ◌++◌, length, length-append, arith, inl, inr}
-use Rattle.std.specs.Prelude.{not, ◌||◌, nat_le, cond}
-use Rattle.std.specs.List.{list_any, list_all}
+use Rattle.std.proofs.Common.{◌≡◌, ◌∙◌, refl, sym, ℕ, ◌≤◌, Bool, true, false, List, [], ◌∷◌, ◌++◌, length, length-append, arith, inl, inr}
+use Rattle.std.specs.Prelude.{not, ◌||◌}
+use Rattle.std.specs.List.{list_all}
 use Rattle.std.specs.Str.{bytes_eq}
 use Rattle.std.proofs.lemmas.Bool.{and_from, cases_Bool}
-use Rattle.std.proofs.lemmas.Bool.Decides.{nat_tests}
 use Rattle.std.proofs.lemmas.List.{append-nil}
 use Rattle.std.proofs.lemmas.Slice.Eq.{bytes_eq-Decides}
-use Rattle.rulebook.specs.Pairs.{is_pairwise, are_distinct}
 use Rattle.rulebook.proofs.Pairs.{is_pairwise-between}
-use Rattle.entry_list.specs.Entries.{is_known, is_full, IsEntries}
+use Rattle.entry_list.specs.Entries.{is_known, IsEntries}
 
 -- bytes that differ from others differ both ways
 other_way : (one other : List ℕ) → bytes_eq one other ≡ false → not (bytes_eq other one) ≡ true

@@ -5,12 +5,10 @@ ghost use Rattle.entry_list.specs.Entries.{is_known, is_full, number_of};
 
 use floor_text::Name;
 use indexmap::IndexSet;
+use rulebook::MOST_ENTRIES;
 use std::alloc::{AllocFailed, Global};
 use std::marker::Model;
 use thiserror::Error;
-
-/// The most entries of a tournament.
-pub const MOST_ENTRIES: usize = 640;
 
 /// Why a name was not added.
 #[derive(Clone, Copy, Debug, PartialEq, Eq, Error)]

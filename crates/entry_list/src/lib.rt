@@ -6,7 +6,7 @@
 
 mod entries;
 
-pub use entries::{EntryFault, EntryList, MOST_ENTRIES};
+pub use entries::{EntryFault, EntryList};
 
 #[cfg(test)]
 mod tests;

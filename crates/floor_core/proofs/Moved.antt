@@ -7,6 +7,7 @@ use Rattle.std.proofs.lemmas.Bool.{and_parts}
 use Rattle.std.proofs.lemmas.Bool.Decides.{nat_tests}
 use Rattle.std.proofs.lemmas.Option.{same_Some}
 use Rattle.rulebook.specs.Pairs.{are_distinct}
+use Rattle.rulebook.specs.declared.limits.TheConstants.{MOST_ENTRIES}
 use Rattle.seat_book.specs.declared.place.Place.{Place}
 use Rattle.seat_book.specs.declared.seated.Seated.{Seated}
 use Rattle.seat_book.specs.Places.{IsPlaceOf, is_place_of}
@@ -62,13 +63,14 @@ called-sits seating table name (Some player) lawful is =
 
 -- Whoever is found by a name at a table has the number of an entry.
 pub called-entry : (seating : Seating) (table : ℕ) (name : List ℕ) (found : Option Seated) → IsSeating seating
-    → found ≡ find (is_called name) (players_at seating.players table) → IfSome found (λ player. player.player < 640)
+    → found ≡ find (is_called name) (players_at seating.players table)
+    → IfSome found (λ player. player.player < MOST_ENTRIES)
 called-entry seating table name None lawful is = tt
 called-entry seating table name (Some player) lawful is =
     below player.player (found-all (is_numbered player.player) is_entry seating.players player lawful.entries
     (named-found seating.players table name player lawful.apart (sym is)))
   where
-    below : (n : ℕ) → nat_lt n 640 ≡ true → n < 640
+    below : (n : ℕ) → nat_lt n MOST_ENTRIES ≡ true → n < MOST_ENTRIES
     below n less = grind (arith, nat_tests)
 
 -- Once the player of a name took the first of free places, the others are free.

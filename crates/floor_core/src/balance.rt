@@ -16,8 +16,8 @@ use crate::BookFault;
 use crate::book::Book;
 use crate::moving::reseat;
 use balance_rule::{Move, balance_order};
-use entry_list::MOST_ENTRIES;
 use floor_text::Refusal;
+use rulebook::MOST_ENTRIES;
 use seat_book::{SeatBook, Seated};
 
 /// The two tables of a balance, which are open.

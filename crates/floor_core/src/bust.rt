@@ -9,8 +9,8 @@ ghost use Rattle.tournament_rules.specs.Effects.{bust_of, broke_by};
 ghost use Rattle.tournament_rules.specs.Valid.{is_bust_of};
 ghost use Rattle.floor_core.specs.Busts.{MayGoOut};
 
-use entry_list::MOST_ENTRIES;
 use place_list::PlaceList;
+use rulebook::MOST_ENTRIES;
 use seat_book::SeatBook;
 use table_engine::{HandRecord, StartSeat};
 

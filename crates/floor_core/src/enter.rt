@@ -13,8 +13,9 @@ ghost use Rattle.tournament_rules.specs.Effects.{entered};
 
 use crate::BookFault;
 use crate::book::Book;
-use entry_list::{EntryFault, EntryList, MOST_ENTRIES};
+use entry_list::{EntryFault, EntryList};
 use floor_text::{Name, Refusal};
+use rulebook::MOST_ENTRIES;
 use seat_book::Place;
 
 /// Adds the name of a newcomer to the list, where there is room, and gives his number.

@@ -9,8 +9,8 @@ ghost use Rattle.tournament_rules.specs.Moving.{is_called, after_taking, after_a
 ghost use Rattle.tournament_rules.specs.Effects.{with_table, forgotten};
 ghost use Rattle.floor_core.specs.Moves.{AreFree};
 
-use entry_list::MOST_ENTRIES;
 use floor_text::Name;
+use rulebook::MOST_ENTRIES;
 use seat_book::{Place, SeatBook, Seated, TableStatus};
 
 /// Moves a player who sits to another place, with his stack.

@@ -9,11 +9,9 @@ use crate::order::in_order;
 use crate::prizes::{equal_share, prizes_of, prizes_together};
 use crate::tie::Tie;
 use crate::{Bust, Standing};
+use rulebook::MOST_ENTRIES;
 use std::alloc::{AllocError, Global};
 use std::marker::Model;
-
-/// The most players who can be out.
-const MOST_BUSTS: usize = 640;
 
 /// The players who are out, in the order in which they went out. Contracts see the list of them.
 #[derive(Debug, Drop)]
@@ -25,13 +23,14 @@ impl Model for PlaceList {
     ghost use Rattle.std.specs.Prelude.{◌≡◌, ◌==◌, ◌≤◌, true, List, length, map};
     ghost use Rattle.std.specs.Vec.{vec_capacity};
     ghost use Rattle.rulebook.specs.Pairs.{are_distinct};
+    ghost use Rattle.rulebook.specs.declared.limits.TheConstants.{MOST_ENTRIES};
     ghost use Rattle.place_list.specs.declared.bust.Bust.{Bust};
 
     ghost Value = { List Bust };
 
     ghost view = { λ list. list.busts.items };
 
-    ghost invariant = { λ list. (640 ≤ vec_capacity list.busts) × (length list.busts.items ≤ 640)
+    ghost invariant = { λ list. (MOST_ENTRIES ≤ vec_capacity list.busts) × (length list.busts.items ≤ MOST_ENTRIES)
         × (are_distinct (λ one other. one == other) (map (λ bust. bust.player) list.busts.items) ≡ true) };
 }
 
@@ -41,14 +40,14 @@ impl PlaceList {
         ensures { IfOk result (λ list. list ≡ []) }
     {
         Ok(PlaceList {
-            busts: Vec::with_capacity(alloc, MOST_BUSTS)?,
+            busts: Vec::with_capacity(alloc, MOST_ENTRIES)?,
         })
     }
 
     /// Puts a player on the list: his stack in chips at the start of his last hand, and the group that he goes out in.
     /// It takes no memory.
     pub fn bust(&mut self, player: u32, stack: u64, group: u64)
-        requires room { length self.old < 640 }
+        requires room { length self.old < MOST_ENTRIES }
         requires once { list_any (λ bust. bust.player == player) self.old ≡ false }
         ensures { self.new ≡ self.old ++ record { player = player; stack = stack; group = group } ∷ [] }
     {
@@ -69,7 +68,7 @@ impl PlaceList {
     /// How many players are out.
     pub fn len(&self) -> u32
         ensures len { result ≡ length self.now }
-        ensures most { result ≤ 640 }
+        ensures most { result ≤ MOST_ENTRIES }
     {
         self.busts.len() as u32
     }
@@ -92,7 +91,7 @@ impl PlaceList {
         buyin: u64,
         shares: &[u64],
     ) -> Result<Vec<Standing>, AllocError>
-        requires entries { entries ≤ 640 }
+        requires entries { entries ≤ MOST_ENTRIES }
         requires buyin { buyin ≤ 1000000000 }
         requires shares { sum shares.now ≤ 1000 }
         ensures { IfOk result (λ standings. standings.items ≡ standings_of entries last buyin shares.now self.now) }
@@ -133,8 +132,8 @@ fn add_standings(
     prizes: &[u64],
 ) -> Result<(), AllocError>
     requires placed { Placed busts.now }
-    requires most { length busts.now ≤ 640 }
-    requires entries { entries ≤ 640 }
+    requires most { length busts.now ≤ MOST_ENTRIES }
+    requires entries { entries ≤ MOST_ENTRIES }
     requires fits { sum prizes.now < 2 ^ 63 }
     ensures { OnOk result (standings.new.items
         ≡ standings.old.items ++ map (standing_of entries prizes.now busts.now) busts.now) }

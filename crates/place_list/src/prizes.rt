@@ -3,6 +3,7 @@
 ghost use Rattle.std.specs.Prelude.{◌≡◌, ◌+◌, ◌*◌, ◌<◌, ◌≤◌, ◌^◌, IfOk, sum, take, drop};
 ghost use Rattle.place_list.specs.Prizes.{part_of, pool_of, first_gets, prizes_of, equal_share};
 
+use rulebook::MOST_ENTRIES;
 use std::alloc::{AllocError, Global};
 
 /// The share in chips of money, rounded down, where `share` is in thousandths of the pool.
@@ -31,7 +32,7 @@ pub(crate) fn prizes_of(
     buyin: u64,
     shares: &[u64],
 ) -> Result<Vec<u64>, AllocError>
-    requires entries { entries ≤ 640 }
+    requires entries { entries ≤ MOST_ENTRIES }
     requires buyin { buyin ≤ 1000000000 }
     requires shares { sum shares.now ≤ 1000 }
     ensures prizes { IfOk result (λ prizes. prizes.items ≡ prizes_of entries buyin shares.now) }

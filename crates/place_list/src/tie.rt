@@ -6,6 +6,7 @@ ghost use Rattle.place_list.specs.TiedAtHead.{tied_at_head};
 
 use crate::Bust;
 use crate::order::ties;
+use rulebook::MOST_ENTRIES;
 
 /// The players of a list in the order of their places who tie, next to one another.
 #[derive(Clone, Copy, Debug)]
@@ -43,7 +44,7 @@ impl Tie {
     /// The players who tie with the one at an index, where `self` is the tie of the one before.
     pub(crate) fn next(self, busts: &[Bust], index: usize) -> Tie
         requires within { index < length busts.now }
-        requires most { length busts.now ≤ 640 }
+        requires most { length busts.now ≤ MOST_ENTRIES }
         requires placed { Placed busts.now }
         requires before { IsTieBefore busts.now self index }
         ensures { IsTieAt busts.now result index }

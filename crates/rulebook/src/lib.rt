@@ -1,5 +1,5 @@
-//! The words that several crates speak of: the order of the seats at a table, checks that are made in order, and
-//! what holds between each item of a list and each later one.
+//! The words that several crates speak of: the order of the seats at a table, checks that are made in order, what holds
+//! between each item of a list and each later one, and the most entries of a tournament.
 //!
 //! It stands on no other crate. Its definitions are plain lists and tests over them (`Seats`, `Search`, `Checks`,
 //! `Pairs`), and its lemmas are for the crates above; the functions here take one step from seat to seat.
@@ -7,7 +7,9 @@
 #![tactic(auto)]
 
 mod laws;
+mod limits;
 mod seat_order;
 
 pub use laws::search_is_the_walk;
+pub use limits::MOST_ENTRIES;
 pub use seat_order::{seat_after, seat_before};

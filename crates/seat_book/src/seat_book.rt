@@ -11,11 +11,9 @@ ghost use Rattle.seat_book.specs.Kept.{slot_of};
 use crate::{Place, Seated, TableStatus};
 use button_blinds::SeatSet;
 use floor_text::Name;
+use rulebook::MOST_ENTRIES;
 use std::alloc::{AllocError, Global};
 use std::marker::Model;
-
-/// The most players that a tournament has, by their numbers.
-const MOST_PLAYERS: usize = 640;
 
 /// The seats of all tables: who sits where with which stack, and how each table stands. Contracts see it as a
 /// `Seating`.
@@ -83,7 +81,7 @@ impl SeatBook {
             table_count: tables,
             seat_count: seats,
             slots: vec![in alloc; None; table_total * usize::from(seats)]?,
-            places: vec![in alloc; None; MOST_PLAYERS]?,
+            places: vec![in alloc; None; MOST_ENTRIES]?,
             counts: vec![in alloc; 0; table_total]?,
             statuses: vec![in alloc; TableStatus::fresh(); table_total]?,
             hands: false,
@@ -108,7 +106,7 @@ impl SeatBook {
 
     /// The player of this number and name sits down, with this stack in chips.
     pub fn seat(&mut self, player: u32, name: Name, place: Place, stack: u64)
-        requires entry { player < 640 }
+        requires entry { player < MOST_ENTRIES }
         requires place { IsPlaceOf self.old.table_count self.old.seat_count place }
         requires empty { player_at self.old.players place ≡ None }
         requires stands { place_of self.old.players player ≡ None }
@@ -131,7 +129,7 @@ impl SeatBook {
 
     /// The player of this number, who sits.
     fn seated(&self, player: u32) -> Seated
-        requires entry { player < 640 }
+        requires entry { player < MOST_ENTRIES }
         requires sits { IsSome (place_of self.now.players player) }
         ensures player { player_of self.now.players player ≡ Some result }
         ensures place { IsPlaceOf self.now.table_count self.now.seat_count result.place }
@@ -142,7 +140,7 @@ impl SeatBook {
 
     /// The player of this number leaves his seat: where he sat, and his stack in chips.
     pub fn lift(&mut self, player: u32) -> (Place, u64)
-        requires entry { player < 640 }
+        requires entry { player < MOST_ENTRIES }
         requires sits { IsSome (place_of self.old.players player) }
         ensures same { self.new ≡ record self.old { players = lifted player self.old.players } }
         ensures place { place_of self.old.players player ≡ Some result.0 }
@@ -158,7 +156,7 @@ impl SeatBook {
 
     /// Where the player of this number sits, if he does.
     pub fn find(&self, player: u32) -> Option<Place>
-        requires { player < 640 }
+        requires { player < MOST_ENTRIES }
         ensures place { result ≡ place_of self.now.players player }
         ensures within { IfSome result (IsPlaceOf self.now.table_count self.now.seat_count) }
     {
@@ -170,7 +168,7 @@ impl SeatBook {
         requires { IsPlaceOf self.now.table_count self.now.seat_count place }
         ensures player { result ≡ option_map (λ seated. (seated.player, seated.name, seated.stack))
             (player_at self.now.players place) }
-        ensures entry { IfSome result (λ seated. seated.0 < 640) }
+        ensures entry { IfSome result (λ seated. seated.0 < MOST_ENTRIES) }
     {
         let slot = slot_of(place, self.seat_count);
         let seated = self.slots[slot]?;

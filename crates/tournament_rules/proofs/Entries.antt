@@ -8,6 +8,7 @@ use Rattle.std.proofs.lemmas.List.{get_or-replicate, get_or_past, length-replica
 use Rattle.std.proofs.lemmas.List.Folds.{sum_by-replicate}
 use Rattle.std.proofs.lemmas.List.Sums.{sum_by-insert}
 use Rattle.std.proofs.lemmas.List.Elements.{All-nil, All-weaker}
+use Rattle.rulebook.specs.declared.limits.TheConstants.{MOST_ENTRIES}
 use Rattle.place_list.specs.declared.bust.Bust.{Bust}
 use Rattle.level_plan.specs.Items.{is_between, greatest_amount, are_levels}
 use Rattle.level_plan.specs.Plans.{PlanTerms, is_right, unit_of_level}
@@ -195,7 +196,7 @@ nobody_yet count = grind (arith, nat_tests)
 
 -- The entries, the players and those who are out agree once one more entered.
 entered-agree : (entries : List (List ℕ)) (players : List Seated) (busts : List Bust) (new : Seated)
-    → AreEntered entries players busts → length entries < 640 → is_known entries new.name ≡ false
+    → AreEntered entries players busts → length entries < MOST_ENTRIES → is_known entries new.name ≡ false
     → new.player ≡ length entries → AreEntered (entries ++ new.name ∷ []) (sit_down new players) busts
 entered-agree entries players busts new agree room unknown number =
     let behind = count_by (λ other. comes_before other.place new.place) players in
@@ -284,7 +285,7 @@ valid_entered book name table seat valid none =
         by_race (Some new) at = whole_times stack status.unit new (next_times status.unit new (is.from new at).next)
             (ap (λ (unit : ℕ). stack % unit) (is.new new at) ∙ whole)
 
-    below : (count : ℕ) → count < 640 → nat_lt count 640 ≡ true
+    below : (count : ℕ) → count < MOST_ENTRIES → nat_lt count MOST_ENTRIES ≡ true
     below count room = grind (arith, nat_tests)
 
     early : (late level : ℕ) → nat_lt late level ≡ false → level ≤ late

@@ -5,6 +5,7 @@ use Rattle.std.specs.List.{list_any}
 use Rattle.std.proofs.lemmas.Bool.{eqb-true}
 use Rattle.std.proofs.lemmas.Bool.Decides.{nat_tests}
 use Rattle.std.proofs.lemmas.List.Sums.{sum_by_push, count_by-le-length}
+use Rattle.rulebook.specs.declared.limits.TheConstants.{MOST_ENTRIES}
 use Rattle.place_list.specs.declared.bust.Bust.{Bust}
 use Rattle.seat_book.specs.declared.seated.Seated.{Seated}
 use Rattle.seat_book.specs.Players.{is_numbered, place_of, lifted}
@@ -135,7 +136,7 @@ one_row entries number = by_test (nat_lt number (length entries))
 pub record MayLeave (players : List Seated) (busts : List Bust) (number : ℕ) : Type 0 where
   pub sits : is_some (place_of players number) ≡ true
   pub new : list_any (λ bust. bust.player == number) busts ≡ false
-  pub room : length busts < 640
+  pub room : length busts < MOST_ENTRIES
 
 found_place : (players : List Seated) (number : ℕ) → list_any (is_numbered number) players ≡ true
     → is_some (place_of players number) ≡ true
@@ -151,7 +152,7 @@ found_place (player ∷ players) number sits = by_test (is_numbered number playe
 
 -- Who sits may leave his seat.
 pub may_leave : (entries : List (List ℕ)) (players : List Seated) (busts : List Bust) (number : ℕ)
-    → AreOnce entries players busts → length entries ≤ 640 → list_any (is_numbered number) players ≡ true
+    → AreOnce entries players busts → length entries ≤ MOST_ENTRIES → list_any (is_numbered number) players ≡ true
     → MayLeave players busts number
 may_leave entries players busts number once few sits =
     let some = some_counted (is_numbered number) players sits in

@@ -10,6 +10,7 @@ use Rattle.rulebook.specs.Checks.{first_that_holds}
 use Rattle.seat_book.specs.Players.{player_at}
 use Rattle.entry_list.specs.Entries.{is_known}
 use Rattle.rulebook.proofs.Checks.{first_that_holds-append}
+use Rattle.rulebook.specs.declared.limits.TheConstants.{MOST_ENTRIES}
 use Rattle.level_plan.specs.declared.line.PlanLine.{PlanLine}
 use Rattle.betting_round.specs.declared.act.Act.{Act}
 use Rattle.table_engine.specs.Hands.{HandTerms, is_over}
@@ -52,7 +53,7 @@ pub record MayEnter (book : BookState) (name : List ℕ) (table seat : ℕ) : Ty
   pub free : player_at book.seating.players (record { table = table; seat = seat }) ≡ None
   pub fewest : is_not_fewest book table ≡ false
   pub early : is_late book ≡ false
-  pub room : length book.entries < 640
+  pub room : length book.entries < MOST_ENTRIES
 
 pub entry_passed : (book : BookState) (name : List ℕ) (table seat : ℕ)
     → book_refusal book (Enter name table seat) ≡ None → MayEnter book name table seat
@@ -78,7 +79,7 @@ entry_passed book name table seat none =
       room = below (length book.entries) (not-true _ room.0);
     }
   where
-    below : (count : ℕ) → nat_le 640 count ≡ false → count < 640
+    below : (count : ℕ) → nat_le MOST_ENTRIES count ≡ false → count < MOST_ENTRIES
     below count full = grind (arith, nat_tests)
 
 -- Where one refusal or else another tells of none, neither does.

@@ -6,7 +6,7 @@ use Rattle.std.specs.Str.{bytes_eq}
 use Rattle.rulebook.specs.Pairs.{is_pairwise, are_distinct}
 use Rattle.level_plan.specs.Plans.{PlanTerms, is_right}
 use Rattle.level_plan.specs.Drafts.{IsLawful}
-use Rattle.entry_list.specs.declared.entries.TheConstants.{MOST_ENTRIES}
+use Rattle.rulebook.specs.declared.limits.TheConstants.{MOST_ENTRIES}
 use Rattle.place_list.specs.declared.bust.Bust.{Bust}
 use Rattle.seat_book.specs.declared.seated.Seated.{Seated}
 use Rattle.seat_book.specs.declared.table_status.TableStatus.{TableStatus}

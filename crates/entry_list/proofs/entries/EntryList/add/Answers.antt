@@ -1,5 +1,5 @@
-use Rattle.std.proofs.Common.{◌≡◌, ◌∙◌, ◌≤◌, refl, sym, length, false, ◌++◌, ◌∷◌, [], arith}
-use Rattle.entry_list.specs.Entries.{is_known, IsEntries}
+use Rattle.std.proofs.Common.{◌≡◌, ◌∙◌, refl, sym, false, ◌++◌, ◌∷◌, [], arith}
+use Rattle.entry_list.specs.Entries.{is_known}
 use Rattle.entry_list.proofs.Added.{entries-added}
 use Rattle.entry_list.proofs.entries.EntryList.add.Goals as goal
 
