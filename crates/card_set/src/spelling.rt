@@ -13,46 +13,26 @@ const RANKS: [u8; 13] = *b"23456789TJQKA";
 /// The letters of the suits: clubs, diamonds, hearts and spades.
 const SUITS: [u8; 4] = *b"cdhs";
 
-/// The place of a letter among those of the ranks, from 0.
-fn rank_place(letter: u8) -> Option<usize>
+/// The index of a letter among those of the ranks.
+fn rank_index(letter: u8) -> Option<usize>
     ensures { result ≡ position (λ known. known == letter) rank_letters }
 {
-    match letter {
-        b'2' => Some(0),
-        b'3' => Some(1),
-        b'4' => Some(2),
-        b'5' => Some(3),
-        b'6' => Some(4),
-        b'7' => Some(5),
-        b'8' => Some(6),
-        b'9' => Some(7),
-        b'T' => Some(8),
-        b'J' => Some(9),
-        b'Q' => Some(10),
-        b'K' => Some(11),
-        b'A' => Some(12),
-        _ => None,
-    }
+    RANKS.iter().position(|known| *known == letter)
 }
 
 fn read_rank(letter: u8) -> Option<u8>
     ensures found { IfSome result (λ rank. (2 ≤ rank) × (rank ≤ 14) × (rank_letter rank ≡ letter)) }
     ensures only { (rank : ℕ) → 2 ≤ rank → rank ≤ 14 → rank_letter rank ≡ letter → result ≡ Some rank }
 {
-    Some(rank_place(letter)? as u8 + 2)
+    Some(rank_index(letter)? as u8 + 2)
 }
 
 fn read_suit(letter: u8) -> Option<u8>
     ensures found { IfSome result (λ suit. (suit < 4) × (suit_letter suit ≡ letter)) }
     ensures only { (suit : ℕ) → suit < 4 → suit_letter suit ≡ letter → result ≡ Some suit }
 {
-    match letter {
-        b'c' => Some(0),
-        b'd' => Some(1),
-        b'h' => Some(2),
-        b's' => Some(3),
-        _ => None,
-    }
+    let index = SUITS.iter().position(|known| *known == letter)?;
+    Some(index as u8)
 }
 
 /// Reads a card: the letter of a rank and the letter of a suit. `None` exactly where the two are no card.
@@ -84,8 +64,8 @@ pub fn read_cards<const N: usize>(bytes: &[u8]) -> Option<[Card; N]>
         return None;
     }
     let mut cards = [Card { rank: 2, suit: 0 }; N];
-    for place in 0..N {
-        cards[place] = read_card(bytes[2 * place], bytes[2 * place + 1])?;
+    for index in 0..N {
+        cards[index] = read_card(bytes[2 * index], bytes[2 * index + 1])?;
     }
     Some(cards)
 }

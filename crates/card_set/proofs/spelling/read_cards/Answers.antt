@@ -29,46 +29,46 @@ returns-in_err-cards-clause-only g c = λ cards size spelled.
       one_of_four =
           omega arith;
     } in
-    let text = rw spelled at (card_text-at cards c.loop-place.place other (omega arith)) in
-    let none : None ≡ Some (slice_index_or cards c.loop-place.place other) = c.in_err-cards.ensures.only _ text in
+    let text = rw spelled at (card_text-at cards c.loop-index.index other (omega arith)) in
+    let none : None ≡ Some (slice_index_or cards c.loop-index.index other) = c.in_err-cards.ensures.only _ text in
     cc
 
 pub returns-in_err-cards-clause-exact : goal.returns-in_err-cards-clause-exact
 returns-in_err-cards-clause-exact g c = reads_cards g.row.N c.args.bytes.now c.from_residual.result
     (rw c.from_residual.ensures tt) (rw c.from_residual.ensures tt) (returns-in_err-cards-clause-only g c)
 
-pub loop-place-preserved : goal.loop-place-preserved
-loop-place-preserved g c = record {
-  size = rw length-set c.loop-place.invariant.size;
-  read = cards_text-more _ c.loop-place.place _ c.args.bytes.now (omega arith)
-      (omega arith) c.loop-place.invariant.read c.in_ok-cards.ensures.found;
+pub loop-index-preserved : goal.loop-index-preserved
+loop-index-preserved g c = record {
+  size = rw length-set c.loop-index.invariant.size;
+  read = cards_text-more _ c.loop-index.index _ c.args.bytes.now (omega arith)
+      (omega arith) c.loop-index.invariant.read c.in_ok-cards.ensures.found;
   only = λ cards size spelled.
-      let text = rw spelled at (card_text-at cards c.loop-place.place c.in_ok-cards.field-0 (omega arith)) in
-      let here : Some c.in_ok-cards.field-0 ≡ Some (slice_index_or cards c.loop-place.place c.in_ok-cards.field-0) =
+      let text = rw spelled at (card_text-at cards c.loop-index.index c.in_ok-cards.field-0 (omega arith)) in
+      let here : Some c.in_ok-cards.field-0 ≡ Some (slice_index_or cards c.loop-index.index c.in_ok-cards.field-0) =
       c.in_ok-cards.ensures.only _ text in
-      take-more-same c.loop-place.cards cards c.loop-place.place c.in_ok-cards.field-0 (omega arith) (omega arith)
-      (c.loop-place.invariant.only cards size spelled) (cc);
+      take-more-same c.loop-index.cards cards c.loop-index.index c.in_ok-cards.field-0 (omega arith) (omega arith)
+      (c.loop-index.invariant.only cards size spelled) (cc);
 }
 
 pub returns-clause-found : goal.returns-clause-found
 returns-clause-found g c =
-    let size : length c.loop-place.cards ≡ g.row.N = c.loop-place.invariant.size in
-    let ours : take c.loop-place.place c.loop-place.cards ≡ c.loop-place.cards =
-    take_all c.loop-place.place c.loop-place.cards (omega arith) in
-    let whole : take (2 * c.loop-place.place) c.args.bytes.now ≡ c.args.bytes.now =
-    take_all (2 * c.loop-place.place) c.args.bytes.now (omega arith) in
-    ap cards_text (sym ours) ∙ c.loop-place.invariant.read ∙ whole
+    let size : length c.loop-index.cards ≡ g.row.N = c.loop-index.invariant.size in
+    let ours : take c.loop-index.index c.loop-index.cards ≡ c.loop-index.cards =
+    take_all c.loop-index.index c.loop-index.cards (omega arith) in
+    let whole : take (2 * c.loop-index.index) c.args.bytes.now ≡ c.args.bytes.now =
+    take_all (2 * c.loop-index.index) c.args.bytes.now (omega arith) in
+    ap cards_text (sym ours) ∙ c.loop-index.invariant.read ∙ whole
 
 pub returns-clause-only : goal.returns-clause-only
 returns-clause-only g c = λ cards size spelled.
-    let our_size : length c.loop-place.cards ≡ g.row.N = c.loop-place.invariant.size in
-    let ours : take c.loop-place.place c.loop-place.cards ≡ c.loop-place.cards =
-    take_all c.loop-place.place c.loop-place.cards (omega arith) in
-    let theirs : take c.loop-place.place cards ≡ cards = take_all c.loop-place.place cards (omega arith) in
-    let same : take c.loop-place.place c.loop-place.cards ≡ take c.loop-place.place cards =
-    c.loop-place.invariant.only cards size spelled in
+    let our_size : length c.loop-index.cards ≡ g.row.N = c.loop-index.invariant.size in
+    let ours : take c.loop-index.index c.loop-index.cards ≡ c.loop-index.cards =
+    take_all c.loop-index.index c.loop-index.cards (omega arith) in
+    let theirs : take c.loop-index.index cards ≡ cards = take_all c.loop-index.index cards (omega arith) in
+    let same : take c.loop-index.index c.loop-index.cards ≡ take c.loop-index.index cards =
+    c.loop-index.invariant.only cards size spelled in
     ap Some (cc)
 
 pub returns-clause-exact : goal.returns-clause-exact
-returns-clause-exact g c = reads_cards g.row.N c.args.bytes.now _ c.loop-place.invariant.size
+returns-clause-exact g c = reads_cards g.row.N c.args.bytes.now _ c.loop-index.invariant.size
     (returns-clause-found g c) (returns-clause-only g c)
