@@ -1,8 +1,13 @@
 -- A name that was copied to the front of sixteen zeros is kept there.
-use Rattle.std.proofs.Common.{◌≡◌, ◌-◌, ◌≤◌, ℕ, List, ◌++◌, length, take, drop, replicate, IsTrue, refl, sym, ap, subst, arith, length-append, length-drop}
+use Rattle.std.proofs.Common.{◌≡◌, ◌∙◌, ◌-◌, ◌≤◌, ℕ, true, List, ◌++◌, length, take, drop, replicate, IsTrue, refl, sym, ap, subst, arith, length-append, length-drop}
+use Rattle.std.specs.Prelude.{◌==◌, ◌&&◌}
+use Rattle.std.specs.Str.{bytes_eq}
 use Rattle.std.proofs.lemmas.List.{drop-replicate, take_at, length-replicate}
-use Rattle.std.proofs.lemmas.Bool.Decides.{nat_tests}
-use Rattle.floor_text.specs.Names.{is_name, IsKept}
+use Rattle.std.proofs.lemmas.Bool.{and_parts, eqb-true}
+use Rattle.std.proofs.lemmas.Bool.Decides.{Decides-eqb, nat_tests, same_from_decides}
+use Rattle.std.proofs.lemmas.Slice.Eq.{bytes_eq-Decides}
+use Rattle.floor_text.specs.declared.limits.TheConstants.{LONGEST_NAME}
+use Rattle.floor_text.specs.Names.{is_name, length_kept, IsKept}
 
 length_name : (name : List ℕ) → IsTrue (is_name name) → length name ≤ 16
 length_name name is = grind (arith, nat_tests)
@@ -37,3 +42,28 @@ pub kept_in_front : (name copied : List ℕ) → IsTrue (is_name name) → copie
 kept_in_front name copied is same =
     let P : List ℕ → Type 0 = λ xs. IsKept (xs ++ drop (length name) (replicate 16 0)) (length name) in
     subst P (sym same) (kept name is)
+
+-- Two names are the same exactly where they are as long and what is kept of them is the same.
+pub same_kept : {bytes other : List ℕ} {len long : ℕ} → IsKept bytes len → IsKept other long
+    → (len == long && bytes_eq bytes other) ≡ bytes_eq (take len bytes) (take long other)
+same_kept {bytes} {other} {len} {long} ours theirs =
+    same_from_decides (len == long && bytes_eq bytes other) (bytes_eq (take len bytes) (take long other))
+    (same, kept_same) (bytes_eq-Decides (take len bytes) (take long other))
+  where
+    same : (len == long && bytes_eq bytes other) ≡ true → take len bytes ≡ take long other
+    same holds =
+        let parts = and_parts (len == long) (bytes_eq bytes other) holds in
+        let lens : len ≡ long = eqb-true len long parts.0 in
+        let lists : bytes ≡ other = (bytes_eq-Decides bytes other).0 parts.1 in
+        ap (λ (n : ℕ). take n bytes) lens ∙ ap (take long) lists
+
+    kept_same : take len bytes ≡ take long other → (len == long && bytes_eq bytes other) ≡ true
+    kept_same views =
+        let lens : len ≡ long = sym (length_kept ours) ∙ ap length views ∙ length_kept theirs in
+        let pads : replicate (LONGEST_NAME - len) 0 ≡ replicate (LONGEST_NAME - long) 0 =
+        ap (λ (n : ℕ). replicate (LONGEST_NAME - n) 0) lens in
+        let lists : bytes ≡ other =
+        ours.padded ∙ ap (λ (xs : List ℕ). xs ++ replicate (LONGEST_NAME - len) 0) views
+        ∙ ap (λ (xs : List ℕ). take long other ++ xs) pads ∙ sym theirs.padded in
+        let one : (len == long) ≡ true = (Decides-eqb len long).1 lens in
+        let two : bytes_eq bytes other ≡ true = (bytes_eq-Decides bytes other).1 lists in rw (one, two) refl

@@ -91,8 +91,9 @@ impl PartialEq for Name {
 
     ghost laws = { Prim.search (comparing, rules) };
 
+    #[tactic(auto, using(crate::proofs::KeptNames::same_kept))]
     fn eq(&self, other: &Name) -> bool {
-        self.bytes() == other.bytes()
+        self.len == other.len && self.bytes == other.bytes
     }
 }
 
