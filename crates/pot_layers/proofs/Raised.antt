@@ -229,3 +229,10 @@ length-at_turn f [] zero = refl
 length-at_turn f [] (suc index) = refl
 length-at_turn f (item ∷ more) zero = refl
 length-at_turn f (item ∷ more) (suc index) = ap suc (length-at_turn f more index)
+
+-- Who puts in nothing changes no put.
+pub nothing_added : (puts : List Put) (index : ℕ) → put_in_at puts index 0 ≡ puts
+nothing_added [] index = refl
+nothing_added (put ∷ more) zero =
+    let same : put.amount + 0 ≡ put.amount = omega arith in ap (λ (n : ℕ). record put { amount = n } ∷ more) same
+nothing_added (put ∷ more) (suc index) = ap (λ (rest : List Put). put ∷ rest) (nothing_added more index)

@@ -69,6 +69,9 @@ impl PotTally {
         requires fits { total_put self.old + amount < 2 ^ 53 }
         ensures { self.new ≡ put_in_at self.old (seat - 1) amount }
     {
+        if amount == 0 {
+            return;
+        }
         put_in(&mut self.standings, seat as usize - 1, amount);
         self.total += amount;
     }

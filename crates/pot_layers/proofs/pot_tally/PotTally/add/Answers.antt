@@ -2,7 +2,7 @@ use Rattle.std.proofs.Common.{◌≡◌, ◌∙◌, ◌+◌, ◌-◌, ◌<◌, l
 use Rattle.std.proofs.lemmas.List.{length-map}
 use Rattle.pot_layers.specs.Tallies.{total_put}
 use Rattle.pot_layers.specs.Standings.{puts_of}
-use Rattle.pot_layers.proofs.Raised.{total_put-put_in_at}
+use Rattle.pot_layers.proofs.Raised.{nothing_added, total_put-put_in_at}
 use Rattle.pot_layers.proofs.pot_tally.PotTally.add.Goals as goal
 
 pub invariant_of-self : goal.invariant_of-self
@@ -18,3 +18,6 @@ invariant_of-self c =
       fits = let seen : total_put (puts_of c.self.inside.standings) ≡ total_put c.args.self.now =
           ap total_put c.self.view_is in omega (arith, seen, c.self.invariant.whole, c.requires.fits);
     }
+
+pub returns-then-amount-eq0 : goal.returns-then-amount-eq0
+returns-then-amount-eq0 c = rw c.if-amount-eq0.true (sym (nothing_added c.args.self.now (c.args.seat - 1)))
