@@ -13,6 +13,7 @@ use betting_round::Act;
 use card_set::{CardRow, Game, read_row};
 use floor_text::{Name, read_number};
 use level_plan::MOST_SEATS;
+use memchr::memchr;
 use std::marker::Model;
 
 /// The byte between two words of a line.
@@ -27,7 +28,7 @@ pub const MOST_MEMBERS: usize = MOST_SEATS as usize;
 fn first_of(between: u8, bytes: &[u8]) -> Option<usize>
     ensures { result ≡ position (λ byte. byte == between) bytes.now }
 {
-    bytes.iter().position(|byte| *byte == between)
+    memchr(between, bytes)
 }
 
 /// The words of a line that are still to be read, or the pieces of a word. Contracts see it as their list.
