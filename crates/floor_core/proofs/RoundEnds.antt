@@ -1,6 +1,6 @@
 -- Switches and ends of rounds, by their checks.
-use Rattle.std.proofs.Common.{◌≡◌, ◌∙◌, refl, sym, ap, ℕ, ◌+◌, Bool, List, ◌++◌}
-use Rattle.std.specs.Prelude.{Some, None}
+use Rattle.std.proofs.Common.{◌≡◌, refl, ◌+◌, Bool, ◌++◌}
+use Rattle.std.specs.Prelude.{None}
 use Rattle.rulebook.specs.Checks.{first_that_holds}
 use Rattle.rulebook.proofs.Checks.{none_holds-both}
 use Rattle.hand_rounds.specs.Rounds.{round_checks as close_checks, switch_checks, round_closed}

@@ -79,7 +79,7 @@ fn dealt_seats(
     requires { list_all has_lawful_seat (players_in slots.now) ≡ true }
     ensures { IfOk result (λ seats. seats ≡ dealt_of waiting (players_in slots.now)) }
 {
-    let mut seats = List::new(alloc);
+    let mut seats = List::from_vec(Vec::with_capacity(alloc, slots.len())?);
     for slot in slots {
         push_dealt(&mut seats, slot, waiting)?;
     }

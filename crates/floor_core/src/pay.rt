@@ -3,12 +3,12 @@
 ghost use Rattle.std.specs.Prelude.{◌≡◌, ◌<◌, length};
 ghost use Rattle.seat_book.specs.Places.{IsTableOf};
 ghost use Rattle.seat_book.specs.Seatings.{IsSeating};
-ghost use Rattle.table_engine.specs.Results.{with_stack, with_stacks};
+ghost use Rattle.table_engine.specs.Results.{with_stacks};
 ghost use Rattle.tournament_rules.specs.Players.{pay_one, put_back};
 ghost use Rattle.tournament_rules.specs.Effects.{with_table, at_rest};
 ghost use Rattle.floor_core.specs.Pay.{ArePayees};
 
-use entry_list::MOST_ENTRIES;
+use rulebook::MOST_ENTRIES;
 use seat_book::{SeatBook, TableStatus};
 use table_engine::StartSeat;
 
@@ -37,13 +37,6 @@ pub(crate) fn pay_players(seats: &mut SeatBook, payees: &[StartSeat])
     }
 }
 
-/// Lists a player with another stack, in chips.
-fn with_stack(player: StartSeat, stack: u64) -> StartSeat
-    ensures { result ≡ with_stack player stack }
-{
-    StartSeat { stack, ..player }
-}
-
 /// Gives the players of a hand the stacks that they have after it, each by his number.
 pub(crate) fn pay_stacks(seats: &mut SeatBook, players: &[StartSeat], stacks: &[u64])
     requires payees { ArePayees players.now }
@@ -54,7 +47,7 @@ pub(crate) fn pay_stacks(seats: &mut SeatBook, players: &[StartSeat], stacks: &[
     ensures lawful { IsSeating seats.new }
 {
     for index in 0..players.len() {
-        pay(seats, with_stack(players[index], stacks[index]));
+        pay(seats, players[index].with_stack(stacks[index]));
     }
 }
 

@@ -5,7 +5,7 @@ ghost use Rattle.table_engine.specs.Starts.{IsLawfulStart};
 ghost use Rattle.table_engine.specs.Hands.{due_in_hand, due_name, is_over, seat_of_name};
 ghost use Rattle.table_engine.specs.Acts.{refusal_in_seat, refusal_of_act, refusal_of_time, act_in_time, done_in_seat, done_of_act, done_of_time, hand_after, hand_after_time, IsAnswer};
 ghost use Rattle.table_engine.specs.Awards.{awards_in_hand, most_awarded};
-ghost use Rattle.table_engine.specs.Results.{is_won_by_folds, starting_stacks};
+ghost use Rattle.table_engine.specs.Results.{is_won_by_folds, showdown_awards, starting_stacks};
 ghost use Rattle.table_engine.specs.Plays.{IsLawfulPlay, IsCompletePlay};
 
 use crate::awards::Awards;
@@ -187,6 +187,27 @@ impl Hand {
         self.act_in_seat(name, seat, act, true)
     }
 
+    /// What the players get of the pots at the showdown of a hand that is over, in chips, by seat: index 0 is seat 1.
+    #[inline(never)]
+    fn showdown_awards(&self) -> [u64; 10]
+        requires over { IsTrue (is_over self.now) }
+        requires many { is_won_by_folds self.now ≡ false }
+        ensures awards { result ≡ showdown_awards self.now }
+        ensures few { sum result < 2 ^ 53 }
+    {
+        let dealt = dealt_seats(&self.start);
+        let live = all_live(&self.start, dealt, &self.standing.round);
+        award(
+            &self.tally.pots(),
+            &live,
+            board_of(&self.start, dealt),
+            self.start.game,
+            self.start.unit,
+            self.start.marks.button,
+            self.start.seat_count,
+        )
+    }
+
     /// What the players get of the pots of a hand that is over.
     fn awards(&self) -> Awards
         requires { IsTrue (is_over self.now) }
@@ -196,17 +217,7 @@ impl Hand {
         if self.is_won_by_folds() {
             return Awards::Sole(self.standing.before + self.standing.round.put());
         }
-        let dealt = dealt_seats(&self.start);
-        let live = all_live(&self.start, dealt, &self.standing.round);
-        Awards::BySeat(award(
-            &self.tally.pots(),
-            &live,
-            board_of(&self.start, dealt),
-            self.start.game,
-            self.start.unit,
-            self.start.marks.button,
-            self.start.seat_count,
-        ))
+        Awards::BySeat(self.showdown_awards())
     }
 
     /// Ends a hand that is over: where one player alone is live he gets everything, else each pot goes to the best

@@ -6,7 +6,7 @@ ghost use Rattle.betting_round.specs.StreetActs.{chips_on};
 ghost use Rattle.betting_round.specs.WhoIsDue.{player_in};
 ghost use Rattle.level_plan.specs.Items.{is_between};
 ghost use Rattle.table_engine.specs.Awards.{most_awarded, stack_after};
-ghost use Rattle.table_engine.specs.Results.{with_stack, with_stacks};
+ghost use Rattle.table_engine.specs.Results.{with_stacks};
 
 use crate::awards::Awards;
 use crate::start::StartSeat;
@@ -38,19 +38,12 @@ pub(crate) fn pay(stacks: &mut [u64], players: &[StartSeat], round: &Round, awar
     }
 }
 
-/// A player with another stack, in chips.
-fn with_stack(player: StartSeat, stack: u64) -> StartSeat
-    ensures { result ≡ with_stack player stack }
-{
-    StartSeat { stack, ..player }
-}
-
-/// Gives each player the stack in his place of the list, in chips.
+/// Gives each player the stack at his index of the list, in chips.
 pub(crate) fn set_stacks(players: &mut [StartSeat], stacks: &[u64])
     requires { length stacks.now ≡ length players.old }
     ensures { players.new ≡ with_stacks players.old stacks.now }
 {
-    for place in 0..players.len() {
-        players[place] = with_stack(players[place], stacks[place]);
+    for index in 0..players.len() {
+        players[index] = players[index].with_stack(stacks[index]);
     }
 }

@@ -172,19 +172,20 @@ impl Standing {
         }
     }
 
-    /// The hand once the next street has begun.
-    fn next(&self, start: &HandStart) -> Standing
+    /// Begins the next street.
+    #[inline(never)]
+    fn begin_next(&mut self, start: &HandStart)
         requires lawful { IsLawfulStart start.now }
-        requires ready { IsReady self.now }
-        requires some { 1 ≤ self.now.left }
-        ensures at { (streets : Streets) → IsAt streets self.now → IsAt (with_next_street start.now streets) result }
-        ensures ready { IsReady result }
-        ensures there { map is_some result.round.players ≡ map is_some self.now.round.players }
-        ensures left { result.left + 1 ≡ self.now.left }
+        requires ready { IsReady self.old }
+        requires some { 1 ≤ self.old.left }
+        ensures at { (streets : Streets) → IsAt streets self.old → IsAt (with_next_street start.now streets) self.new }
+        ensures ready { IsReady self.new }
+        ensures there { map is_some self.new.round.players ≡ map is_some self.old.round.players }
+        ensures left { self.new.left + 1 ≡ self.old.left }
     {
         let counted = self.before + self.round.put();
         let bettors = self.round.next_bettors();
-        Standing {
+        *self = Standing {
             round: Round::start(
                 &bettors,
                 start.marks.button,
@@ -195,7 +196,7 @@ impl Standing {
             ),
             before: counted,
             left: self.left - 1,
-        }
+        };
     }
 
     /// Begins every street that may begin: a later one begins where the one before it has ended.
@@ -213,7 +214,7 @@ impl Standing {
         if !has_ended(&self.round) {
             return;
         }
-        *self = self.next(start);
+        self.begin_next(start);
         self.deal_on(start)
     }
 

@@ -2,6 +2,7 @@
 
 ghost use Rattle.std.specs.Prelude.{◌≡◌, IfOk};
 ghost use Rattle.table_engine.specs.Hands.{player_of, seat_of_name, name_in_seat};
+ghost use Rattle.table_engine.specs.Results.{with_stack};
 
 use button_blinds::Marks;
 use card_set::{Deck, Game};
@@ -19,6 +20,15 @@ pub struct StartSeat {
     pub name: Name,
     /// His stack before the blinds, in chips.
     pub stack: u64,
+}
+
+impl StartSeat {
+    /// Gives the player with another stack, in chips.
+    pub fn with_stack(self, stack: u64) -> StartSeat
+        ensures { result ≡ with_stack self stack }
+    {
+        StartSeat { stack, ..self }
+    }
 }
 
 /// All that a hand is made of before the first act.

@@ -1,6 +1,6 @@
-use Rattle.std.proofs.Common.{◌≡◌, ◌∙◌, ◌<◌, sym, ap, length, arith}
+use Rattle.std.proofs.Common.{◌≡◌, ◌∙◌, ◌<◌, ap, length, arith}
 use Rattle.seat_book.specs.Seatings.{Seating}
-use Rattle.floor_core.proofs.Raised.{raised_so_far, raised-none, raised-count, raised-next, raised-all}
+use Rattle.floor_core.proofs.Raised.{raised-none, raised-count, raised-next, raised-all}
 use Rattle.floor_core.proofs.level.raise.Goals as goal
 
 pub loop-below-init : goal.loop-below-init

@@ -1,4 +1,4 @@
-use Rattle.std.proofs.Common.{◌≡◌, ◌∙◌, ap, ℕ, get_or, arith}
+use Rattle.std.proofs.Common.{◌≡◌, ap, ℕ, get_or, arith}
 use Rattle.floor_core.proofs.Raced.{restacked_first, restacked_next, restacked_last}
 use Rattle.floor_core.proofs.race.restack.Goals as goal
 

@@ -1,4 +1,4 @@
-use Rattle.std.proofs.Common.{◌≡◌, sym, ap, ℕ, ◌<◌, arith}
+use Rattle.std.proofs.Common.{sym, ap, ◌<◌, arith}
 use Rattle.std.specs.Prelude.{Option}
 use Rattle.std.specs.Option.{option_map_or}
 use Rattle.seat_book.specs.declared.seated.Seated.{Seated}

@@ -1,4 +1,4 @@
-use Rattle.std.proofs.Common.{◌≡◌, ◌∙◌, ◌<◌, ◌+◌, ◌++◌, sym, ap, ℕ, List, [], ◌∷◌, take, drop, set, get_or, length, arith}
+use Rattle.std.proofs.Common.{◌≡◌, ◌∙◌, ◌<◌, ◌++◌, sym, ap, ℕ, List, [], ◌∷◌, take, drop, set, get_or, arith}
 use Rattle.tournament_rules.specs.Racing.{stacks_at}
 use Rattle.tournament_rules.proofs.BySeats.{stacks-at}
 use Rattle.floor_core.proofs.Raced.{written-next}

@@ -1,5 +1,4 @@
-use Rattle.std.proofs.Common.{◌≡◌, ◌∙◌, sym, ap, ℕ, List, ◌++◌}
-use Rattle.std.specs.Prelude.{Some, None}
+use Rattle.std.proofs.Common.{◌∙◌, sym, ap, ℕ, ◌++◌}
 use Rattle.rulebook.specs.Checks.{first_that_holds}
 use Rattle.rulebook.proofs.Checks.{first_that_holds-later}
 use Rattle.tournament_rules.specs.Checks.{going_checks, table_checks, due_checks, deck_checks, begin_checks}

@@ -1,5 +1,4 @@
-use Rattle.std.proofs.Common.{◌≡◌, ◌∙◌, sym, ap}
-use Rattle.std.specs.Prelude.{Some, None}
+use Rattle.std.proofs.Common.{◌∙◌, sym, ap}
 use Rattle.rulebook.specs.Checks.{first_that_holds}
 use Rattle.hand_rounds.specs.Rounds.{switch_checks}
 use Rattle.tournament_rules.specs.Books.{BookState}

@@ -1,51 +1,12 @@
-use Rattle.std.proofs.Common.{◌≡◌, ◌∙◌, ℕ, ◌+◌, true, false, List, ap, sym, arith}
+use Rattle.std.proofs.Common.{◌≡◌, ◌∙◌, ℕ, ◌+◌, true, ap, sym, arith}
 use Rattle.betting_round.specs.StreetActs.{put_by_all}
-use Rattle.pot_layers.specs.Layers.{is_contested, layers}
-use Rattle.pot_layers.specs.Tallies.{total_put}
 use Rattle.table_engine.specs.contracts.hand.Hand.{the_view}
-use Rattle.table_engine.specs.declared.awards.Awards.TheVariants.{Sole, BySeat}
-use Rattle.table_engine.specs.Hands.{is_over}
-use Rattle.table_engine.specs.Results.{is_won_by_folds, pot, puts_in_hand}
+use Rattle.table_engine.specs.declared.awards.Awards.TheVariants.{Sole}
+use Rattle.table_engine.specs.Results.{is_won_by_folds, pot}
 use Rattle.table_engine.proofs.Chips.{pot-is}
 use Rattle.table_engine.proofs.Puts.{hand-few}
-use Rattle.table_engine.proofs.Showdowns.{are-pots, is-showdown, live-apart, live-is, put-pot, showdown-is}
-use Rattle.table_engine.proofs.Standings.{lawful-unit}
+use Rattle.table_engine.proofs.Showdowns.{put-pot}
 use Rattle.table_engine.proofs.hand.Hand.awards.Goals as goal
-
-pub pots-requires : goal.pots-requires
-pots-requires c =
-    let hand = the_view c.self.inside in
-    let over : is_over hand ≡ true = rw (← c.self.view_is) at c.requires in
-    let many : is_won_by_folds hand ≡ false = rw (← c.self.view_is) at (sym c.if-is_won_by_folds.ensures) in
-    let showdown = is-showdown hand c.self.invariant.lawful c.self.invariant.played over many in
-    ap is_contested c.self.invariant.told ∙ showdown.contested
-
-pub award-requires : goal.award-requires
-award-requires c =
-    let hand = the_view c.self.inside in
-    let over : is_over hand ≡ true = rw (← c.self.view_is) at c.requires in
-    let many : is_won_by_folds hand ≡ false = rw (← c.self.view_is) at (sym c.if-is_won_by_folds.ensures) in
-    let lawful = c.self.invariant.lawful in
-    let showdown = is-showdown hand lawful c.self.invariant.played over many in
-    let live = c.all_live-live.ensures ∙ live-is hand c.self.inside.standing.round c.self.invariant.at.round in
-    let cut : c.pots.result ≡ layers (puts_in_hand hand) = c.pots.ensures.pots ∙ ap layers c.self.invariant.told in
-    let pots = are-pots hand showdown in
-    let told = ap total_put c.self.invariant.told in
-    let fits = showdown.fits in
-    let all = c.pots.ensures.sum in
-    record {
-      unit = lawful-unit c.self.inside.start lawful;
-      some = lawful.some_seats;
-      most = lawful.most_seats;
-      button_low = lawful.marks.button.0;
-      button_high = lawful.marks.button.1;
-      table = rw live showdown.table;
-      apart = rw (c.board_of.ensures.board, live) (live-apart hand c.board_of.ensures.deck lawful);
-      live = rw (live, cut) pots.own;
-      somebody = rw cut pots.somebody;
-      units = rw cut pots.units;
-      fits = omega arith;
-    }
 
 pub returns-then-is_won_by_folds-clause-awards : goal.returns-then-is_won_by_folds-clause-awards
 returns-then-is_won_by_folds-clause-awards c =
@@ -66,32 +27,4 @@ returns-then-is_won_by_folds-clause-most c =
     let puts = put-pot hand c.self.invariant.lawful in
     let few = hand-few hand c.self.invariant.lawful c.self.invariant.played in
     let chips = c.self.invariant.lawful.chips in
-    omega arith
-
-pub returns-clause-awards : goal.returns-clause-awards
-returns-clause-awards c =
-    let hand = the_view c.self.inside in
-    let over : is_over hand ≡ true = rw (← c.self.view_is) at c.requires in
-    let many : is_won_by_folds hand ≡ false = rw (← c.self.view_is) at (sym c.if-is_won_by_folds.ensures) in
-    let lawful = c.self.invariant.lawful in
-    let showdown = is-showdown hand lawful c.self.invariant.played over many in
-    let live = c.all_live-live.ensures ∙ live-is hand c.self.inside.standing.round c.self.invariant.at.round in
-    let cut : c.pots.result ≡ layers (puts_in_hand hand) = c.pots.ensures.pots ∙ ap layers c.self.invariant.told in
-    let is = c.award.ensures.awards ∙ showdown-is hand c.board_of.result c.all_live-live.result c.pots.result
-    c.board_of.ensures.board live cut in
-    rw (← c.self.view_is) (rw many (ap (λ (awards : List ℕ). BySeat awards) is))
-
-pub returns-clause-most : goal.returns-clause-most
-returns-clause-most c =
-    let hand = the_view c.self.inside in
-    let over : is_over hand ≡ true = rw (← c.self.view_is) at c.requires in
-    let many : is_won_by_folds hand ≡ false = rw (← c.self.view_is) at (sym c.if-is_won_by_folds.ensures) in
-    let lawful = c.self.invariant.lawful in
-    let showdown = is-showdown hand lawful c.self.invariant.played over many in
-    let live = c.all_live-live.ensures ∙ live-is hand c.self.inside.standing.round c.self.invariant.at.round in
-    let cut : c.pots.result ≡ layers (puts_in_hand hand) = c.pots.ensures.pots ∙ ap layers c.self.invariant.told in
-    let told = ap total_put c.self.invariant.told in
-    let fits = showdown.fits in
-    let all = c.pots.ensures.sum in
-    let given = c.award.ensures.sum in
     omega arith

@@ -9,6 +9,6 @@ returns-then-not-has_ended-clause-at t c = λ streets at. at-open c.args.start.n
 
 pub returns-clause-at : goal.returns-clause-at
 returns-clause-at t c = λ streets at.
-    at-ended c.args.start.now streets c.args.self.now c.next.result _ c.if-self-eq0.false
-    (sym c.has_ended.ensures ∙ c.if-not-has_ended.false) c.next.ensures.left at
-    (c.deal_on.ensures.at (with_next_street c.args.start.now streets) (c.next.ensures.at streets at))
+    at-ended c.args.start.now streets c.args.self.now c.begin_next.new.self _ c.if-self-eq0.false
+    (sym c.has_ended.ensures ∙ c.if-not-has_ended.false) c.begin_next.ensures.left at
+    (c.deal_on.ensures.at (with_next_street c.args.start.now streets) (c.begin_next.ensures.at streets at))
