@@ -119,7 +119,7 @@ at_next_street player = record player.bettor { put = 0 }
 abbrev pub next_bettors : Street → List (Option Bettor)
 next_bettors street = map (option_map at_next_street) street.players
 
--- Each player sits in the seat of his place in the list, counted from this seat.
+-- Each player sits in the seat of his index in the list, counted from this seat.
 abbrev pub AreSeated : ℕ → List (Option Bettor) → Type 0
 AreSeated from [] = Unit {0}
 AreSeated from (None ∷ bettors) = AreSeated (from + 1) bettors

@@ -1,11 +1,11 @@
--- What is left of a list's numbers that pass a test, from a place on.
+-- What is left of a list's numbers that pass a test, from an index on.
 use Rattle.std.proofs.Common.{◌≡◌, ℕ, ◌+◌, ◌<◌, Bool, true, false, cond, List, ◌∷◌, length, drop, get_or, ap, ◌∙◌, refl, add-one, drop-cons}
 use Rattle.std.specs.Prelude.{filter}
 
 abbrev pub left_of : (ℕ → Bool) → List ℕ → ℕ → List ℕ
 left_of test items i = filter test (drop i items)
 
--- the number at the place is among them, if it passes
+-- the number at the index is among them, if it passes
 pub left_of-more : (test : ℕ → Bool) (items : List ℕ) (i : ℕ) → i < length items
     → left_of test items i ≡ cond (test (get_or items i 0)) (get_or items i 0 ∷ left_of test items (i + 1))
     (left_of test items (i + 1))

@@ -9,7 +9,7 @@ use Rattle.card_set.specs.declared.card.Card.{Card}
 use Rattle.card_set.specs.Decks.{IsDeck, IsInOrder, is_same_card, repeats_a_card}
 use Rattle.card_set.proofs.CardLaws.{test_fails, test_passes, same-from_is_same_card, differ-from_is_same_card, is_same_card-from_differ}
 
--- in a deck in order no card comes twice, since no two places have the same quotient and the same rest
+-- in a deck in order no card comes twice, since no two indices have the same quotient and the same rest
 pub in_order_is_deck : (cards : List Card) → length cards ≡ 52 → IsInOrder cards → IsDeck cards
 in_order_is_deck cards size order = record {
   whole = size;
@@ -26,26 +26,26 @@ in_order_is_deck cards size order = record {
 }
 
 -- one more card, which the cards before it are not
-pub distinct-more : (cards : List Card) (place : ℕ) (d : Card) → place < length cards
-    → AllPairs (λ one other. one ≢ other) (take place cards)
-    → AllWithin (λ one. is_same_card one (slice_index_or cards place d) ≡ false) (take place cards) 0
-    (length (take place cards)) → AllPairs (λ one other. one ≢ other) (take (place + 1) cards)
-distinct-more cards place d within distinct new =
-    rw (take_more cards place d within)
-    (all_pairs_push (λ one other. one ≢ other) (take place cards) (slice_index_or cards place d) distinct
-    (λ k e below. differ-from_is_same_card (slice_index_or (take place cards) k e) (slice_index_or cards place d)
+pub distinct-more : (cards : List Card) (index : ℕ) (d : Card) → index < length cards
+    → AllPairs (λ one other. one ≢ other) (take index cards)
+    → AllWithin (λ one. is_same_card one (slice_index_or cards index d) ≡ false) (take index cards) 0
+    (length (take index cards)) → AllPairs (λ one other. one ≢ other) (take (index + 1) cards)
+distinct-more cards index d within distinct new =
+    rw (take_more cards index d within)
+    (all_pairs_push (λ one other. one ≢ other) (take index cards) (slice_index_or cards index d) distinct
+    (λ k e below. differ-from_is_same_card (slice_index_or (take index cards) k e) (slice_index_or cards index d)
     (new k e (omega arith) below)))
 
--- a card that comes before a place and at it comes twice
-pub comes_twice : (cards : List Card) (place : ℕ) (d : Card) → place < length cards → (k : ℕ)
-    → k < length (take place cards)
-    → HoldsAt (λ one. is_same_card one (slice_index_or cards place d) ≡ true) (take place cards) k → IsDeck cards → ⊥
-comes_twice cards place d within k below test deck =
-    let size : length (take place cards) ≡ place = length-take-le place cards (omega arith) in
-    let before : k < place = omega arith in
-    let same : slice_index_or (take place cards) k d ≡ slice_index_or cards place d =
+-- a card that comes before an index and at it comes twice
+pub comes_twice : (cards : List Card) (index : ℕ) (d : Card) → index < length cards → (k : ℕ)
+    → k < length (take index cards)
+    → HoldsAt (λ one. is_same_card one (slice_index_or cards index d) ≡ true) (take index cards) k → IsDeck cards → ⊥
+comes_twice cards index d within k below test deck =
+    let size : length (take index cards) ≡ index = length-take-le index cards (omega arith) in
+    let before : k < index = omega arith in
+    let same : slice_index_or (take index cards) k d ≡ slice_index_or cards index d =
     same-from_is_same_card _ _ (test d) in
-    deck.distinct k place d before within (sym (get_or-take place cards k d before) ∙ same)
+    deck.distinct k index d before within (sym (get_or-take index cards k d before) ∙ same)
 
 neither_passes : (first second : Bool) → first ≡ false → second ≡ false → (first || second) ≡ false
 neither_passes first second first_fails second_fails = rw (first_fails, second_fails) refl

@@ -29,11 +29,11 @@ map_found : {A B : Type 0} (f : A → B) (o : Option A) (y : B) → option_map f
 map_found f None y h = absurd cc
 map_found f (Some x) y h = (x, refl, same_Some (f x) y h)
 
--- a letter that was looked up stands at the place that was found
-place_found : (letters : List ℕ) (letter place : ℕ) → position (λ known. known == letter) letters ≡ Some place
-    → slice_index letters place ≡ letter
-place_found letters letter place h =
-    eqb-true (slice_index letters place) letter (position-Some (λ known. known == letter) letters place 0 h).1
+-- a letter that was looked up stands at the index that was found
+index_found : (letters : List ℕ) (letter index : ℕ) → position (λ known. known == letter) letters ≡ Some index
+    → slice_index letters index ≡ letter
+index_found letters letter index h =
+    eqb-true (slice_index letters index) letter (position-Some (λ known. known == letter) letters index 0 h).1
 
 and_parts : (a b : Bool) → (a && b) ≡ true → (a ≡ true) × (b ≡ true)
 and_parts true b h = (refl, h)
@@ -54,40 +54,40 @@ holds_below p (suc n) k h below =
       | false ↦ λ other. let less : k < n = grind (arith, nat_tests) in holds_below p n k both.1 less
     ] refl
 
--- whether each letter is found at its own place, as where no letter comes twice
+-- whether each letter is found at its own index, as where no letter comes twice
 is_found_again : List ℕ → Bool
 is_found_again letters =
-    all_below (λ place. position_or_len (λ known. known == slice_index letters place) letters == place) (length letters)
+    all_below (λ index. position_or_len (λ known. known == slice_index letters index) letters == index) (length letters)
 
--- a letter is found at its place
-place_again : (letters : List ℕ) (place : ℕ) → is_found_again letters ≡ true → place < length letters
-    → position (λ known. known == slice_index letters place) letters ≡ Some place
+-- a letter is found at its index
+index_again : (letters : List ℕ) (index : ℕ) → is_found_again letters ≡ true → index < length letters
+    → position (λ known. known == slice_index letters index) letters ≡ Some index
 unfolding is_found_again
-place_again letters place h within =
+index_again letters index h within =
     let test = holds_below (λ k. position_or_len (λ known. known == slice_index letters k) letters == k)
-    (length letters) place h within in
-    let found : position_or_len (λ known. known == slice_index letters place) letters ≡ place = eqb-true _ place test in
-    let inside : nat_lt place (length letters) ≡ true = grind (arith, nat_tests) in
+    (length letters) index h within in
+    let found : position_or_len (λ known. known == slice_index letters index) letters ≡ index = eqb-true _ index test in
+    let inside : nat_lt index (length letters) ≡ true = grind (arith, nat_tests) in
     rw (found, inside) refl
 
 rank_found : (letter rank : ℕ) → rank_of letter ≡ Some rank → rank_letter rank ≡ letter
 rank_found letter rank h =
-    let place = map_found (λ p. p + 2) (position (λ known. known == letter) rank_letters) rank h in
-    let counted : rank - 2 ≡ place.0 = omega (arith, place.2) in
-    ap (slice_index rank_letters) counted ∙ place_found rank_letters letter place.0 place.1
+    let index = map_found (λ p. p + 2) (position (λ known. known == letter) rank_letters) rank h in
+    let counted : rank - 2 ≡ index.0 = omega (arith, index.2) in
+    ap (slice_index rank_letters) counted ∙ index_found rank_letters letter index.0 index.1
 
 rank_again : (rank : ℕ) → 2 ≤ rank → rank ≤ 14 → rank_of (rank_letter rank) ≡ Some rank
 unfolding is_found_again all_below
 rank_again rank low high =
     let counted : rank - 2 + 2 ≡ rank = omega arith in
-    ap (option_map (λ place. place + 2)) (place_again rank_letters (rank - 2) refl (omega arith)) ∙ ap Some counted
+    ap (option_map (λ index. index + 2)) (index_again rank_letters (rank - 2) refl (omega arith)) ∙ ap Some counted
 
 suit_found : (letter suit : ℕ) → suit_of letter ≡ Some suit → suit_letter suit ≡ letter
-suit_found letter suit h = place_found (codes "cdhs") letter suit h
+suit_found letter suit h = index_found (codes "cdhs") letter suit h
 
 suit_again : (suit : ℕ) → suit < 4 → suit_of (suit_letter suit) ≡ Some suit
 unfolding is_found_again all_below
-suit_again suit few = place_again (codes "cdhs") suit refl few
+suit_again suit few = index_again (codes "cdhs") suit refl few
 
 card_by_found : (rank suit : ℕ) (two ace four : Bool) (t : nat_le 2 rank ≡ two) (a : nat_le rank 14 ≡ ace)
     (f : nat_lt suit 4 ≡ four) (card : Card) → card_by rank suit two ace four t a f ≡ Some card

@@ -27,28 +27,28 @@ pub seen-none : IsSeen (replicate 52 false) []
 seen-none = λ index within. get_or-replicate 52 index false false within
 
 -- one more card
-pub seen-more : (seen : List Bool) (cards : List Card) (place : ℕ) (card : Card) → length seen ≡ 52
-    → place < length cards → card ≡ slice_index_or cards place card
-    → IsSeen seen (take place cards) → IsSeen (set seen (index_of card) true) (take (place + 1) cards)
-seen-more seen cards place card size within is was = λ index less. elim (cases_eq (index_of card) index) [
+pub seen-more : (seen : List Bool) (cards : List Card) (next : ℕ) (card : Card) → length seen ≡ 52
+    → next < length cards → card ≡ slice_index_or cards next card
+    → IsSeen seen (take next cards) → IsSeen (set seen (index_of card) true) (take (next + 1) cards)
+seen-more seen cards next card size within is was = λ index less. elim (cases_eq (index_of card) index) [
   | inl same ↦
       let inside : index < length seen = omega (arith, size, less) in
       rw (same) (get_or-set_same seen index true false inside
-      ∙ sym (more index ∙ or_right (list_any (λ card. index_of card == index) (take place cards))
+      ∙ sym (more index ∙ or_right (list_any (λ card. index_of card == index) (take next cards))
       (index_of card == index) (eq-eqb (index_of card) index same)))
   | inr apart ↦
       let differ : index ≢ index_of card = λ same. apart (sym same) in
       get_or-set_other seen (index_of card) index true false differ
       ∙ (was index less ∙ sym (more index ∙ (ap (λ (b : Bool). list_any (λ card. index_of card == index)
-      (take place cards) || b) (ne_eqb (index_of card) index apart)
-      ∙ or_none (list_any (λ card. index_of card == index) (take place cards)))))
+      (take next cards) || b) (ne_eqb (index_of card) index apart)
+      ∙ or_none (list_any (λ card. index_of card == index) (take next cards)))))
 ]
   where
     more : (index : ℕ) → list_any (λ card. index_of card == index)
-        (take (place + 1) cards) ≡ (list_any (λ card. index_of card == index) (take place cards) ||
+        (take (next + 1) cards) ≡ (list_any (λ card. index_of card == index) (take next cards) ||
         (index_of card == index))
-    more index = list_any_more (λ card. index_of card == index) cards place card within
-        ∙ ap (λ (other : Card). list_any (λ card. index_of card == index) (take place cards) ||
+    more index = list_any_more (λ card. index_of card == index) cards next card within
+        ∙ ap (λ (other : Card). list_any (λ card. index_of card == index) (take next cards) ||
         (index_of other == index)) (sym is)
 
     or_none : (b : Bool) → (b || false) ≡ b

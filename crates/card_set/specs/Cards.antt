@@ -32,7 +32,7 @@ row_text cards = cards_text cards
 
 -- the rank that a letter spells: the one of 2 to 14 whose letter it is
 abbrev pub rank_of : ℕ → Option ℕ
-rank_of letter = option_map (λ place. place + 2) (position (λ known. known == letter) rank_letters)
+rank_of letter = option_map (λ index. index + 2) (position (λ known. known == letter) rank_letters)
 
 -- the suit that a letter spells: the one of 0 to 3 whose letter it is
 abbrev pub suit_of : ℕ → Option ℕ

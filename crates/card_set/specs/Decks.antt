@@ -18,13 +18,13 @@ abbrev pub repeats_a_card : List Card → Bool
 repeats_a_card [] = false
 repeats_a_card (card ∷ cards) = list_any (is_same_card card) cards || repeats_a_card cards
 
--- the place of a card in a deck that is in order: by rank from the twos, and of each rank by suit
+-- the index of a card in a deck that is in order: by rank from the twos, and of each rank by suit
 abbrev pub index_of : Card → ℕ
 index_of card = (card.rank - 2) * 4 + card.suit
 
--- in order, the card at each place, counted from 0, has a rank that is 2 more than the place divided by 4, and the
+-- in order, the card at each index has a rank that is 2 more than the index divided by 4, and the
 -- remainder is its suit: from the twos to the aces, and of each rank clubs, diamonds, hearts, spades
 abbrev pub IsInOrder : List Card → Type 0
-IsInOrder cards = (place : ℕ) (other : Card) → place < 52
-    → ((slice_index_or cards place other).rank ≡ 2 + place / 4)
-    × ((slice_index_or cards place other).suit ≡ place % 4)
+IsInOrder cards = (index : ℕ) (other : Card) → index < 52
+    → ((slice_index_or cards index other).rank ≡ 2 + index / 4)
+    × ((slice_index_or cards index other).suit ≡ index % 4)

@@ -26,7 +26,7 @@ impl Model for Deck {
     ghost inverse = { λ cards. record { cards = cards } };
 }
 
-/// The place of a card in a deck that is in order, from 0.
+/// The index of a card in a deck that is in order.
 fn index_of(card: Card) -> usize
     ensures index { result ≡ index_of card }
     ensures within { result < 52 }
@@ -42,12 +42,12 @@ impl Deck {
         ensures row { IfSome result (λ deck. deck ≡ row.now.cards) }
     {
         let mut seen = [false; 52];
-        for place in 0..52 {
-            let index = index_of(row.cards[place]);
-            if seen[index] {
+        for index in 0..52 {
+            let number = index_of(row.cards[index]);
+            if seen[number] {
                 return None;
             }
-            seen[index] = true;
+            seen[number] = true;
         }
         Some(Deck { cards: row.cards })
     }
@@ -58,22 +58,22 @@ impl Deck {
         ensures deck { IsDeck result }
     {
         let mut cards = [Card { rank: 2, suit: 0 }; 52];
-        for place in 0u8..52 {
-            cards[place as usize] = Card {
-                rank: 2 + place / 4,
-                suit: place % 4,
+        for index in 0u8..52 {
+            cards[index as usize] = Card {
+                rank: 2 + index / 4,
+                suit: index % 4,
             };
         }
         Deck { cards }
     }
 
-    /// The card at a place, from 0.
-    pub fn card(&self, place: usize) -> Card
-        requires { place < 52 }
-        ensures card { slice_get self.now place ≡ Some result }
+    /// The card at an index: 0 is the top of the deck.
+    pub fn card(&self, index: usize) -> Card
+        requires { index < 52 }
+        ensures card { slice_get self.now index ≡ Some result }
         ensures deck { IsDeck self.now }
     {
-        self.cards[place]
+        self.cards[index]
     }
 
     /// The row of the deck's cards.

@@ -73,13 +73,13 @@ fn rows_are_read(rt: HostRuntime) -> Result<(), Fail> {
     let row = read_row(SORTED).ok_or("a row")?;
     let deck = Deck::of_row(&row).ok_or("a deck")?;
     let sorted = Deck::sorted();
-    for place in 0..52 {
-        assert_eq!(rt; row.cards[place], sorted.card(place), "{place}");
-        assert_eq!(rt; deck.card(place), sorted.card(place), "{place}");
+    for index in 0..52 {
+        assert_eq!(rt; row.cards[index], sorted.card(index), "{index}");
+        assert_eq!(rt; deck.card(index), sorted.card(index), "{index}");
         assert_eq!(rt;
-            deck.row().cards[place],
-            sorted.row().cards[place],
-            "{place}"
+            deck.row().cards[index],
+            sorted.row().cards[index],
+            "{index}"
         );
     }
     let mut longer = [b'c'; 105];

@@ -49,7 +49,7 @@ position_past at len past = grind (arith, nat_tests)
 is_another : (byte b : ℕ) → ¬ (is_byte byte b ≡ true) → is_byte byte b ≡ false
 is_another byte b passes = elim (cases_Bool (is_byte byte b)) [ inl found ↦ absurd (passes found) | inr other ↦ other ]
 
--- The first place that holds a byte is the first that passes the test for it.
+-- The first index that holds a byte is the first that passes the test for it.
 pub first_byte_is_position : (byte : ℕ) (bytes : List ℕ) (r : Option ℕ) → IsFirstByte (is_byte byte) bytes r
     → r ≡ position (is_byte byte) bytes
 first_byte_is_position byte bytes None nowhere =

@@ -20,7 +20,7 @@ HasNoFeed-take (suc n) [] none = refl
 HasNoFeed-take (suc n) (x ∷ xs) none =
     HasNoFeed-cons x (take n xs) (first_other x xs none) (HasNoFeed-take n xs (rest_other x xs none))
 
--- the bytes up to one place, and those from it on up to another
+-- the bytes up to one index, and those from it on up to another
 take_to : (held : List ℕ) (from to : ℕ) → from ≤ to → take to held ≡ take from held ++ slice_range held from to
 take_to held from to order =
     let size : to ≡ from + (to - from) = omega arith in
@@ -43,12 +43,12 @@ first_from held from to at order inside before is low =
     let below : at < to = omega (arith, length-between held from to inside) in
     let none : HasNoFeed (slice_range held from at) =
     ap (list_any is_line_feed) (sym (front_of_range held from at to low (omega arith))) ∙ is.before in
-    let place : from + (at - from) ≡ at = omega arith in (
+    let index : from + (at - from) ≡ at = omega arith in (
       below,
       record {
         within = omega arith;
         before = none_up_to held from at low before none;
-        feed = ap (λ (k : ℕ). get_or held k 0) (sym place)
+        feed = ap (λ (k : ℕ). get_or held k 0) (sym index)
             ∙ sym (get_or-between held from to (at - from) 0 (omega arith)) ∙ is.feed;
       },
     )

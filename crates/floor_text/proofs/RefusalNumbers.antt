@@ -1,4 +1,4 @@
--- A number, or the place of a name, leads back to its refusal, so two refusals share neither.
+-- A number, or the index of a name, leads back to its refusal, so two refusals share neither.
 use Rattle.std.proofs.Common.{◌≡◌, ℕ, List, [], ◌∷◌, refl, ap, sym, ◌∙◌}
 use Rattle.std.specs.Prelude.{cond, ◌==◌}
 use Rattle.std.specs.Str.{bytes_eq}

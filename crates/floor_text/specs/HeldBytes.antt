@@ -26,12 +26,12 @@ pub record IsFirstFeed (bytes : List ℕ) (at : ℕ) : Type 0 where
   pub before : HasNoFeed (take at bytes)
   pub feed : slice_index bytes at ≡ 10
 
--- n bytes came from a source that had some bytes left, and stand in the first places; none come only at the end, or
--- where none were asked for
-pub record Gives (bytes : List ℕ) (left : Option (List ℕ)) (places : List ℕ) (ask n : ℕ) : Type 0 where
+-- n bytes came from a source that had some bytes left, and stand at the front of the buffer; none come only at the
+-- end, or where none were asked for
+pub record Gives (bytes : List ℕ) (left : Option (List ℕ)) (buffer : List ℕ) (ask n : ℕ) : Type 0 where
   pub within : n ≤ length bytes
   pub rest : left ≡ Some (drop n bytes)
-  pub given : take n places ≡ take n bytes
+  pub given : take n buffer ≡ take n bytes
   pub at_end : 0 < ask → n ≡ 0 → length bytes ≡ 0
 
 -- the bytes that came stand behind those that were kept

@@ -17,7 +17,7 @@ pub record HasCause {T E : Type 0} (before now : ℕ) (result : Result T E) : Ty
   pub later : before ≤ now
   pub failed : IsErr result → Rose before now
 
--- what a source that tells its bytes does in a take of n bytes into a buffer: they are its first, in the first places
+-- what a source that tells its bytes does in a take of n bytes into a buffer: they are its first, at the front
 pub record Takes (old : List ℕ) (new : Option (List ℕ)) (buffer : List ℕ) (n : ℕ) : Type 0 where
   pub within : n ≤ length old
   pub rest : new ≡ Some (drop n old)

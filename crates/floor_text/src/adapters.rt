@@ -38,7 +38,7 @@ impl<R: Read> Source for ReaderSource<R> {
     }
 }
 
-/// Reads what the reader has, into the first places of the buffer. `None` where it failed.
+/// Reads what the reader has, into the front of the buffer. `None` where it failed.
 fn read_once<R: Read>(reader: &mut R, buffer: &mut [u8]) -> Option<usize>
     ensures count { IfSome result (λ n. n ≤ length buffer.new) }
     ensures bytes { IfSome result (λ n. IfSome (R.remaining reader.old)

@@ -15,7 +15,7 @@ pub trait Source {
     /// How often it failed. The count never falls, and stands still at its type's end.
     ghost faults: { Self → ℕ };
 
-    /// Puts the next bytes into the buffer's first places and answers how many, at most as many as the
+    /// Puts the next bytes into the front of the buffer and answers how many, at most as many as the
     /// buffer is long. For a buffer with room it gives 0 bytes only at the end.
     fn take(&mut self, buffer: &mut [u8]) -> Result<usize, Failed>
         ensures count { IfOk result (λ n. n ≤ length buffer.new) }

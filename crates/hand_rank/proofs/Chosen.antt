@@ -1,4 +1,4 @@
--- Choices of a list: things of it, each taken at a place of its own.
+-- Choices of a list: things of it, each taken at an index of its own.
 use Rattle.std.proofs.Common.{◌≡◌, ℕ, zero, suc, ◌+◌, ◌≤◌, ◌⊎◌, inl, inr, Bool, true, false, cond, eqb, leb, List, [], ◌∷◌, length, refl, sym, ap, ◌∙◌, subst, zero-le, le_trans, le_of_eq, add-le-add, eqb-true, arith}
 use Rattle.std.specs.Prelude.{count_by, filter}
 use Rattle.std.specs.List.{list_all}
@@ -11,7 +11,7 @@ use Rattle.card_choices.specs.Choices.{choices}
 use Rattle.hand_rank.specs.BestHigh.{greater}
 use Rattle.hand_rank.proofs.ChangeLaws.{greater-combining}
 
--- these are things of a list, each taken at a place of its own, in the list's order
+-- these are things of a list, each taken at an index of its own, in the list's order
 abbrev pub IsChoice : {A : Type 0} → List A → List A → Type 0
 IsChoice [] xs = Unit {0}
 IsChoice (c ∷ cs) [] = ⊥

@@ -131,7 +131,7 @@ value-by cards ranks counts category are_ranks are_counts is =
     ∙ ap (map (count_of_rank cards)) are_ranks in
     ap₂ (λ c rs. value_by c (run_top rs) (are_of_one_suit cards) rs) (is ∙ ap category_of all) are_ranks
 
--- each rank has a place in a table of 15
+-- each rank has an index in a table of 15
 pub rank-in_table : (i : ℕ) → i < length ranks_down → get_or ranks_down i 0 < 15
 rank-in_table i within = below ranks_down refl i within
   where

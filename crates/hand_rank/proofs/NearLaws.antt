@@ -5,7 +5,7 @@ use Rattle.std.proofs.lemmas.Bool.Decides.{nat_tests}
 use Rattle.card_set.specs.declared.card.Card.{Card}
 use Rattle.hand_rank.specs.Held.{IsHighestRunWith}
 use Rattle.hand_rank.specs.Picks.{highest_below}
-use Rattle.hand_rank.specs.Runs.{holds_place, is_run, highest_run, is_in_run, is_near}
+use Rattle.hand_rank.specs.Runs.{holds_step, is_run, highest_run, is_in_run, is_near}
 use Rattle.hand_rank.specs.Sets.{has_rank, HasRanks}
 use Rattle.hand_rank.specs.Values.{count_of_rank}
 use Rattle.hand_rank.proofs.CardCounts.{other-rank, total-cards}
@@ -18,10 +18,10 @@ use Rattle.hand_rank.proofs.Sections.{total}
 use Rattle.hand_rank.proofs.ShapeLaws.{rank-within}
 use Rattle.hand_rank.proofs.SoManyLaws.{both-are}
 
-held_at : (p : ℕ → Bool) (place r : ℕ) → place ≡ r → 2 ≤ r → holds_place p place ≡ true → p r ≡ true
-held_at p place r is high holds =
+held_at : (p : ℕ → Bool) (step r : ℕ) → step ≡ r → 2 ≤ r → holds_step p step ≡ true → p r ≡ true
+held_at p step r is high holds =
     last (p r) (eqb r 1 && p 14) (off (eqb r 1) (p 14) (grind (arith, nat_tests)))
-    (subst (λ s. holds_place p s ≡ true) is holds)
+    (subst (λ s. holds_step p s ≡ true) is holds)
   where
     off : (a b : Bool) → a ≡ false → (a && b) ≡ false
     off false b is = refl
@@ -57,7 +57,7 @@ run-in p top r not_one runs is =
       | false ↦ λ outside all.
           let five : top ≡ 5 = grind (arith, nat_tests) in
           let ace : r ≡ 14 = grind (arith, nat_tests) in
-          let low : holds_place p 1 ≡ true = subst (λ t. holds_place p (t - 4) ≡ true) five parts.4 in
+          let low : holds_step p 1 ≡ true = subst (λ t. holds_step p (t - 4) ≡ true) five parts.4 in
           subst (λ s. p s ≡ true) (sym ace) (other (p 1) (p 14) not_one low)
     ]) refl is
   where
@@ -65,8 +65,8 @@ run-in p top r not_one runs is =
     other false b is_not is = is
     other true b is_not is = absurd cc
 
-place_held : (p : ℕ → Bool) (place : ℕ) → p place ≡ true → holds_place p place ≡ true
-place_held p place is = rw is refl
+step_held : (p : ℕ → Bool) (step : ℕ) → p step ≡ true → holds_step p step ≡ true
+step_held p step is = rw is refl
 
 -- a rank that is in a run, by its distance from the top
 pub in_run : (top r : ℕ) → 2 ≤ r → r ≤ top → top ≤ r + 4 → is_in_run top r ≡ true
@@ -75,16 +75,16 @@ in_run top r low up down = grind (arith, nat_tests)
 -- and where all of those are there, there is the run
 pub in-run : (p : ℕ → Bool) (top : ℕ) → 5 ≤ top → ((r : ℕ) → is_in_run top r ≡ true → p r ≡ true) → is_run p top ≡ true
 in-run p top low all =
-    run_from p top (place_held p top (all top (in_run top top (omega arith) (omega arith) (omega arith))))
-    (place_held p (top - 1) (all (top - 1) (in_run top (top - 1) (omega arith) (omega arith) (omega arith))))
-    (place_held p (top - 2) (all (top - 2) (in_run top (top - 2) (omega arith) (omega arith) (omega arith))))
-    (place_held p (top - 3) (all (top - 3) (in_run top (top - 3) (omega arith) (omega arith) (omega arith))))
-    (elim (eqb top 5) as (λ b. eqb top 5 ≡ b → holds_place p (top - 4) ≡ true) [
+    run_from p top (step_held p top (all top (in_run top top (omega arith) (omega arith) (omega arith))))
+    (step_held p (top - 1) (all (top - 1) (in_run top (top - 1) (omega arith) (omega arith) (omega arith))))
+    (step_held p (top - 2) (all (top - 2) (in_run top (top - 2) (omega arith) (omega arith) (omega arith))))
+    (step_held p (top - 3) (all (top - 3) (in_run top (top - 3) (omega arith) (omega arith) (omega arith))))
+    (elim (eqb top 5) as (λ b. eqb top 5 ≡ b → holds_step p (top - 4) ≡ true) [
       | true ↦ λ five.
           let is : top ≡ 5 = eqb-true top 5 five in
           let ace : p 14 ≡ true = all 14 (subst (λ t. is_in_run t 14 ≡ true) (sym is) refl) in
-          subst (λ t. holds_place p (t - 4) ≡ true) (sym is) (lowest (p 1) (p 14) ace)
-      | false ↦ λ more. place_held p (top - 4)
+          subst (λ t. holds_step p (t - 4) ≡ true) (sym is) (lowest (p 1) (p 14) ace)
+      | false ↦ λ more. step_held p (top - 4)
           (all (top - 4) (in_run top (top - 4) (grind (arith, nat_tests)) (omega arith) (omega arith)))
     ] refl)
   where

@@ -3,7 +3,7 @@ use Rattle.std.proofs.Common.{◌≡◌, ℕ, ◌-◌, ◌<◌, ◌≤◌, ◌�
 use Rattle.std.specs.Cmp.Lexicographic.{pointwise}
 use Rattle.std.proofs.lemmas.Bool.Decides.{nat_tests}
 use Rattle.hand_rank.specs.Picks.{highest_below, without, picked}
-use Rattle.hand_rank.specs.Runs.{holds_place, is_run, highest_run}
+use Rattle.hand_rank.specs.Runs.{holds_step, is_run, highest_run}
 use Rattle.hand_rank.specs.Values.{run_top}
 use Rattle.hand_rank.proofs.PickLaws.{IsHighest, highest-is, highest-none, Has, without-other, without-less, without-some, picked-begins}
 use Rattle.hand_rank.proofs.Needs.{Among}
@@ -32,36 +32,36 @@ or_right false b h = h
 abbrev pub Implies : (ℕ → Bool) → (ℕ → Bool) → Type 0
 Implies p q = (r : ℕ) → p r ≡ true → q r ≡ true
 
-holds_place-more : (p q : ℕ → Bool) → Implies p q → Implies (holds_place p) (holds_place q)
-holds_place-more p q more place h =
-    elim (or_cases (p place) (eqb place 1 && p 14) h) [
-      | inl here ↦ or_left (q place) (eqb place 1 && q 14) (more place here)
+holds_step-more : (p q : ℕ → Bool) → Implies p q → Implies (holds_step p) (holds_step q)
+holds_step-more p q more step h =
+    elim (or_cases (p step) (eqb step 1 && p 14) h) [
+      | inl here ↦ or_left (q step) (eqb step 1 && q 14) (more step here)
       | inr ace ↦
-          let parts = and_parts (eqb place 1) (p 14) ace in
-          or_right (q place) (eqb place 1 && q 14) (and_both (eqb place 1) (q 14) parts.0 (more 14 parts.1))
+          let parts = and_parts (eqb step 1) (p 14) ace in
+          or_right (q step) (eqb step 1 && q 14) (and_both (eqb step 1) (q 14) parts.0 (more 14 parts.1))
     ]
 
 pub run_parts : (p : ℕ → Bool) (t : ℕ) → is_run p t ≡ true
-    → (holds_place p t ≡ true) × (holds_place p (t - 1) ≡ true) × (holds_place p (t - 2) ≡ true)
-    × (holds_place p (t - 3) ≡ true) × (holds_place p (t - 4) ≡ true)
+    → (holds_step p t ≡ true) × (holds_step p (t - 1) ≡ true) × (holds_step p (t - 2) ≡ true)
+    × (holds_step p (t - 3) ≡ true) × (holds_step p (t - 4) ≡ true)
 run_parts p t h =
-    let a = and_parts (holds_place p t && holds_place p (t - 1) && holds_place p (t - 2) && holds_place p (t - 3))
-    (holds_place p (t - 4)) h in
-    let b = and_parts (holds_place p t && holds_place p (t - 1) && holds_place p (t - 2)) (holds_place p (t - 3)) a.0 in
-    let c = and_parts (holds_place p t && holds_place p (t - 1)) (holds_place p (t - 2)) b.0 in
-    let d = and_parts (holds_place p t) (holds_place p (t - 1)) c.0 in
+    let a = and_parts (holds_step p t && holds_step p (t - 1) && holds_step p (t - 2) && holds_step p (t - 3))
+    (holds_step p (t - 4)) h in
+    let b = and_parts (holds_step p t && holds_step p (t - 1) && holds_step p (t - 2)) (holds_step p (t - 3)) a.0 in
+    let c = and_parts (holds_step p t && holds_step p (t - 1)) (holds_step p (t - 2)) b.0 in
+    let d = and_parts (holds_step p t) (holds_step p (t - 1)) c.0 in
     (d.0, d.1, c.1, b.1, a.1)
 
-pub run_from : (p : ℕ → Bool) (t : ℕ) → holds_place p t ≡ true → holds_place p (t - 1) ≡ true → holds_place p (t - 2)
+pub run_from : (p : ℕ → Bool) (t : ℕ) → holds_step p t ≡ true → holds_step p (t - 1) ≡ true → holds_step p (t - 2)
     ≡ true
-    → holds_place p (t - 3) ≡ true → holds_place p (t - 4) ≡ true → is_run p t ≡ true
+    → holds_step p (t - 3) ≡ true → holds_step p (t - 4) ≡ true → is_run p t ≡ true
 run_from p t a b c d e =
     and_both _ _ (and_both _ _ (and_both _ _ (and_both _ _ a b) c) d) e
 
 pub is_run-more : (p q : ℕ → Bool) (t : ℕ) → Implies p q → is_run p t ≡ true → is_run q t ≡ true
 is_run-more p q t more is =
     let parts = run_parts p t is in
-    let held = holds_place-more p q more in
+    let held = holds_step-more p q more in
     run_from q t (held t parts.0) (held (t - 1) parts.1) (held (t - 2) parts.2) (held (t - 3) parts.3)
     (held (t - 4) parts.4)
 
@@ -99,22 +99,22 @@ run-same p q same = λ i. highest_below (λ top. leb 5 top && is_run (λ r. same
 abbrev pub occurring : (ℕ → ℕ) → ℕ → Bool
 occurring count r = leb 1 (count r)
 
--- the lowest place of a run: the ace where it is below the two
-place-held : (count : ℕ → ℕ) (place : ℕ) → 2 ≤ place → holds_place (occurring count) place ≡ true → 1 ≤ count place
-place-held count place high h =
-    elim (or_cases (occurring count place) (eqb place 1 && occurring count 14) h) [
-      | inl here ↦ leb-true 1 (count place) here
-      | inr ace ↦ let one = eqb-true place 1 (and_parts (eqb place 1) (occurring count 14) ace).0 in
+-- the lowest step of a run: the ace where it is below the two
+step-held : (count : ℕ → ℕ) (step : ℕ) → 2 ≤ step → holds_step (occurring count) step ≡ true → 1 ≤ count step
+step-held count step high h =
+    elim (or_cases (occurring count step) (eqb step 1 && occurring count 14) h) [
+      | inl here ↦ leb-true 1 (count step) here
+      | inr ace ↦ let one = eqb-true step 1 (and_parts (eqb step 1) (occurring count 14) ace).0 in
           absurd (omega arith)
     ]
 
-lowest-held : (count : ℕ → ℕ) (place : ℕ) → holds_place (occurring count) place ≡ true
-    → (1 ≤ count place) ⊎ ((place ≡ 1) × (1 ≤ count 14))
-lowest-held count place h =
-    elim (or_cases (occurring count place) (eqb place 1 && occurring count 14) h) [
-      | inl here ↦ inl (leb-true 1 (count place) here)
-      | inr ace ↦ let parts = and_parts (eqb place 1) (occurring count 14) ace in
-          inr (eqb-true place 1 parts.0, leb-true 1 (count 14) parts.1)
+lowest-held : (count : ℕ → ℕ) (step : ℕ) → holds_step (occurring count) step ≡ true
+    → (1 ≤ count step) ⊎ ((step ≡ 1) × (1 ≤ count 14))
+lowest-held count step h =
+    elim (or_cases (occurring count step) (eqb step 1 && occurring count 14) h) [
+      | inl here ↦ inl (leb-true 1 (count step) here)
+      | inr ace ↦ let parts = and_parts (eqb step 1) (occurring count 14) ace in
+          inr (eqb-true step 1 parts.0, leb-true 1 (count 14) parts.1)
     ]
 
 -- five different ranks that occur
@@ -148,10 +148,10 @@ run-ranks count top none is =
     let low = is.low in
     let high = is.high in
     let parts = run_parts (occurring count) t is.runs in
-    let one = place-held count t (omega arith) parts.0 in
-    let two = place-held count (t - 1) (omega arith) parts.1 in
-    let three = place-held count (t - 2) (omega arith) parts.2 in
-    let four = place-held count (t - 3) (omega arith) parts.3 in
+    let one = step-held count t (omega arith) parts.0 in
+    let two = step-held count (t - 1) (omega arith) parts.1 in
+    let three = step-held count (t - 2) (omega arith) parts.2 in
+    let four = step-held count (t - 3) (omega arith) parts.3 in
     elim (lowest-held count (t - 4) parts.4) [
       | inl here ↦ record {
         last = t - 4;
@@ -162,7 +162,7 @@ run-ranks count top none is =
             (omega arith) (omega arith) (omega arith) one two three four here;
       }
       | inr ace ↦
-          let place = ace.0 in
+          let step = ace.0 in
           record {
             last = 14;
             which = inr (omega arith, refl);
@@ -270,9 +270,9 @@ wheel-of : (a b c d e : ℕ) → a ≡ 14 → b ≡ 5 → c ≡ 4 → d ≡ 3 �
 unfolding is_wheel
 wheel-of a b c d e p q r s t = rw (p, q, r, s, t) refl
 
-held : (count : ℕ → ℕ) (r place : ℕ) → r ≡ place → 1 ≤ count r → holds_place (occurring count) place ≡ true
-held count r place is some =
-    or_left (occurring count place) (eqb place 1 && occurring count 14)
+held : (count : ℕ → ℕ) (r step : ℕ) → r ≡ step → 1 ≤ count r → holds_step (occurring count) step ≡ true
+held count r step is some =
+    or_left (occurring count step) (eqb step 1 && occurring count 14)
     (subst (λ p. leb 1 (count p) ≡ true) is (le-leb 1 (count r) some))
 
 -- the top of five ranks that run is that of a run
@@ -286,7 +286,7 @@ five-run count a b c d e top high ab bc cd de low oa ob oc od oe is =
       | true ↦ λ wheel found.
           let five : 5 ≡ top = cc in
           let parts = wheel-is a b c d e wheel in
-          let ace : holds_place (occurring count) 1 ≡ true =
+          let ace : holds_step (occurring count) 1 ≡ true =
           or_right (occurring count 1) (eqb 1 1 && occurring count 14)
           (subst (λ r. leb 1 (count r) ≡ true) parts.0 (le-leb 1 (count a) oa)) in
           subst (λ t. IsRunTo (occurring count) t) five

@@ -43,16 +43,16 @@ same_top-is None (Some top) is = absurd cc
 same_top-is (Some top) None is = absurd cc
 same_top-is (Some top) (Some other) is = ap (λ t. Some t) (eqb-true top other is)
 
-unfoldable pub places_of : ℕ → ℕ
-places_of bits = bit_or bits (bit_and (bits / 8192) 2)
+unfoldable pub steps_of : ℕ → ℕ
+steps_of bits = bit_or bits (bit_and (bits / 8192) 2)
 
 unfoldable pub runs_of : ℕ → ℕ
 runs_of m = bit_and (bit_and (bit_and (bit_and m (m / 2)) (m / 4)) (m / 8)) (m / 16)
 
 -- the top of the highest run as it is computed
 unfoldable run_by_bits : ℕ → Option ℕ
-unfolding places_of runs_of
-run_by_bits bits = let runs = runs_of (places_of bits) in
+unfolding steps_of runs_of
+run_by_bits bits = let runs = runs_of (steps_of bits) in
     cond (eqb runs 0) None (Some (19 - count_leading_zeros 16 runs))
 
 run_test : ℕ → Bool
@@ -60,7 +60,7 @@ unfolding run_by_bits same_top
 run_test k = same_top (run_by_bits (4 * k)) (highest_run (has_rank (4 * k)))
 
 all_runs : all_below run_test 8192 ≡ true
-unfolding all_below run_test run_by_bits same_top highest_run places_of runs_of count_leading_zeros
+unfolding all_below run_test run_by_bits same_top highest_run steps_of runs_of count_leading_zeros
 all_runs = refl
 
 run_by_bits-is : (bits k : ℕ) → bits ≡ 4 * k → k < 8192 → run_by_bits bits ≡ highest_run (has_rank bits)
@@ -102,30 +102,30 @@ run-of_bits bits count fits has =
     run_by_bits-is bits four.0 four.2 four.1
     ∙ run-same (has_rank bits) (occurring count) (held_ranks bits count fits has)
 
--- where no places run, there is no run
-pub run-none : (bits : ℕ) (count : ℕ → ℕ) → bits < 2 ^ 16 → HasRanks bits 1 count → runs_of (places_of bits) ≡ 0
+-- where no steps run, there is no run
+pub run-none : (bits : ℕ) (count : ℕ → ℕ) → bits < 2 ^ 16 → HasRanks bits 1 count → runs_of (steps_of bits) ≡ 0
     → None ≡ highest_run (occurring count)
 unfolding run_by_bits
 run-none bits count fits has none = rw none at (run-of_bits bits count fits has)
 
--- and else the highest place that does is its top
-pub run-some : (bits : ℕ) (count : ℕ → ℕ) → bits < 2 ^ 16 → HasRanks bits 1 count → (runs_of (places_of bits) ≡ 0 → ⊥)
-    → Some (19 - count_leading_zeros 16 (runs_of (places_of bits))) ≡ highest_run (occurring count)
+-- and else the highest step that does is its top
+pub run-some : (bits : ℕ) (count : ℕ → ℕ) → bits < 2 ^ 16 → HasRanks bits 1 count → (runs_of (steps_of bits) ≡ 0 → ⊥)
+    → Some (19 - count_leading_zeros 16 (runs_of (steps_of bits))) ≡ highest_run (occurring count)
 unfolding run_by_bits
 run-some bits count fits has some =
-    let other : eqb (runs_of (places_of bits)) 0 ≡ false = grind (arith, nat_tests) in
+    let other : eqb (runs_of (steps_of bits)) 0 ≡ false = grind (arith, nat_tests) in
     rw other at (run-of_bits bits count fits has)
 
 -- the top of a run is a rank
-pub run-within : (bits : ℕ) → bits < 2 ^ 16 → (runs_of (places_of bits) ≡ 0 → ⊥)
-    → 19 - count_leading_zeros 16 (runs_of (places_of bits)) < 16
-unfolding runs_of places_of
+pub run-within : (bits : ℕ) → bits < 2 ^ 16 → (runs_of (steps_of bits) ≡ 0 → ⊥)
+    → 19 - count_leading_zeros 16 (runs_of (steps_of bits)) < 16
+unfolding runs_of steps_of
 run-within bits fits some =
-    let places = places_of bits in
+    let steps = steps_of bits in
     let low = and_le_r (bits / 8192) 2 in
-    let within : places < 2 ^ 16 = or_lt 16 bits (bit_and (bits / 8192) 2) fits (omega arith) in
-    let less = and_le_r (bit_and (bit_and (bit_and places (places / 2)) (places / 4)) (places / 8)) (places / 16) in
-    top-within (runs_of places) some (omega arith)
+    let within : steps < 2 ^ 16 = or_lt 16 bits (bit_and (bits / 8192) 2) fits (omega arith) in
+    let less = and_le_r (bit_and (bit_and (bit_and steps (steps / 2)) (steps / 4)) (steps / 8)) (steps / 16) in
+    top-within (runs_of steps) some (omega arith)
 
 -- the ranks that are near each other
 abbrev near_table : List ℕ

@@ -66,19 +66,19 @@ has_rank_without mask rank r within inside =
           (sym (and_true (has_rank mask r)))
     ] refl
 
--- the place of the highest bit
+-- the index of the highest bit
 pub highest_top : (mask : ℕ) → mask ≢ 0 → mask < 2 ^ 16
     → (has_rank mask (15 - count_leading_zeros 16 mask) ≡ true) × ((r : ℕ) → 15 - count_leading_zeros 16 mask < r
     → has_rank mask r ≡ false)
 highest_top mask some fits =
     let top = leading_top 16 mask (grind arith) fits in
-    let place : top.0 ≡ 15 - count_leading_zeros 16 mask = omega (arith, top.1) in
+    let index : top.0 ≡ 15 - count_leading_zeros 16 mask = omega (arith, top.1) in
     let quotient : mask / 2 ^ top.0 ≡ 1 =
     div-is-one mask (2 ^ top.0) top.2 (subst (λ p. mask < p) (pow-suc 2 top.0) top.3) in
     let there : has_rank mask top.0 ≡ true = ap (λ q. eqb (q % 2) 1) quotient in (
-      subst (λ t. has_rank mask t ≡ true) place there,
+      subst (λ t. has_rank mask t ≡ true) index there,
       λ r more. ap (λ b. eqb b 1)
-          (bit_at_above mask (suc top.0) r top.3 (omega (arith, place))),
+          (bit_at_above mask (suc top.0) r top.3 (omega (arith, index))),
     )
   where
     div-is-one : (a p : ℕ) → p ≤ a → a < p * 2 → a / p ≡ 1

@@ -3,15 +3,15 @@ use Rattle.std.specs.Prelude.{ℕ, ◌+◌, ◌-◌, Bool, ◌&&◌, ◌||◌, �
 use Rattle.std.specs.List.{list_any}
 use Rattle.hand_rank.specs.Picks.{highest_below}
 
--- whether a place of a run is held: the ace counts below the two as well
-abbrev pub holds_place : (ℕ → Bool) → ℕ → Bool
-holds_place has place = has place || (place == 1 && has 14)
+-- whether a step of a run is held: each rank is one, and the ace is one below the two as well
+abbrev pub holds_step : (ℕ → Bool) → ℕ → Bool
+holds_step has step = has step || (step == 1 && has 14)
 
 -- whether five ranks in a row, of which this is the greatest, are all held
 abbrev pub is_run : (ℕ → Bool) → ℕ → Bool
 is_run has top =
-    holds_place has top && holds_place has (top - 1) && holds_place has (top - 2)
-    && holds_place has (top - 3) && holds_place has (top - 4)
+    holds_step has top && holds_step has (top - 1) && holds_step has (top - 2)
+    && holds_step has (top - 3) && holds_step has (top - 4)
 
 -- the top rank of the highest run, from five to the ace, if there is one
 unfoldable pub highest_run : (ℕ → Bool) → Option ℕ

@@ -200,8 +200,8 @@ impl RankSet {
             → result ≡ highest_run (λ rank. nat_le 1 (count rank)) }
         ensures within { IfSome result (λ top. top < 16) }
     {
-        let places = self.bits | (self.bits >> 13 & 2);
-        let runs = places & places >> 1 & places >> 2 & places >> 3 & places >> 4;
+        let steps = self.bits | (self.bits >> 13 & 2);
+        let runs = steps & steps >> 1 & steps >> 2 & steps >> 3 & steps >> 4;
         if runs == 0 {
             None
         } else {

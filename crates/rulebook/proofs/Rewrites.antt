@@ -29,7 +29,7 @@ rewritten-all f (x ∷ xs) (y ∷ ys) zero same all = absurd (omega arith)
 rewritten-all f (x ∷ xs) (y ∷ ys) (suc i) same all =
     ap (◌∷◌ (f x)) (rewritten-all f xs ys i (omega arith) (omega arith))
 
--- The place itself is as it was until it is rewritten.
+-- The index itself is as it was until it is rewritten.
 pub rewritten-here : {X Y : Type 0} (f : X → Y) (xs : List X) (ys : List Y) (i : ℕ) (d : Y) → i < length xs
     → i < length ys
     → get_or (map f (take i xs) ++ drop i ys) i d ≡ get_or ys i d

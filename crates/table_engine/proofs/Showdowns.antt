@@ -255,25 +255,25 @@ awards-nobody hand showdown index nobody =
     (subst (λ (set : List Bool). has_seat set (suc index) ≡ false) seats (nobody-live hand index nobody))
     (subst (λ (set : List Bool). are_for set (layers (puts_in_hand hand)) ≡ true) seats pots.own)
 
--- Numbers by seats, and a list of numbers that has them at their places and nothing elsewhere.
-sum-places : (number : StartSeat → ℕ) (players : List (Option StartSeat)) (numbers : List ℕ)
+-- Numbers by seats, and a list of numbers that has them at their indices and nothing elsewhere.
+sum-indices : (number : StartSeat → ℕ) (players : List (Option StartSeat)) (numbers : List ℕ)
     → length numbers ≡ length players
     → ((index : ℕ) (player : StartSeat) → slice_index_or players index None ≡ Some player
     → number player ≡ slice_index_or numbers index 0)
     → ((index : ℕ) → slice_index_or players index None ≡ None → slice_index_or numbers index 0 ≡ 0)
     → sum_over number players ≡ sum numbers
-sum-places number [] [] count each nobody = refl
-sum-places number [] (first ∷ numbers) count each nobody = absurd (omega arith)
-sum-places number (player ∷ players) [] count each nobody = absurd (omega arith)
-sum-places number (None ∷ players) (first ∷ numbers) count each nobody =
+sum-indices number [] [] count each nobody = refl
+sum-indices number [] (first ∷ numbers) count each nobody = absurd (omega arith)
+sum-indices number (player ∷ players) [] count each nobody = absurd (omega arith)
+sum-indices number (None ∷ players) (first ∷ numbers) count each nobody =
     let here = nobody 0 refl in
-    let later = sum-places number players numbers (omega arith) (λ index. each (suc index))
+    let later = sum-indices number players numbers (omega arith) (λ index. each (suc index))
     (λ index. nobody (suc index)) in
     let all = sum_by-cons (λ (n : ℕ). n) first numbers in
     omega arith
-sum-places number (Some player ∷ players) (first ∷ numbers) count each nobody =
+sum-indices number (Some player ∷ players) (first ∷ numbers) count each nobody =
     let here = each 0 player refl in
-    let later = sum-places number players numbers (omega arith) (λ index. each (suc index))
+    let later = sum-indices number players numbers (omega arith) (λ index. each (suc index))
     (λ index. nobody (suc index)) in
     let all = sum_by-cons (λ (n : ℕ). n) first numbers in
     omega arith
@@ -285,7 +285,7 @@ pub showdown-gets : (hand : HandTerms) → IsLawfulStart hand.start → IsShowdo
 showdown-gets hand lawful showdown =
     let award_of : StartSeat → ℕ = λ player. slice_index_or (showdown_awards hand) (player.seat - 1) 0 in
     sym (sum-of_start hand.start award_of lawful)
-    ∙ sum-places award_of (players_by_seat hand.start) (showdown_awards hand) (awards-ten hand)
+    ∙ sum-indices award_of (players_by_seat hand.start) (showdown_awards hand) (awards-ten hand)
     (λ index player listed.
     let found = listed-found hand.start index player listed in
     let sits = found.0 in

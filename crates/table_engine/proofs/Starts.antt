@@ -21,7 +21,7 @@ pub player_of-seat : (start : HandStart) (seat : ℕ) (player : StartSeat) → p
 player_of-seat start seat player found = eqb-true player.seat seat
     (find-passes (λ (other : StartSeat). other.seat == seat) start.seats player found)
 
--- Players who are listed by the seats in which they sit sit in the seats of their places in the list.
+-- Players who are listed by the seats in which they sit sit in the seats of their indices in the list.
 seated-by_seat : (start : HandStart) (steps from : ℕ)
     → AreSeated (from + 1) (map (option_map (seated start))
     (map (player_of start) (walk (λ seat. seat + 1) steps from)))

@@ -43,8 +43,8 @@ board_of start = map (board_card start) (0 ∷ 1 ∷ 2 ∷ 3 ∷ 4 ∷ [])
 
 -- A showdown lists four hole cards of a player. In hold'em his two stand there twice.
 abbrev pub listed : Game → ℕ → ℕ
-listed Holdem place = place % 2
-listed game place = place
+listed Holdem index = index % 2
+listed game index = index
 
 -- A player at the showdown, with his hole cards.
 unfoldable pub tabled : HandStart → ℕ → Live

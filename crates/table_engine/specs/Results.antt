@@ -70,7 +70,7 @@ stacks_after_hand hand = map (stack_after_hand hand) hand.start.seats
 abbrev pub with_stack : StartSeat → ℕ → StartSeat
 with_stack player stack = record player { stack = stack }
 
--- Players with other stacks, each with that in his place of the list.
+-- Players with other stacks, each with that at his index of the list.
 abbrev pub with_stacks : List StartSeat → List ℕ → List StartSeat
 with_stacks players stacks = map (λ pair. with_stack pair.0 pair.1) (zip players stacks)
 

@@ -15,7 +15,7 @@ pub record IsAt (streets : Streets) (standing : Standing) : Type 0 where
   -- the last street began as a street may
   pub right : IsStreetStart streets.last.start
 
--- The next street may begin from here: each player sits in the seat of his place in the list, and the chips of the hand
+-- The next street may begin from here: each player sits in the seat of his index in the list, and the chips of the hand
 -- are far from the end of their type.
 pub record IsReady (standing : Standing) : Type 0 where
   pub seated : AreSeated 1 (next_bettors standing.round)

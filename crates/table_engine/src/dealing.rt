@@ -60,26 +60,26 @@ fn hole_card(start: &HandStart, dealt: SeatSet, seat: u8, card: u8) -> Card
     ))
 }
 
-/// Which of a player's hole cards stands at a place of the four that a showdown lists: in hold'em his two stand twice.
-fn listed(game: Game, place: u8) -> u8
-    requires { place < 4 }
-    ensures card { result ≡ listed game place }
+/// Which of a player's hole cards stands at an index of the four that a showdown lists: in hold'em his two stand twice.
+fn listed(game: Game, index: u8) -> u8
+    requires { index < 4 }
+    ensures card { result ≡ listed game index }
     ensures dealt { result < hole_count game }
 {
     match game {
-        Game::Holdem => place % 2,
-        Game::Omaha | Game::Hilo => place,
+        Game::Holdem => index % 2,
+        Game::Omaha | Game::Hilo => index,
     }
 }
 
-/// The card at a place of the four that a showdown lists of a player.
-fn listed_card(start: &HandStart, dealt: SeatSet, seat: u8, place: u8) -> Card
+/// The card at an index of the four that a showdown lists of a player.
+fn listed_card(start: &HandStart, dealt: SeatSet, seat: u8, index: u8) -> Card
     requires lawful { IsLawfulStart start.now }
     requires dealt { dealt ≡ dealt_seats start.now }
-    requires place { place < 4 }
-    ensures { result ≡ hole_card start.now seat (listed start.now.game place) }
+    requires index { index < 4 }
+    ensures { result ≡ hole_card start.now seat (listed start.now.game index) }
 {
-    hole_card(start, dealt, seat, listed(start.game, place))
+    hole_card(start, dealt, seat, listed(start.game, index))
 }
 
 /// A player at the showdown, with his hole cards.

@@ -14,7 +14,7 @@ use std::alloc::{AllocError, Global};
 pub struct StartSeat {
     /// His seat, from 1.
     pub seat: u8,
-    /// His number: his place in the entry list, from 0.
+    /// His number: his index in the entry list.
     pub player: u32,
     /// His name.
     pub name: Name,

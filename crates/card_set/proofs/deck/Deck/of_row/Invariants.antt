@@ -5,9 +5,9 @@ use Rattle.card_set.proofs.SeenCards.{IsSeen}
 use Rattle.card_set.proofs.deck.Deck.of_row.Given as goal
 
 -- The cards so far differ, and the table has just them.
-abbrev pub invariant-loop-place : goal.invariant-loop-place
-invariant-loop-place l = record {
-  distinct : AllPairs (λ one other. one ≢ other) (take l.place l.row.cards);
+abbrev pub invariant-loop-index : goal.invariant-loop-index
+invariant-loop-index l = record {
+  distinct : AllPairs (λ one other. one ≢ other) (take l.index l.row.cards);
   size : length l.seen ≡ 52;
-  seen : IsSeen l.seen (take l.place l.row.cards);
+  seen : IsSeen l.seen (take l.index l.row.cards);
 }

@@ -3,10 +3,10 @@ use Rattle.std.specs.List.{slice_index_or}
 use Rattle.card_set.specs.declared.card.Card.{Card}
 use Rattle.card_set.proofs.deck.Deck.sorted.Given as goal
 
-abbrev pub invariant-loop-place : goal.invariant-loop-place
-invariant-loop-place l = record {
+abbrev pub invariant-loop-index : goal.invariant-loop-index
+invariant-loop-index l = record {
   size : length l.cards ≡ 52;
-  order : (place : ℕ) (other : Card) → place < l.place
-      → ((slice_index_or l.cards place other).rank ≡ 2 + place / 4)
-      × ((slice_index_or l.cards place other).suit ≡ place % 4);
+  order : (index : ℕ) (other : Card) → index < l.index
+      → ((slice_index_or l.cards index other).rank ≡ 2 + index / 4)
+      × ((slice_index_or l.cards index other).suit ≡ index % 4);
 }
