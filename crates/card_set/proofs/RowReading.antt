@@ -1,5 +1,5 @@
 -- What is read as a card or a row is spelled so, and each card and each row is read from its text. This project's own.
-use Rattle.std.proofs.Common.{◌≡◌, ℕ, zero, suc, ◌+◌, ◌-◌, ◌<◌, ◌≤◌, Bool, true, false, ◌&&◌, eqb, List, [], ◌∷◌, ◌++◌, length, slice_index, Option, Some, None, option_map, option_and_then, refl, sym, ap, ◌∙◌, arith}
+use Rattle.std.proofs.Common.{◌≡◌, ℕ, ◌+◌, ◌-◌, ◌<◌, ◌≤◌, Bool, true, false, List, [], ◌∷◌, ◌++◌, length, slice_index, Option, Some, None, option_map, option_and_then, refl, sym, ap, ◌∙◌, arith}
 use Rattle.std.specs.Prelude.{nat_le, nat_lt, ◌==◌, codes, cond}
 use Rattle.std.specs.List.{position, position_or_len}
 use Rattle.std.specs.Option.{IfSome}
@@ -11,6 +11,7 @@ use Rattle.card_set.specs.declared.card.Card.{Card}
 use Rattle.card_set.specs.declared.card.CardRow.{CardRow}
 use Rattle.card_set.specs.Cards.{rank_letters, rank_letter, suit_letter, card_text, cards_text, row_text, rank_of, suit_of, card_by, card_at, card_of, cards_of, so_many, so_many_of, row_by, row_at, row_of}
 use Rattle.card_set.proofs.CardLaws.{same_card, same_row}
+use Rattle.card_set.proofs.LetterTables.{all_below, holds_below}
 
 -- what reads exactly the things that satisfy a property reads the same as another that does
 reads_same : {A : Type 0} (P : A → Type 0) (one other : Option A) → IfSome one P → ((x : A) → P x → one ≡ Some x)
@@ -34,25 +35,6 @@ index_found : (letters : List ℕ) (letter index : ℕ) → position (λ known. 
     → slice_index letters index ≡ letter
 index_found letters letter index h =
     eqb-true (slice_index letters index) letter (position-Some (λ known. known == letter) letters index 0 h).1
-
-and_parts : (a b : Bool) → (a && b) ≡ true → (a ≡ true) × (b ≡ true)
-and_parts true b h = (refl, h)
-and_parts false b h = absurd cc
-
--- a test that holds at each number below a bound
-all_below : (ℕ → Bool) → ℕ → Bool
-all_below p zero = true
-all_below p (suc n) = p n && all_below p n
-
-holds_below : (p : ℕ → Bool) (n k : ℕ) → all_below p n ≡ true → k < n → p k ≡ true
-unfolding all_below
-holds_below p zero k h below = absurd (omega arith)
-holds_below p (suc n) k h below =
-    let both = and_parts (p n) (all_below p n) h in
-    elim (eqb k n) as (λ b. eqb k n ≡ b → p k ≡ true) [
-      | true ↦ λ same. ap p (eqb-true k n same) ∙ both.0
-      | false ↦ λ other. let less : k < n = grind (arith, nat_tests) in holds_below p n k both.1 less
-    ] refl
 
 -- whether each letter is found at its own index, as where no letter comes twice
 is_found_again : List ℕ → Bool

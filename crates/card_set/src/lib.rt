@@ -8,6 +8,7 @@
 mod card;
 mod deck;
 mod game;
+mod letters;
 mod spelling;
 #[cfg(test)]
 mod tests;

@@ -1,38 +1,25 @@
 //! The text of cards and of rows.
 
-ghost use Rattle.std.specs.Prelude.{◌≡◌, ◌∷◌, [], ℕ, ◌<◌, ◌≤◌, List, length, Some, IfSome, position, ◌==◌};
+ghost use Rattle.std.specs.Prelude.{◌≡◌, ◌∷◌, [], ℕ, ◌<◌, ◌≤◌, List, length, Some, IfSome};
 ghost use Rattle.card_set.specs.declared.card.Card.{Card};
 ghost use Rattle.card_set.specs.declared.card.CardRow.{CardRow};
-ghost use Rattle.card_set.specs.Cards.{rank_letters, rank_letter, suit_letter, card_text, cards_text, row_text, card_of, so_many_of, row_of};
+ghost use Rattle.card_set.specs.Cards.{rank_letter, suit_letter, card_text, cards_text, row_text, card_of, so_many_of, row_of};
 
 use crate::card::{Card, CardRow};
-
-/// The letters of the ranks, from two to the ace.
-const RANKS: [u8; 13] = *b"23456789TJQKA";
-
-/// The letters of the suits: clubs, diamonds, hearts and spades.
-const SUITS: [u8; 4] = *b"cdhs";
-
-/// The index of a letter among those of the ranks.
-fn rank_index(letter: u8) -> Option<usize>
-    ensures { result ≡ position (λ known. known == letter) rank_letters }
-{
-    RANKS.iter().position(|known| *known == letter)
-}
+use crate::letters::{RANKS, SUITS, rank_index, suit_index};
 
 fn read_rank(letter: u8) -> Option<u8>
     ensures found { IfSome result (λ rank. (2 ≤ rank) × (rank ≤ 14) × (rank_letter rank ≡ letter)) }
     ensures only { (rank : ℕ) → 2 ≤ rank → rank ≤ 14 → rank_letter rank ≡ letter → result ≡ Some rank }
 {
-    Some(rank_index(letter)? as u8 + 2)
+    Some(rank_index(letter)? + 2)
 }
 
 fn read_suit(letter: u8) -> Option<u8>
     ensures found { IfSome result (λ suit. (suit < 4) × (suit_letter suit ≡ letter)) }
     ensures only { (suit : ℕ) → suit < 4 → suit_letter suit ≡ letter → result ≡ Some suit }
 {
-    let index = SUITS.iter().position(|known| *known == letter)?;
-    Some(index as u8)
+    suit_index(letter)
 }
 
 /// Reads a card: the letter of a rank and the letter of a suit. `None` exactly where the two are no card.
