@@ -100,6 +100,19 @@ impl Hand {
         self.start.name_in_seat(seat)
     }
 
+    /// The seat of the player of this name, if he is dealt in. Who acts is mostly due, and then there is no search.
+    fn seat_of_name(&self, name: Name) -> Option<u8>
+        ensures seat { result ≡ seat_of_name self.now.start name }
+        ensures played { IsLawfulPlay self.now }
+    {
+        if let Some(seat) = self.standing.round.due() {
+            if self.start.has_in_seat(seat, name) {
+                return Some(seat);
+            }
+        }
+        self.start.seat_of_name(name)
+    }
+
     /// Whether the hand is over: nobody is due on the street and on no later one.
     pub fn is_over(&self) -> bool
         ensures { result ≡ is_over self.now }
@@ -149,7 +162,7 @@ impl Hand {
         ensures err { OnErr result (self.new ≡ self.old) }
         ensures played { IsLawfulPlay self.new }
     {
-        let Some(seat) = self.start.seat_of_name(name) else {
+        let Some(seat) = self.seat_of_name(name) else {
             return Err(ActFault::No(Refusal::NotDealt));
         };
         self.act_in_seat(name, seat, act, false)

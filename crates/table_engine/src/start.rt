@@ -1,6 +1,6 @@
 //! How a hand starts.
 
-ghost use Rattle.std.specs.Prelude.{◌≡◌, IfOk};
+ghost use Rattle.std.specs.Prelude.{◌≡◌, Some, IsTrue, IfOk};
 ghost use Rattle.table_engine.specs.Hands.{player_of, seat_of_name, name_in_seat};
 ghost use Rattle.table_engine.specs.Results.{with_stack};
 
@@ -102,5 +102,15 @@ impl HandStart {
         seats
             .find(|player| player.seat == seat)
             .map(|player| player.name)
+    }
+
+    /// Whether the player in this seat has this name.
+    pub(crate) fn has_in_seat(&self, seat: u8, name: Name) -> bool
+        ensures { IsTrue result → name_in_seat self.now seat ≡ Some name }
+    {
+        match self.name_in_seat(seat) {
+            Some(found) => found == name,
+            None => false,
+        }
     }
 }
