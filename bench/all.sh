@@ -13,6 +13,8 @@ table_row "entries" "$work/entries" "no 1 Syntax"
 rm "$work/refused" "$work/entries" "$work/limit"
 python3 bench/folds.py "$work"
 table_row "hands of folds" "$work/hands" ok
+python3 bench/folds.py "$work" shuffled
+table_row "hands of folds, shuffled" "$work/hands" ok
 python3 bench/acts.py "$work"
 table_row "all acts" "$work/hands" ok
 for game in holdem omaha hilo; do
