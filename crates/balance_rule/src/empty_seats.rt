@@ -11,8 +11,8 @@ use button_blinds::SeatSet;
 use rulebook::seat_after;
 use seat_book::SeatBook;
 
-/// The first seat clockwise that is not taken, from the seat after this one, at a table of so many seats of which one
-/// is not taken.
+/// Gives the first seat clockwise that is not taken, from the seat after this one, at a table of so many seats of which
+/// one is not taken.
 pub fn empty_seat_after(taken: SeatSet, seats: u8, seat: u8) -> u8
     requires some { 1 ≤ seats }
     requires most { seats ≤ 10 }
@@ -32,8 +32,8 @@ pub fn empty_seat_after(taken: SeatSet, seats: u8, seat: u8) -> u8
     seat
 }
 
-/// The worst empty seat of a table that has two empty seats: the first clockwise after the big mark, leaving out the
-/// big mark's own; the lowest where the table has had no hand.
+/// Gives the worst empty seat of a table that has two empty seats: the first clockwise after the big mark, leaving out
+/// the big mark's own; the lowest where the table has had no hand.
 pub fn worst_seat(book: &SeatBook, table: u8) -> u8
     requires table { IsTableOf book.now.table_count table }
     requires two_empty { count_at book.now.players table + 2 ≤ book.now.seat_count }

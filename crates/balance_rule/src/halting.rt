@@ -6,14 +6,14 @@ ghost use Rattle.balance_rule.specs.Halting.{halting_gap, is_halted};
 
 use seat_book::SeatBook;
 
-/// How many players a table may lack against a fullest one before it is halted.
+/// Tells how many players a table may lack against a fullest one before it is halted.
 fn halting_gap(seats: u8) -> u8
     ensures gap { result ≡ halting_gap seats }
 {
     if seats >= 7 { 3 } else { 2 }
 }
 
-/// Whether a table is halted: it is short of a fullest open table by the gap or more.
+/// Tells whether a table is halted: it is short of a fullest open table by the gap or more.
 pub fn halted(book: &SeatBook, table: u8) -> bool
     requires { IsTableOf book.now.table_count table }
     ensures { result ≡ is_halted book.now table }

@@ -9,9 +9,9 @@ ghost use Rattle.balance_rule.specs.declared.balance.Move.{Move};
 ghost use Rattle.balance_rule.specs.Balance.{balance_checks, balance_move, after_move};
 ghost use Rattle.balance_rule.specs.Moves.{Balance, IsFreeTable, IsLawfulMove, is_race_pending, is_round_open};
 
-/// A lawful balance goes from a fullest open table to one with the fewest players, and narrows the gap between them:
-/// the one has one player fewer and the other one more, all others have as many as before, and the other still has no
-/// more than the one.
+/// Says that a lawful balance goes from a fullest open table to one with the fewest players, and narrows the gap
+/// between them: the one has one player fewer and the other one more, all others have as many as before, and the other
+/// still has no more than the one.
 pub fn a_balance_narrows_the_gap()
     ensures from_a_fullest { (seating : Seating) (from to other : ℕ) (order : Move)
         → IsLawfulMove seating (Balance from to order) → IsTableOf seating.table_count other
@@ -33,15 +33,15 @@ pub fn a_balance_narrows_the_gap()
         → count_at (after_move order seating).players to ≤ count_at (after_move order seating).players from }
 {}
 
-/// A lawful balance can never be turned round at once: no lawful balance of the seating after it goes back.
+/// Says that a lawful balance can never be turned round at once: no lawful balance of the seating after it goes back.
 pub fn a_balance_is_never_turned_round()
     ensures { (seating : Seating) (from to : ℕ) (order back : Move) → IsSeating seating
         → IsLawfulMove seating (Balance from to order)
         → ¬ IsLawfulMove (after_move order seating) (Balance to from back) }
 {}
 
-/// What passes the checks of a balance is lawful, where the one table is open and not playing, the other open, no race
-/// pending and no round open.
+/// Says that what passes the checks of a balance is lawful, where the one table is open and not playing, the other
+/// open, no race pending and no round open.
 pub fn a_checked_balance_is_lawful()
     ensures { (seating : Seating) (from to : ℕ) (order : Move) → is_race_pending seating ≡ false
         → is_round_open seating ≡ false → IsFreeTable seating from → IsTableOf seating.table_count to

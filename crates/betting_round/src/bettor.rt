@@ -23,7 +23,7 @@ pub struct Player {
     pub acted: bool,
 }
 
-/// A player before any act of the street.
+/// Gives a player as he stands before any act of the street.
 fn fresh(slot: Option<Bettor>) -> Option<Player>
     ensures { result ≡ option_map fresh slot }
 {
@@ -33,7 +33,7 @@ fn fresh(slot: Option<Bettor>) -> Option<Player>
     })
 }
 
-/// The players before any act of the street.
+/// Gives the players as they stand before any act of the street.
 pub(crate) fn all_fresh(bettors: &[Option<Bettor>; 10]) -> [Option<Player>; 10]
     ensures { result ≡ map (option_map fresh) bettors.now }
 {
@@ -44,7 +44,7 @@ pub(crate) fn all_fresh(bettors: &[Option<Bettor>; 10]) -> [Option<Player>; 10]
     players
 }
 
-/// A player as he begins the next street.
+/// Gives a player as he begins the next street.
 fn at_next_street(slot: Option<Player>) -> Option<Bettor>
     ensures { result ≡ option_map at_next_street slot }
 {
@@ -54,7 +54,7 @@ fn at_next_street(slot: Option<Player>) -> Option<Bettor>
     })
 }
 
-/// The players as they begin the next street.
+/// Gives the players as they begin the next street.
 pub(crate) fn all_at_next_street(players: &[Option<Player>; 10]) -> [Option<Bettor>; 10]
     ensures { result ≡ map (option_map at_next_street) players.now }
 {

@@ -12,23 +12,23 @@ pub trait Bounds {
 
     ghost limits: { Self → Limits };
 
-    /// The least that may be bet or raised to, in chips.
+    /// Gives the least that may be bet or raised to, in chips.
     fn least(&self, f: &Facing) -> u64
         requires { AreFewChips f.now }
         ensures { result ≡ (limits self.now).least f.now };
 
-    /// The most that may be bet or raised to, in chips.
+    /// Gives the most that may be bet or raised to, in chips.
     fn most(&self, f: &Facing) -> u64
         requires { AreFewChips f.now }
         ensures { result ≡ (limits self.now).most f.now };
 
-    /// Whether the betting is open to him: he may raise.
+    /// Tells whether the betting is open to him: he may raise.
     fn reopened(&self, f: &Facing) -> bool
         requires { AreFewChips f.now }
         ensures { result ≡ (limits self.now).reopened f.now };
 }
 
-/// The least that may be bet or raised to: a full raise above the bet level.
+/// Gives the least that may be bet or raised to: a full raise above the bet level.
 fn least_raise(facing: &Facing) -> u64
     requires { AreFewChips facing.now }
     ensures { result ≡ no_limit.least facing.now }
@@ -36,7 +36,7 @@ fn least_raise(facing: &Facing) -> u64
     facing.level + facing.full
 }
 
-/// Whether a player may raise: he has not acted on the street, or the bet level has risen by a full raise since.
+/// Tells whether a player may raise: he has not acted on the street, or the bet level has risen by a full raise since.
 fn is_reopened(facing: &Facing) -> bool
     ensures { result ≡ no_limit.reopened facing.now }
 {

@@ -11,7 +11,7 @@ use crate::bounds::Bounds;
 use crate::facing::Facing;
 use floor_text::Refusal;
 
-/// Whether a bet of so much is refused.
+/// Tells whether a bet of so much is refused.
 fn check_bet<B: Bounds>(bounds: &B, unit: u64, facing: &Facing, n: u64) -> Result<(), Refusal>
     requires few { AreFewChips facing.now }
     requires unit { 0 < unit }
@@ -35,7 +35,7 @@ fn check_bet<B: Bounds>(bounds: &B, unit: u64, facing: &Facing, n: u64) -> Resul
     Ok(())
 }
 
-/// Whether a raise to so much is refused.
+/// Tells whether a raise to so much is refused.
 fn check_raise<B: Bounds>(bounds: &B, unit: u64, facing: &Facing, n: u64) -> Result<(), Refusal>
     requires few { AreFewChips facing.now }
     requires unit { 0 < unit }
@@ -63,7 +63,7 @@ fn check_raise<B: Bounds>(bounds: &B, unit: u64, facing: &Facing, n: u64) -> Res
     Ok(())
 }
 
-/// Whether going all-in is refused.
+/// Tells whether going all-in is refused.
 fn check_all_in<B: Bounds>(bounds: &B, facing: &Facing) -> Result<(), Refusal>
     requires { AreFewChips facing.now }
     ensures { IsChecked (all_in_checks (B.limits bounds.now) facing.now) result }
@@ -78,7 +78,7 @@ fn check_all_in<B: Bounds>(bounds: &B, facing: &Facing) -> Result<(), Refusal>
     Ok(())
 }
 
-/// Whether an act of a due player is refused.
+/// Tells whether an act of a due player is refused.
 pub(crate) fn check_act<B: Bounds>(
     bounds: &B,
     unit: u64,

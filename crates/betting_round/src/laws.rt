@@ -10,7 +10,7 @@ ghost use Rattle.betting_round.specs.WhoIsDue.{player_at, is_there, can_act, due
 ghost use Rattle.betting_round.specs.ActChecks.{act_refusal};
 ghost use Rattle.betting_round.specs.Running.{amount_of};
 
-/// The player who is due is live and has chips behind, and he may fold.
+/// Says that the player who is due is live and has chips behind, and he may fold.
 pub fn who_is_due_can_act()
     ensures behind { (street : Street) (seat : ℕ) → due_seat street ≡ Some seat
         → is_there can_act (player_at street.players seat) ≡ true }
@@ -18,7 +18,8 @@ pub fn who_is_due_can_act()
         → act_refusal limits street seat acts.Fold ≡ None }
 {}
 
-/// Whatever bounds the betting, an act that is not refused is of the player who is due, and he has the chips for it.
+/// Says that whatever bounds the betting, an act that is not refused is of the player who is due, and he has the chips
+/// for it.
 pub fn an_act_is_in_turn_and_covered()
     ensures turn { (limits : Limits) (street : Street) (seat : ℕ) (act : Act)
         → act_refusal limits street seat act ≡ None → due_seat street ≡ Some seat }
@@ -27,15 +28,15 @@ pub fn an_act_is_in_turn_and_covered()
         → IfSome (player_at street.players seat) (λ player. amount_of street.level player act ≤ player.bettor.behind) }
 {}
 
-/// The chips of a street are kept by each act that is not refused: what its players have put in and have behind sums to
-/// the same.
+/// Says that the chips of a street are kept by each act that is not refused: what its players have put in and have
+/// behind sums to the same.
 pub fn an_act_keeps_the_chips()
     ensures { (limits : Limits) (start : StreetStart) (acts : List SeatAct) (entry : SeatAct) → IsStreetStart start
         → act_refusal limits (street_after start acts) entry.seat entry.act ≡ None
         → chips_on (street_after start (entry ∷ acts)) ≡ chips_on (street_after start acts) }
 {}
 
-/// The bet level of a street never falls, whatever acts are made.
+/// Says that the bet level of a street never falls, whatever acts are made.
 pub fn the_level_never_falls()
     ensures { (start : StreetStart) (entry : SeatAct) (acts : List SeatAct)
         → level start acts ≤ level start (entry ∷ acts) }

@@ -57,21 +57,21 @@ impl Round {
         Round { street, due }
     }
 
-    /// The player in a seat as he stands, if one sits there.
+    /// Gives the player in a seat as he stands, if one sits there.
     pub fn bettor(&self, seat: u8) -> Option<Bettor>
         ensures { result ≡ option_map (λ player. player.bettor) (player_in self.now.players seat) }
     {
         self.street.player_in(seat).map(|player| player.bettor)
     }
 
-    /// The players as they begin the next street: nothing put in, and all else as they stand.
+    /// Gives the players as they begin the next street: nothing put in, and all else as they stand.
     pub fn next_bettors(&self) -> [Option<Bettor>; 10]
         ensures { result ≡ next_bettors self.now }
     {
         all_at_next_street(&self.street.players)
     }
 
-    /// What was put in on the street, in chips.
+    /// Tells what was put in on the street, in chips.
     pub fn put(&self) -> u64
         ensures put { result ≡ put_by_all self.now }
         ensures few { result < 2 ^ 60 }
@@ -79,21 +79,21 @@ impl Round {
         self.street.put()
     }
 
-    /// Whether one player alone is live.
+    /// Tells whether one player alone is live.
     pub fn is_one_live(&self) -> bool
         ensures { result ≡ is_one_live self.now.players }
     {
         is_one_live(&self.street.players)
     }
 
-    /// The seat of the player who is due. `None` exactly where nobody is.
+    /// Gives the seat of the player who is due. `None` exactly where nobody is.
     pub fn due(&self) -> Option<u8>
         ensures { result ≡ due_seat self.now }
     {
         self.due
     }
 
-    /// What the player in a seat faces. Where nobody sits, nothing is put in and nothing behind.
+    /// Tells what the player in a seat faces. Where nobody sits, nothing is put in and nothing behind.
     pub fn facing(&self, seat: u8) -> Facing
         ensures { result ≡ facing_in self.now seat }
     {

@@ -34,7 +34,7 @@ pub struct Street {
     pub after: u8,
 }
 
-/// The greatest of a number and of what each player has put in.
+/// Gives the greatest of a number and of what each player has put in.
 fn greatest(least: u64, bettors: &[Option<Bettor>]) -> u64
     ensures { result ≡ greatest least (λ bettor. bettor.put) bettors.now }
 {
@@ -45,7 +45,7 @@ fn greatest(least: u64, bettors: &[Option<Bettor>]) -> u64
     }
 }
 
-/// What all players have put in, in chips.
+/// Tells what all players have put in, in chips.
 fn all_put(bettors: &[Option<Bettor>]) -> u64
     requires { sum_over (λ bettor. bettor.put) bettors.now < 2 ^ 60 }
     ensures { result ≡ sum_over (λ bettor. bettor.put) bettors.now }
@@ -57,7 +57,7 @@ fn all_put(bettors: &[Option<Bettor>]) -> u64
     }
 }
 
-/// What the players of a street have put in, in chips.
+/// Tells what the players of a street have put in, in chips.
 fn put_by_players(players: &[Option<Player>]) -> u64
     requires { sum_over (λ player. chips_of player.bettor) players.now < 2 ^ 60 }
     ensures put { result ≡ sum_over (λ player. player.bettor.put) players.now }
@@ -70,7 +70,7 @@ fn put_by_players(players: &[Option<Player>]) -> u64
     }
 }
 
-/// What an act puts in, in chips.
+/// Tells what an act puts in, in chips.
 fn amount(level: u64, bettor: &Bettor, act: Act) -> u64
     ensures { result ≡ amount level bettor.now.put bettor.now.behind act }
 {
@@ -83,7 +83,7 @@ fn amount(level: u64, bettor: &Bettor, act: Act) -> u64
     }
 }
 
-/// Whether an act is a fold.
+/// Tells whether an act is a fold.
 fn is_fold(act: Act) -> bool
     ensures { result ≡ is_fold act }
 {
@@ -93,7 +93,7 @@ fn is_fold(act: Act) -> bool
     }
 }
 
-/// A player after an act that puts in so much.
+/// Gives a player after an act that puts in so much.
 fn moved(amount: u64, player: &Player, act: Act) -> Player
     requires few { player.now.bettor.put + amount < 2 ^ 64 }
     requires held { amount ≤ player.now.bettor.behind }
@@ -110,7 +110,7 @@ fn moved(amount: u64, player: &Player, act: Act) -> Player
     }
 }
 
-/// What an accepted act of a player who faces this came to.
+/// Tells what an accepted act of a player who faces this came to.
 pub(crate) fn done_by(facing: &Facing, act: Act) -> Done
     requires { AreFewChips facing.now }
     ensures { result ≡ done_by facing.now act }
@@ -135,7 +135,7 @@ pub(crate) fn done_by(facing: &Facing, act: Act) -> Done
 }
 
 impl Street {
-    /// A street without acts.
+    /// Makes a street without acts.
     #[tactic(auto, using(crate::proofs::Steps::street_start_is, crate::proofs::Steps::kept_start, crate::proofs::Steps::puts_below))]
     pub fn new(
         bettors: &[Option<Bettor>; 10],
@@ -159,7 +159,7 @@ impl Street {
         }
     }
 
-    /// The player in a seat, if one is there.
+    /// Gives the player in a seat, if one is there.
     pub fn player_in(&self, seat: u8) -> Option<Player>
         ensures { result ≡ player_in self.now.players seat }
     {
@@ -169,7 +169,7 @@ impl Street {
         self.players.get(seat as usize - 1).copied().flatten()
     }
 
-    /// What was put in on the street, in chips.
+    /// Tells what was put in on the street, in chips.
     pub fn put(&self) -> u64
         requires { IsStreetKept self.now }
         ensures put { result ≡ put_by_all self.now }
@@ -178,7 +178,7 @@ impl Street {
         put_by_players(&self.players)
     }
 
-    /// The seat of the player who is due, if somebody is.
+    /// Gives the seat of the player who is due, if somebody is.
     #[tactic(auto, unfolding(crate::specs::WhoIsDue::due_seat))]
     pub fn due(&self) -> Option<u8>
         ensures { result ≡ due_seat self.now }
@@ -189,7 +189,7 @@ impl Street {
         first_to_act(&self.players, MOST_SEATS, self.level, self.after)
     }
 
-    /// What the player in a seat faces.
+    /// Tells what the player in a seat faces.
     pub fn facing(&self, seat: u8) -> Facing
         ensures { result ≡ facing_in self.now seat }
     {
@@ -204,7 +204,7 @@ impl Street {
         }
     }
 
-    /// Whether it is this seat's turn, where this one is due.
+    /// Tells whether it is this seat's turn, where this one is due.
     fn check_turn(&self, due: Option<u8>, seat: u8) -> Result<(), Refusal>
         requires { due ≡ due_seat self.now }
         ensures turn { IsChecked (turn_checks self.now seat) result }
@@ -223,8 +223,8 @@ impl Street {
         }
     }
 
-    /// Whether an act of a seat is refused where this one is due: by the first of the checks of the turn and then of
-    /// the act that holds. Else it says what the player in the seat faces.
+    /// Tells whether an act of a seat is refused where this one is due: by the first of the checks of the turn and then
+    /// of the act that holds. Else it says what the player in the seat faces.
     #[tactic(auto, using(crate::proofs::ActRefusals::refused_turn, crate::proofs::ActRefusals::refused_act, crate::proofs::ActRefusals::accepted_act, crate::proofs::ActRefusals::few_facing, crate::proofs::ActRefusals::held_facing))]
     pub fn check<B: Bounds>(
         &self,

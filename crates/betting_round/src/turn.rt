@@ -12,14 +12,14 @@ use rulebook::seat_after;
 pub(crate) const MOST_SEATS: u8 = 10;
 
 impl Player {
-    /// Whether he is live and not all-in.
+    /// Tells whether he is live and not all-in.
     fn can_act(&self) -> bool
         ensures { result ≡ can_act self.now }
     {
         self.bettor.live && self.bettor.behind > 0
     }
 
-    /// Whether he may be due.
+    /// Tells whether he may be due.
     fn may_be_due(&self, level: u64) -> bool
         ensures { result ≡ may_be_due level self.now }
     {
@@ -27,7 +27,7 @@ impl Player {
     }
 }
 
-/// Whether a live player is there.
+/// Tells whether a live player is there.
 fn is_live(slot: &Option<Player>) -> bool
     ensures { result ≡ is_there is_live slot.now }
 {
@@ -37,7 +37,7 @@ fn is_live(slot: &Option<Player>) -> bool
     }
 }
 
-/// Whether a player is there who can act.
+/// Tells whether a player is there who can act.
 fn can_act(slot: &Option<Player>) -> bool
     ensures { result ≡ is_there can_act slot.now }
 {
@@ -47,7 +47,7 @@ fn can_act(slot: &Option<Player>) -> bool
     }
 }
 
-/// Whether a live player is there who has put in more than this.
+/// Tells whether a live player is there who has put in more than this.
 fn has_put_more(slot: &Option<Player>, put: u64) -> bool
     ensures { result ≡ is_there (λ other. other.bettor.live && nat_lt put other.bettor.put) slot.now }
 {
@@ -57,14 +57,14 @@ fn has_put_more(slot: &Option<Player>, put: u64) -> bool
     }
 }
 
-/// Whether no live player has put in more than this.
+/// Tells whether no live player has put in more than this.
 fn has_put_most(players: &[Option<Player>], put: u64) -> bool
     ensures { result ≡ has_put_most players.now put }
 {
     players.iter().all(|slot| !has_put_more(slot, put))
 }
 
-/// Whether a player is there who can act, and no live player has put in more than he has.
+/// Tells whether a player is there who can act, and no live player has put in more than he has.
 fn can_act_and_has_put_most(slot: &Option<Player>, players: &[Option<Player>]) -> bool
     ensures { result ≡ is_there (λ player. can_act player && has_put_most players.now player.bettor.put) slot.now }
 {
@@ -74,7 +74,7 @@ fn can_act_and_has_put_most(slot: &Option<Player>, players: &[Option<Player>]) -
     }
 }
 
-/// Whether somebody can act, and no live player has put in more than he has.
+/// Tells whether somebody can act, and no live player has put in more than he has.
 fn one_has_put_most(players: &[Option<Player>]) -> bool
     ensures { result ≡ list_any (is_there (λ player. can_act player && has_put_most players.now player.bettor.put))
         players.now }
@@ -84,21 +84,21 @@ fn one_has_put_most(players: &[Option<Player>]) -> bool
         .any(|slot| can_act_and_has_put_most(slot, players))
 }
 
-/// Whether exactly one live player is not all-in, and has put in at least as much as every other live one.
+/// Tells whether exactly one live player is not all-in, and has put in at least as much as every other live one.
 fn is_only_one_to_act(players: &[Option<Player>]) -> bool
     ensures { result ≡ is_only_one_to_act players.now }
 {
     players.iter().filter(|slot| can_act(slot)).count() == 1 && one_has_put_most(players)
 }
 
-/// Whether one player alone is live.
+/// Tells whether one player alone is live.
 pub(crate) fn is_one_live(players: &[Option<Player>]) -> bool
     ensures { result ≡ is_one_live players.now }
 {
     players.iter().filter(|slot| is_live(slot)).count() == 1
 }
 
-/// Whether two players can act.
+/// Tells whether two players can act.
 fn can_two_act(players: &[Option<Player>]) -> bool
     ensures { result ≡ nat_le 2 (count_by (is_there can_act) players.now) }
 {
@@ -114,7 +114,7 @@ fn can_two_act(players: &[Option<Player>]) -> bool
     false
 }
 
-/// Whether nobody is due on the street any more.
+/// Tells whether nobody is due on the street any more.
 #[tactic(auto, using(crate::proofs::Closings::open_where_two_act))]
 pub(crate) fn is_closed(players: &[Option<Player>]) -> bool
     ensures { result ≡ is_closed players.now }
@@ -122,7 +122,7 @@ pub(crate) fn is_closed(players: &[Option<Player>]) -> bool
     !can_two_act(players) && (is_one_live(players) || is_only_one_to_act(players))
 }
 
-/// Whether the player in this seat, if one is there, may be due.
+/// Tells whether the player in this seat, if one is there, may be due.
 fn may_be_due(players: &[Option<Player>; 10], level: u64, seat: u8) -> bool
     requires first { 1 ≤ seat }
     requires last { seat ≤ 10 }
@@ -134,7 +134,7 @@ fn may_be_due(players: &[Option<Player>; 10], level: u64, seat: u8) -> bool
     }
 }
 
-/// The first seat, of so many, whose player may be due, clockwise from the seat after this one.
+/// Gives the first seat, of so many, whose player may be due, clockwise from the seat after this one.
 #[tactic(auto, using(crate::proofs::Walks::find_found, crate::proofs::Walks::find_passed))]
 pub(crate) fn first_to_act(
     players: &[Option<Player>; 10],

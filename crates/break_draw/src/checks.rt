@@ -21,7 +21,7 @@ fn count_of_name(names: &[Name], name: Name) -> usize
     names.iter().filter(|other| name == **other).count()
 }
 
-/// Whether a player with this name sits in a slot.
+/// Tells whether a player with this name sits in a slot.
 fn is_named(slot: &Option<Seated>, name: Name) -> bool
     ensures { result ≡ is_named name slot.now }
 {
@@ -37,7 +37,7 @@ fn count_in_slots(slots: &[Option<Seated>], name: Name) -> usize
     slots.iter().filter(|slot| is_named(slot, name)).count()
 }
 
-/// How many players of a table have this name.
+/// Tells how many players of a table have this name.
 fn count_at_table(book: &SeatBook, table: u8, name: Name) -> usize
     requires { IsTableOf book.now.table_count table }
     ensures { result ≡ count_by (bytes_eq name) (names_at book.now table) }
@@ -45,21 +45,21 @@ fn count_at_table(book: &SeatBook, table: u8, name: Name) -> usize
     count_in_slots(book.table_slots(table), name)
 }
 
-/// Whether each place comes as often among others.
+/// Tells whether each place comes as often among others.
 fn places_come_as_often(places: &[Place], others: &[Place]) -> bool
     ensures { result ≡ come_as_often is_same_place places.now others.now }
 {
     places.iter().all(|place| count_of_place(places, *place) == count_of_place(others, *place))
 }
 
-/// Whether places are the same as others in some order.
+/// Tells whether places are the same as others in some order.
 fn are_same_places(places: &[Place], others: &[Place]) -> bool
     ensures { result ≡ is_reordered is_same_place places.now others.now }
 {
     places.len() == others.len() && places_come_as_often(places, others)
 }
 
-/// Whether each name comes as often among a table's players.
+/// Tells whether each name comes as often among a table's players.
 fn names_come_as_often(book: &SeatBook, table: u8, names: &[Name]) -> bool
     requires { IsTableOf book.now.table_count table }
     ensures { result ≡ come_as_often bytes_eq names.now (names_at book.now table) }
@@ -67,7 +67,7 @@ fn names_come_as_often(book: &SeatBook, table: u8, names: &[Name]) -> bool
     names.iter().all(|name| count_of_name(names, *name) == count_at_table(book, table, *name))
 }
 
-/// Whether names are those of a table's players in some order.
+/// Tells whether names are those of a table's players in some order.
 fn are_players(book: &SeatBook, table: u8, names: &[Name]) -> bool
     requires { IsTableOf book.now.table_count table }
     ensures { result ≡ is_reordered bytes_eq names.now (names_at book.now table) }
@@ -75,8 +75,8 @@ fn are_players(book: &SeatBook, table: u8, names: &[Name]) -> bool
     names.len() == usize::from(book.count(table)) && names_come_as_often(book, table, names)
 }
 
-/// Whether a draw of a broken table is right: the seats are those of its fill list in some order, and the names those
-/// of its players in some order.
+/// Tells whether a draw of a broken table is right: the seats are those of its fill list in some order, and the names
+/// those of its players in some order.
 pub fn check_draw(
     book: &SeatBook,
     table: u8,

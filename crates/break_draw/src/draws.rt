@@ -12,7 +12,7 @@ use floor_text::Name;
 use seat_book::Place;
 use std::alloc::{AllocError, Global};
 
-/// A list in the order of a draw.
+/// Gives a list in the order of a draw.
 fn drawn<T: Copy + Drop>(
     alloc: Global,
     seed: [u8; 32],

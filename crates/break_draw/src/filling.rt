@@ -21,7 +21,7 @@ use std::alloc::Global;
 /// The most tables of a tournament.
 const MOST_TABLES: usize = 64;
 
-/// Whether a table is open and another than this one.
+/// Tells whether a table is open and another than this one.
 fn is_other_open(book: &SeatBook, table: u8, other: u8) -> bool
     requires { IsTableOf book.now.table_count other }
     ensures { result ≡ is_other_open book.now table other }
@@ -29,7 +29,7 @@ fn is_other_open(book: &SeatBook, table: u8, other: u8) -> bool
     book.count(other) > 0 && other != table
 }
 
-/// How many empty seats the other open tables have.
+/// Tells how many empty seats the other open tables have.
 fn empty_elsewhere(book: &SeatBook, table: u8) -> u16
     ensures { result ≡ empty_elsewhere book.now table }
 {
@@ -44,7 +44,7 @@ fn empty_elsewhere(book: &SeatBook, table: u8) -> u16
     empty
 }
 
-/// The counts of the tables, each by its number less one.
+/// Gives the counts of the tables, each by its number less one.
 fn counts_of(book: &SeatBook) -> [u8; MOST_TABLES]
     ensures each { HasCounts book.now.table_count (count_at book.now.players) result }
     ensures lawful { IsSeating book.now }
@@ -56,7 +56,7 @@ fn counts_of(book: &SeatBook) -> [u8; MOST_TABLES]
     counts
 }
 
-/// Of two tables the one with the lower count, and the first where they have the same.
+/// Gives the one of two tables with the lower count, and the first where they have the same.
 fn lower_of(counts: &[u8; MOST_TABLES], table: Option<u8>, other: u8) -> u8
     requires table { ForSome table (IsTableOf 64) }
     requires other { IsTableOf 64 other }
@@ -76,7 +76,7 @@ fn lower_of(counts: &[u8; MOST_TABLES], table: Option<u8>, other: u8) -> u8
     }
 }
 
-/// The other open table with the lowest of these counts, the first such, if there is one.
+/// Gives the other open table with the lowest of these counts, the first such, if there is one.
 fn lowest_table(book: &SeatBook, table: u8, counts: &[u8; MOST_TABLES]) -> Option<u8>
     ensures lowest { (count : ℕ → ℕ) → HasCounts book.now.table_count count counts.now
         → result ≡ lowest_table count (other_open_tables book.now table) }
@@ -92,7 +92,7 @@ fn lowest_table(book: &SeatBook, table: u8, counts: &[u8; MOST_TABLES]) -> Optio
     lowest
 }
 
-/// The seats of a table that are taken or chosen, once this place is chosen.
+/// Gives the seats of a table that are taken or chosen, once this place is chosen.
 fn with_chosen(taken: SeatSet, table: u8, place: Place) -> SeatSet
     requires first { 1 ≤ place.seat }
     requires last { place.seat ≤ 10 }
@@ -109,7 +109,7 @@ fn with_chosen(taken: SeatSet, table: u8, place: Place) -> SeatSet
     }
 }
 
-/// The lowest seat of a table that is empty and not chosen, where it has one.
+/// Gives the lowest seat of a table that is empty and not chosen, where it has one.
 fn free_seat(book: &SeatBook, table: u8, chosen: &[Place]) -> u8
     requires table { IsTableOf book.now.table_count table }
     requires places { list_all (is_place_of book.now.table_count book.now.seat_count) chosen.now ≡ true }
@@ -124,7 +124,7 @@ fn free_seat(book: &SeatBook, table: u8, chosen: &[Place]) -> u8
     empty_seat_after(taken, seats, seats)
 }
 
-/// The next seat to fill, where there is room for one more.
+/// Gives the next seat to fill, where there is room for one more.
 fn next_to_fill(book: &SeatBook, table: u8, counts: &[u8; MOST_TABLES], chosen: &[Place]) -> Place
     requires filled { filled book.now table (length chosen.now) ≡ Some chosen.now }
     requires room { length chosen.now < empty_elsewhere book.now table }

@@ -13,7 +13,7 @@ ghost use Rattle.break_draw.specs.declared.random.DrawKind.{DrawKind};
 ghost use Rattle.break_draw.specs.Draws.{IsDraw, is_draw};
 ghost use Rattle.break_draw.specs.Generator.{drawn_order};
 
-/// A fill list has distinct empty seats at other open tables, as many as the table has players.
+/// Says that a fill list has distinct empty seats at other open tables, as many as the table has players.
 pub fn a_fill_list_has_empty_seats_elsewhere()
     ensures many { (seating : Seating) (table : ℕ) (fill : List Place) → fill_seats seating table ≡ Some fill
         → length fill ≡ count_at seating.players table }
@@ -27,8 +27,8 @@ pub fn a_fill_list_has_empty_seats_elsewhere()
         → are_distinct is_same_place fill ≡ true }
 {}
 
-/// After a break no table that took a player has two players more than another open table. So any two tables that took
-/// players differ by at most one.
+/// Says that after a break no table that took a player has two players more than another open table. So any two tables
+/// that took players differ by at most one.
 pub fn a_break_leaves_the_tables_even()
     ensures { (seating : Seating) (table one other : ℕ) (fill : List Place) → fill_seats seating table ≡ Some fill
         → list_any (is_at one) fill ≡ true → IsTableOf seating.table_count other
@@ -36,8 +36,8 @@ pub fn a_break_leaves_the_tables_even()
         → count_with seating.players fill one ≤ count_with seating.players fill other + 1 }
 {}
 
-/// A draw passes its check, for every seed, kind and number: the drawn seats are those of the fill list in some order,
-/// and the drawn names those of the table's players in some order.
+/// Says that a draw passes its check, for every seed, kind and number: the drawn seats are those of the fill list in
+/// some order, and the drawn names those of the table's players in some order.
 pub fn a_draw_passes_its_check()
     ensures test { (seed : List ℕ) (kind other : DrawKind) (number : ℕ) (seating : Seating) (table : ℕ)
         (fill : List Place) → is_draw seating table fill (drawn_order seed kind number fill)

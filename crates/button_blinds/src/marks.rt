@@ -85,7 +85,7 @@ fn moved_marks(old: Marks, occupied: SeatSet, seats: u8, big: u8) -> NextMarks
     }
 }
 
-/// The big blind of the next hand: that of `next_marks`.
+/// Gives the big blind of the next hand: that of `next_marks`.
 pub fn next_big(old: Option<Marks>, occupied: SeatSet, seats: u8) -> u8
     requires players { 2 ≤ seat_count occupied }
     requires table { AreSeatsOf seats occupied }
@@ -104,7 +104,7 @@ pub fn next_big(old: Option<Marks>, occupied: SeatSet, seats: u8) -> u8
     }
 }
 
-/// The marks of the next hand and who waits, by the marks of the hand before, if there was one, by the seats
+/// Gives the marks of the next hand and who waits, by the marks of the hand before, if there was one, by the seats
 /// where somebody sits, and by the number of seats.
 pub fn next_marks(old: Option<Marks>, occupied: SeatSet, seats: u8) -> NextMarks
     requires players { 2 ≤ seat_count occupied }

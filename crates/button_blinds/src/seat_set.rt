@@ -26,7 +26,7 @@ impl Model for SeatSet {
 }
 
 impl SeatSet {
-    /// The set with no seat.
+    /// Makes the set with no seat.
     pub fn empty() -> SeatSet
         ensures same { result ≡ no_seats }
         ensures table { (seats : ℕ) → AreSeatsOf seats result }
@@ -36,7 +36,7 @@ impl SeatSet {
         }
     }
 
-    /// The set with this seat in it.
+    /// Gives the set with this seat in it.
     pub fn with(self, seat: u8) -> SeatSet
         requires first { 1 ≤ seat }
         requires last { seat ≤ 10 }
@@ -49,7 +49,7 @@ impl SeatSet {
         SeatSet { is_in }
     }
 
-    /// The set without this seat.
+    /// Gives the set without this seat.
     pub fn without(self, seat: u8) -> SeatSet
         requires first { 1 ≤ seat }
         requires last { seat ≤ 10 }
@@ -62,7 +62,7 @@ impl SeatSet {
         SeatSet { is_in }
     }
 
-    /// Whether this seat is in the set.
+    /// Tells whether this seat is in the set.
     pub fn has(self, seat: u8) -> bool
         requires first { 1 ≤ seat }
         requires last { seat ≤ 10 }
@@ -71,7 +71,7 @@ impl SeatSet {
         self.is_in[seat as usize - 1]
     }
 
-    /// How many seats are in the set.
+    /// Tells how many seats are in the set.
     pub fn count(self) -> u8
         ensures count { result ≡ seat_count self }
         ensures most { result ≤ 10 }

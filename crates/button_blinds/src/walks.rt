@@ -8,7 +8,7 @@ ghost use Rattle.button_blinds.specs.Marks.{waiting_between};
 use crate::SeatSet;
 use rulebook::{seat_after, seat_before};
 
-/// The next occupied seat after this one.
+/// Gives the next occupied seat after this one.
 pub(crate) fn next_occupied_after(occupied: SeatSet, seats: u8, seat: u8) -> u8
     requires some { 1 ≤ seats }
     requires most { seats ≤ 10 }
@@ -26,7 +26,7 @@ pub(crate) fn next_occupied_after(occupied: SeatSet, seats: u8, seat: u8) -> u8
     seat
 }
 
-/// The nearest occupied seat before this one.
+/// Gives the nearest occupied seat before this one.
 pub(crate) fn nearest_occupied_before(occupied: SeatSet, seats: u8, seat: u8) -> u8
     requires some { 1 ≤ seats }
     requires most { seats ≤ 10 }
@@ -46,7 +46,7 @@ pub(crate) fn nearest_occupied_before(occupied: SeatSet, seats: u8, seat: u8) ->
     seat
 }
 
-/// Those who sit strictly between button and small, clockwise.
+/// Gives those who sit strictly between button and small, clockwise.
 pub(crate) fn waiting_between(occupied: SeatSet, seats: u8, button: u8, small: u8) -> SeatSet
     requires some { 1 ≤ seats }
     requires most { seats ≤ 10 }

@@ -24,21 +24,21 @@ impl Model for Pair {
 }
 
 impl Pair {
-    /// Two cards, as they lie.
+    /// Makes a pair of two cards, as they lie.
     pub fn new(cards: [Card; 2]) -> Pair
         ensures { result ≡ cards }
     {
         Pair { cards }
     }
 
-    /// The two cards.
+    /// Gives the two cards.
     pub fn cards(self) -> [Card; 2]
         ensures { result ≡ self }
     {
         self.cards
     }
 
-    /// The pair with three more cards.
+    /// Gives the pair with three more cards.
     pub fn with(self, three: Three) -> Five
         ensures { result ≡ self ++ three }
     {
@@ -85,7 +85,7 @@ impl Model for Five {
 }
 
 impl Three {
-    /// Three cards, as they lie.
+    /// Makes a three of three cards, as they lie.
     pub fn new(cards: [Card; 3]) -> Three
         ensures { result ≡ cards }
     {
@@ -94,14 +94,14 @@ impl Three {
 }
 
 impl Five {
-    /// Five cards, as they lie.
+    /// Makes a five of five cards, as they lie.
     pub fn new(cards: [Card; 5]) -> Five
         ensures { result ≡ cards }
     {
         Five { cards }
     }
 
-    /// The five cards.
+    /// Gives the five cards.
     pub fn cards(self) -> [Card; 5]
         ensures { result ≡ self }
     {

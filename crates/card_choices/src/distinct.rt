@@ -6,7 +6,7 @@ ghost use Rattle.card_choices.specs.Choices.{AreDistinct};
 
 use card_set::Card;
 
-/// Whether each card differs from each later one.
+/// Tells whether each card differs from each later one.
 fn differ(cards: &[Card]) -> bool
     ensures { result ≡ not (repeats_a_card cards.now) }
 {
@@ -16,7 +16,7 @@ fn differ(cards: &[Card]) -> bool
     }
 }
 
-/// Whether each card of two lists together differs from each later one.
+/// Tells whether each card of two lists together differs from each later one.
 fn differ_together(hole: &[Card], board: &[Card]) -> bool
     ensures { result ≡ not (repeats_a_card (hole.now ++ board.now)) }
 {
@@ -28,7 +28,7 @@ fn differ_together(hole: &[Card], board: &[Card]) -> bool
     }
 }
 
-/// Whether no card comes twice among a player's hole cards and the board.
+/// Tells whether no card comes twice among a player's hole cards and the board.
 pub fn are_distinct(hole: &[Card], board: &[Card]) -> bool
     ensures { IsTrue result ↔ AreDistinct (hole.now ++ board.now) }
 {

@@ -26,7 +26,7 @@ impl Model for Deck {
     ghost inverse = { λ cards. record { cards = cards } };
 }
 
-/// The index of a card in a deck that is in order.
+/// Gives the index of a card in a deck that is in order.
 fn index_of(card: Card) -> usize
     ensures index { result ≡ index_of card }
     ensures within { result < 52 }
@@ -35,7 +35,7 @@ fn index_of(card: Card) -> usize
 }
 
 impl Deck {
-    /// The deck of a row. `None` exactly where a card comes twice.
+    /// Makes the deck of a row. `None` exactly where a card comes twice.
     pub fn of_row(row: &CardRow) -> Option<Deck>
         ensures some { IsSome result ↔ IsDeck row.now.cards }
         ensures none { is_none result ≡ repeats_a_card row.now.cards }
@@ -52,7 +52,7 @@ impl Deck {
         Some(Deck { cards: row.cards })
     }
 
-    /// The deck in order: from the twos to the aces, and of each rank clubs, diamonds, hearts and spades.
+    /// Makes the deck in order: from the twos to the aces, and of each rank clubs, diamonds, hearts and spades.
     pub fn sorted() -> Deck
         ensures order { IsInOrder result }
         ensures deck { IsDeck result }
@@ -67,7 +67,7 @@ impl Deck {
         Deck { cards }
     }
 
-    /// The card at an index: 0 is the top of the deck.
+    /// Gives the card at an index: 0 is the top of the deck.
     pub fn card(&self, index: usize) -> Card
         requires { index < 52 }
         ensures card { slice_get self.now index ≡ Some result }
@@ -76,7 +76,7 @@ impl Deck {
         self.cards[index]
     }
 
-    /// The row of the deck's cards.
+    /// Gives the row of the deck's cards.
     pub fn row(&self) -> CardRow
         ensures same { result.cards ≡ self.now }
         ensures deck { IsDeck self.now }

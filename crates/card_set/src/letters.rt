@@ -71,14 +71,14 @@ const SUIT_INDICES: [Option<u8>; 17] = [
     Some(3),
 ];
 
-/// What a table has at an index. `None` where it has nothing there, or ends before.
+/// Tells what a table has at an index. `None` where it has nothing there, or ends before.
 fn looked_up(table: &[Option<u8>], index: u8) -> Option<u8>
     ensures { result ≡ option_flatten (slice_get table.now index) }
 {
     table.get(usize::from(index)).copied().flatten()
 }
 
-/// The index of a letter among those of the ranks.
+/// Gives the index of a letter among those of the ranks.
 #[tactic(auto, using(crate::proofs::LetterTables::rank_looked_up))]
 pub(crate) fn rank_index(letter: u8) -> Option<u8>
     ensures { result ≡ position (λ known. known == letter) rank_letters }
@@ -86,7 +86,7 @@ pub(crate) fn rank_index(letter: u8) -> Option<u8>
     looked_up(&RANK_INDICES, letter.wrapping_sub(b'2'))
 }
 
-/// The index of a letter among those of the suits.
+/// Gives the index of a letter among those of the suits.
 #[tactic(auto, using(crate::proofs::LetterTables::suit_looked_up))]
 pub(crate) fn suit_index(letter: u8) -> Option<u8>
     ensures { result ≡ position (λ known. known == letter) (codes "cdhs") }

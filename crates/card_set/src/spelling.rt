@@ -33,7 +33,7 @@ pub fn read_card(a: u8, b: u8) -> Option<Card>
     Some(Card { rank, suit })
 }
 
-/// The text of a card, as it is read.
+/// Gives the text of a card, as it is read.
 pub fn card_text(card: Card) -> [u8; 2]
     ensures text { result ≡ card_text card }
 {

@@ -6,14 +6,14 @@ ghost use Rattle.chip_race.specs.BestCards.{better, highest, best_cards, is_ahea
 
 use card_set::Card;
 
-/// Whether a card is higher than another: by rank, and of the same rank spades, hearts, diamonds, clubs.
+/// Tells whether a card is higher than another: by rank, and of the same rank spades, hearts, diamonds, clubs.
 pub(crate) fn is_higher(one: Card, other: Card) -> bool
     ensures { result ≡ is_higher one other }
 {
     one.rank > other.rank || one.rank == other.rank && one.suit > other.suit
 }
 
-/// The better of the best card so far and one more.
+/// Gives the better of the best card so far and one more.
 fn better(best: Option<Card>, card: Card) -> Option<Card>
     ensures { result ≡ better best card }
 {
@@ -23,7 +23,7 @@ fn better(best: Option<Card>, card: Card) -> Option<Card>
     }
 }
 
-/// The highest of some cards.
+/// Gives the highest of some cards.
 fn highest(cards: &[Card]) -> Option<Card>
     ensures { result ≡ highest cards.now }
 {
@@ -34,8 +34,8 @@ fn highest(cards: &[Card]) -> Option<Card>
     best
 }
 
-/// Each player's best card: he gets one card for each odd chip of the old unit, and cards go from the top, players in
-/// rising seat.
+/// Gives each player's best card: he gets one card for each odd chip of the old unit, and cards go from the top,
+/// players in rising seat.
 pub(crate) fn best_cards(
     stacks: &[u64; 10],
     old: u64,

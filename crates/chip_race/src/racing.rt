@@ -7,7 +7,7 @@ use crate::RaceResult;
 use crate::winners::winners;
 use card_set::Deck;
 
-/// The sum of what the stacks have above whole chips of the new unit.
+/// Gives the sum of what the stacks have above whole chips of the new unit.
 fn removed_value(stacks: &[u64; 10], new: u64) -> u64
     requires unit { 1 ≤ new }
     requires fits { sum stacks.now < 2 ^ 53 }
@@ -20,7 +20,7 @@ fn removed_value(stacks: &[u64; 10], new: u64) -> u64
     removed
 }
 
-/// The value that a player is given: the chip of the new unit that he has won, or the one that protects him.
+/// Gives the value that a player is given: the chip of the new unit that he has won, or the one that protects him.
 fn given_value(new: u64, has_won: bool, stack: u64) -> u64
     requires unit { 1 ≤ new }
     ensures { result ≡ given_value new has_won stack }

@@ -7,7 +7,7 @@ ghost use Rattle.chip_race.specs.BestCards.{is_ahead, is_among_first};
 use crate::best_cards::{best_cards, is_higher};
 use card_set::{Card, Deck};
 
-/// Whether a player's best card is higher than this one.
+/// Tells whether a player's best card is higher than this one.
 fn is_ahead(other: Option<Card>, mine: Card) -> bool
     ensures { result ≡ is_ahead other mine }
 {
@@ -17,7 +17,7 @@ fn is_ahead(other: Option<Card>, mine: Card) -> bool
     }
 }
 
-/// Whether a player with this best card is among the first so many by their best cards.
+/// Tells whether a player with this best card is among the first so many by their best cards.
 fn is_among_first(best: &[Option<Card>; 10], chips: u64, own: Option<Card>) -> bool
     ensures { result ≡ is_among_first best.now chips own }
 {
@@ -27,7 +27,7 @@ fn is_among_first(best: &[Option<Card>; 10], chips: u64, own: Option<Card>) -> b
     }
 }
 
-/// Who wins a chip, by seat: so many chips go one each to the players with the highest single cards.
+/// Tells who wins a chip, by seat: so many chips go one each to the players with the highest single cards.
 pub(crate) fn winners(stacks: &[u64; 10], old: u64, new: u64, chips: u64, deck: &Deck) -> [bool; 10]
     requires unit { 1 ≤ old }
     requires greater { old < new }

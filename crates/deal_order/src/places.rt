@@ -6,7 +6,7 @@ ghost use Rattle.deal_order.specs.DealOrder.{index_in, dealt_in_order, hole_card
 use button_blinds::SeatSet;
 use rulebook::seat_after;
 
-/// How many players who are dealt in come before this seat in the deal, which goes clockwise from the seat after
+/// Tells how many players who are dealt in come before this seat in the deal, which goes clockwise from the seat after
 /// the button.
 fn index_in_deal(dealt: SeatSet, button: u8, seats: u8, seat: u8) -> u8
     requires some { 1 ≤ seats }
@@ -28,7 +28,7 @@ fn index_in_deal(dealt: SeatSet, button: u8, seats: u8, seat: u8) -> u8
     before
 }
 
-/// The place in the deck of a player's hole card `k`, counted from 0, where so many `holes` are dealt to each
+/// Gives the place in the deck of a player's hole card `k`, counted from 0, where so many `holes` are dealt to each
 /// player. Cards are dealt one at a time, clockwise from the seat after the button.
 pub fn hole_place(dealt: SeatSet, button: u8, seats: u8, holes: u8, seat: u8, k: u8) -> usize
     requires some { 1 ≤ seats }
@@ -41,8 +41,8 @@ pub fn hole_place(dealt: SeatSet, button: u8, seats: u8, holes: u8, seat: u8, k:
     k as usize * dealt.count() as usize + index as usize
 }
 
-/// How many cards are burned before card `i` of the board: one before the flop, one before the turn and one before
-/// the river.
+/// Tells how many cards are burned before card `i` of the board: one before the flop, one before the turn and one
+/// before the river.
 fn burned_before(i: u8) -> usize
     ensures same { result ≡ burned_before i }
     ensures most { result ≤ 3 }
@@ -54,8 +54,8 @@ fn burned_before(i: u8) -> usize
     }
 }
 
-/// The place in the deck of card `i` of the board, where so many players are dealt in and so many `holes` are dealt
-/// to each: 0 to 2 are the flop, 3 is the turn and 4 the river.
+/// Gives the place in the deck of card `i` of the board, where so many players are dealt in and so many `holes` are
+/// dealt to each: 0 to 2 are the flop, 3 is the turn and 4 the river.
 pub fn board_place(dealt: u8, holes: u8, i: u8) -> usize
     ensures place { result ≡ board_card_place dealt holes i }
     ensures within { dealt ≤ 10 → holes ≤ 4 → i ≤ 4 → result < 52 }

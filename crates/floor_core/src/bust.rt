@@ -14,7 +14,8 @@ use rulebook::MOST_ENTRIES;
 use seat_book::SeatBook;
 use table_engine::{HandRecord, StartSeat};
 
-/// A player who is broke leaves his seat and is out, in a group and with the stack that he began his last hand with.
+/// Takes a player who is broke from his seat: he is out, in a group and with the stack that he began his last hand
+/// with.
 fn bust(seats: &mut SeatBook, busts: &mut PlaceList, player: StartSeat, group: u64)
     requires entry { player.player < MOST_ENTRIES }
     requires sits { IsSome (place_of seats.old.players player.player) }
@@ -27,7 +28,7 @@ fn bust(seats: &mut SeatBook, busts: &mut PlaceList, player: StartSeat, group: u
     busts.bust(player.player, player.stack, group);
 }
 
-/// The players whom a hand leaves without chips go out, in one group.
+/// Puts out the players whom a hand leaves without chips, in one group.
 pub(crate) fn bust_broke(seats: &mut SeatBook, busts: &mut PlaceList, done: &HandRecord, group: u64)
     requires play { IsCompletePlay done.now }
     requires may { MayGoOut done.now.start.seats seats.old.players busts.old }

@@ -161,7 +161,7 @@ impl Book {
         self.plan.stack
     }
 
-    /// A player enters and sits down. An error leaves the book as it was.
+    /// Enters a player, who sits down. An error leaves the book as it was.
     #[tactic(auto, using(tournament_rules::proofs::Entries::valid_entered), unfolding(tournament_rules::specs::Checks::book_refusal))]
     pub(crate) fn enter(&mut self, name: Name, table: u64, seat: u64) -> Result<(), BookFault>
         requires { self.old.accepted < 2 ^ 60 }

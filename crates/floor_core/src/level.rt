@@ -35,7 +35,7 @@ fn raised_status(status: TableStatus, unit: u64, opened: bool) -> TableStatus
     }
 }
 
-/// A level with this greater unit is current at a table.
+/// Makes a level with this greater unit current at a table.
 fn raise_table(seats: &mut SeatBook, table: u8, unit: u64)
     requires table { IsTableOf seats.old.table_count table }
     requires some { 1 ≤ unit }
@@ -45,8 +45,8 @@ fn raise_table(seats: &mut SeatBook, table: u8, unit: u64)
     seats.set_status(table, status);
 }
 
-/// A level with this greater unit is current at each table: a race is pending where somebody sits, and else the table
-/// has the unit at once.
+/// Makes a level with this greater unit current at each table: a race is pending where somebody sits, and else the
+/// table has the unit at once.
 fn raise(seats: &mut SeatBook, unit: u64)
     requires { 1 ≤ unit }
     ensures { seats.new ≡ raised unit seats.old }
@@ -56,7 +56,7 @@ fn raise(seats: &mut SeatBook, unit: u64)
     }
 }
 
-/// The tables take a level's unit, where it is greater than the one before.
+/// Gives the tables a level's unit, where it is greater than the one before.
 fn raise_from(seats: &mut SeatBook, before: u64, unit: u64)
     requires { 1 ≤ unit }
     ensures { seats.new ≡ (if nat_lt before unit then raised unit seats.old else seats.old) }
@@ -97,7 +97,7 @@ impl Book {
         self.plan.blinds.items()[level as usize - 1].unit
     }
 
-    /// The next level is current from each table's next hand on. An error leaves the book as it was. It takes no
+    /// Makes the next level current from each table's next hand on. An error leaves the book as it was. It takes no
     /// memory.
     #[tactic(auto, using(tournament_rules::proofs::Levels::valid_leveled), unfolding(tournament_rules::specs::Checks::book_refusal))]
     pub(crate) fn next_level(&mut self) -> Result<(), BookFault>

@@ -51,7 +51,7 @@ pub(crate) fn pay_stacks(seats: &mut SeatBook, players: &[StartSeat], stacks: &[
     }
 }
 
-/// A table plays no more.
+/// Ends the play at a table.
 pub(crate) fn rest_table(seats: &mut SeatBook, table: u8)
     requires { IsTableOf seats.old.table_count table }
     ensures { seats.new ≡ with_table seats.old table at_rest }

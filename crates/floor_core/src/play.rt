@@ -46,7 +46,7 @@ impl Model for Play {
 }
 
 impl Play {
-    /// A tournament before any entry.
+    /// Makes a tournament before any entry.
     #[tactic(auto, using(tournament_rules::proofs::Layers::layers))]
     pub(crate) fn new(alloc: Global, plan: Plan) -> Result<Play, AllocError>
         ensures { IfOk result (λ play. play ≡ first_play plan) }
@@ -56,7 +56,7 @@ impl Play {
         Ok(Play { book, hands })
     }
 
-    /// A hand begins.
+    /// Begins a hand.
     #[tactic(auto, using(tournament_rules::proofs::Layers::layers), unfolding(tournament_rules::specs::States::refusal_of))]
     fn begin(&mut self, table: u64, row: &CardRow) -> Result<(), BookFault>
         requires { self.old.book.accepted < 2 ^ 60 }
@@ -69,7 +69,7 @@ impl Play {
         Ok(())
     }
 
-    /// A player acts in the hand at a table.
+    /// Lets a player act in the hand at a table.
     #[tactic(auto, using(tournament_rules::proofs::Layers::layers), unfolding(tournament_rules::specs::States::refusal_of))]
     fn act(&mut self, table: u64, name: Name, act: Act) -> Result<(), BookFault>
         ensures answer { IsAnswer (refusal_of self.old (events.Act table name act)) result }
@@ -80,7 +80,7 @@ impl Play {
         act_at(&mut self.hands, usize::from(table), name, act)
     }
 
-    /// Time is called on the player who is due in the hand at a table.
+    /// Calls time on the player who is due in the hand at a table.
     #[tactic(auto, using(tournament_rules::proofs::Layers::layers), unfolding(tournament_rules::specs::States::refusal_of))]
     fn time(&mut self, table: u64) -> Result<(), BookFault>
         ensures answer { IsAnswer (refusal_of self.old (events.Time table)) result }
@@ -91,7 +91,7 @@ impl Play {
         time_at(&mut self.hands, usize::from(table))
     }
 
-    /// The hand at a table is settled.
+    /// Settles the hand at a table.
     #[tactic(auto, using(tournament_rules::proofs::Layers::layers), unfolding(tournament_rules::specs::States::refusal_of))]
     fn settle(&mut self, table: u64) -> Result<(), BookFault>
         requires { self.old.book.accepted < 2 ^ 60 }
@@ -107,7 +107,7 @@ impl Play {
         Ok(())
     }
 
-    /// The tournament is stopped, and every hand is void.
+    /// Stops the tournament: every hand is void.
     #[tactic(auto, using(tournament_rules::proofs::Layers::layers), unfolding(tournament_rules::specs::States::refusal_of))]
     fn stop(&mut self) -> Result<(), BookFault>
         requires { self.old.book.accepted < 2 ^ 60 }

@@ -47,7 +47,7 @@ fn stacks_at(seats: &SeatBook, table: u8) -> [u64; 10]
     stacks
 }
 
-/// The player in a seat of a table, if one sits there, has this stack.
+/// Gives the player in a seat of a table this stack, if one sits there.
 fn restack_seat(seats: &mut SeatBook, place: Place, stack: u64)
     requires { IsPlaceOf seats.old.table_count seats.old.seat_count place }
     ensures { seats.new ≡ record seats.old { players = with_stack place stack seats.old.players } }
@@ -57,7 +57,7 @@ fn restack_seat(seats: &mut SeatBook, place: Place, stack: u64)
     }
 }
 
-/// The players of a table have these stacks by seat, index 0 for seat 1.
+/// Gives the players of a table these stacks by seat, index 0 for seat 1.
 fn restack(seats: &mut SeatBook, table: u8, stacks: &[u64; 10])
     requires { IsTableOf seats.old.table_count table }
     ensures { seats.new ≡ record seats.old { players = map (restacked table stacks.now) seats.old.players } }
@@ -78,7 +78,7 @@ fn unit_after(status: TableStatus) -> u64
     status.race.unwrap_or(status.unit)
 }
 
-/// A table has its new unit, and no race is pending there.
+/// Gives a table its new unit: no race is pending there.
 fn end_race(seats: &mut SeatBook, table: u8)
     requires { IsTableOf seats.old.table_count table }
     ensures { seats.new ≡ with_table seats.old table raced_off }
@@ -143,7 +143,7 @@ impl Book {
         race(&stacks, status.unit, unit_after(status), deck)
     }
 
-    /// The race that is pending at a table is made. An error leaves the book as it was. It takes no memory.
+    /// Makes the race that is pending at a table. An error leaves the book as it was. It takes no memory.
     #[tactic(auto, using(tournament_rules::proofs::Races::valid_raced), unfolding(tournament_rules::specs::Checks::book_refusal))]
     pub(crate) fn race(&mut self, table: u64, row: &CardRow) -> Result<(), BookFault>
         requires { self.old.accepted < 2 ^ 60 }

@@ -30,7 +30,7 @@ impl Book {
         self.check_not_over()
     }
 
-    /// Hand-for-hand is switched on or off. An error leaves the book as it was. It takes no memory.
+    /// Switches hand-for-hand on or off. An error leaves the book as it was. It takes no memory.
     #[tactic(auto, using(tournament_rules::proofs::Rounds::valid_with_hands), unfolding(tournament_rules::specs::Checks::book_refusal))]
     pub(crate) fn hands(&mut self, on: bool) -> Result<(), BookFault>
         requires { self.old.accepted < 2 ^ 60 }
@@ -54,7 +54,7 @@ impl Book {
         self.check_not_over()
     }
 
-    /// A round of hand-for-hand ends. An error leaves the book as it was. It takes no memory.
+    /// Ends a round of hand-for-hand. An error leaves the book as it was. It takes no memory.
     #[tactic(auto, using(tournament_rules::proofs::Rounds::valid_round_ended), unfolding(tournament_rules::specs::Checks::book_refusal))]
     pub(crate) fn end_round(&mut self) -> Result<(), BookFault>
         requires { self.old.accepted < 2 ^ 60 }

@@ -66,7 +66,7 @@ impl<'a> Words<'a> {
         Words::between(SPACE, line)
     }
 
-    /// Whether no word is left.
+    /// Tells whether no word is left.
     pub fn is_done(&self) -> bool
         ensures { result ≡ no_word self.now }
     {

@@ -24,7 +24,7 @@ pub enum Fault {
 }
 
 impl Fault {
-    /// The exit status.
+    /// Gives the exit status.
     pub fn status(self) -> u8
         ensures { result ≡ fault_status self }
     {
@@ -37,7 +37,7 @@ impl Fault {
         }
     }
 
-    /// The line that tells it.
+    /// Gives the line that tells it.
     pub fn line(self) -> &'static [u8]
         ensures { result.now ≡ fault_line self }
     {

@@ -7,8 +7,8 @@ ghost use Rattle.tournament_rules.specs.States.{first_state};
 ghost use Rattle.tournament_rules.specs.States.{run, answers};
 ghost use Rattle.floor_offline.specs.Replay.{answers_to_items, state_after_items, events_of, item_of_event};
 
-/// The lines of a stream leave the state that the run of their events leaves, so the laws of runs hold of what
-/// is reported; and lines that all hold events are answered as the run answers these.
+/// Says that the lines of a stream leave the state that the run of their events leaves, so the laws of runs hold of
+/// what is reported; and lines that all hold events are answered as the run answers these.
 pub fn lines_are_a_run()
     ensures state { (items : List (Option Item))
         → state_after_items first_state items ≡ run first_state (events_of items) }

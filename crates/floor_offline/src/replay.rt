@@ -19,7 +19,7 @@ use std::alloc::{AllocError, Global};
 /// The most bytes that an input may have.
 pub const INPUT_LIMIT: u64 = 268_435_456;
 
-/// The answer to a line of at most 400 bytes.
+/// Answers a line of at most 400 bytes.
 #[tactic(auto, using(crate::proofs::Counted::counted_item))]
 fn answer_line(
     alloc: Global,

@@ -12,7 +12,7 @@ use crate::replay::{close, replay};
 use floor_text::{Sink, Source};
 use std::alloc::Global;
 
-/// Whether the words are the command `replay` and nothing else.
+/// Tells whether the words are the command `replay` and nothing else.
 fn is_replay(words: &[String]) -> bool
     ensures { IsTrue result ↔ (map string_bytes words.now ≡ codes "replay" ∷ []) }
 {

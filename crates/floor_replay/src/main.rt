@@ -8,7 +8,7 @@ use std::io::{self, ErrorKind};
 use std::process::ExitCode;
 use std::rt::Env;
 
-/// The words behind the program's own name.
+/// Gives the words behind the program's own name.
 fn command_words(rt: &(impl Env + AllocGlobal)) -> io::Result<Vec<String>> {
     let mut words = Vec::new(rt.alloc());
     for word in std::env::args(rt)?.skip(1) {

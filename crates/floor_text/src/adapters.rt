@@ -18,7 +18,7 @@ pub struct ReaderSource<R> {
 }
 
 impl<R: Read> ReaderSource<R> {
-    /// A source over this reader, which has not failed yet.
+    /// Makes a source over this reader, which has not failed yet.
     pub fn new(reader: R) -> ReaderSource<R>
         ensures { ⟦<ReaderSource<R> as Source>⟧.faults result ≡ 0 }
     {
@@ -63,7 +63,7 @@ pub struct WriterSink<W> {
 }
 
 impl<W: Write> WriterSink<W> {
-    /// A sink over this writer, which has not failed yet.
+    /// Makes a sink over this writer, which has not failed yet.
     pub fn new(writer: W) -> WriterSink<W>
         ensures written { ⟦<WriterSink<W> as Sink>⟧.written result ≡ W.contents writer }
         ensures faults { ⟦<WriterSink<W> as Sink>⟧.faults result ≡ 0 }
@@ -106,7 +106,7 @@ pub struct BufferedSink<W: Write + Drop> {
 }
 
 impl<W: Write + Drop> BufferedSink<W> {
-    /// A sink over this writer, which has not failed yet and holds nothing back. It takes the room that it needs.
+    /// Makes a sink over this writer, which has not failed yet and holds nothing back. It takes the room that it needs.
     pub fn new(alloc: Global, writer: W) -> Result<BufferedSink<W>, AllocError>
         ensures written { IfOk result (λ sink. IfSome (W.contents writer)
             (λ bytes. ⟦<BufferedSink<W> as Sink>⟧.written sink ≡ Some bytes)) }

@@ -144,7 +144,7 @@ impl LineReader {
         self.bytes.len()
     }
 
-    /// The index of the first line feed within the limit, where there is none before the index given.
+    /// Gives the index of the first line feed within the limit, where there is none before the index given.
     fn feed_from(&self, searched: usize) -> Option<usize>
         requires within { searched ≤ held_within self.now }
         requires before { HasNoFeed (take searched self.now.held) }

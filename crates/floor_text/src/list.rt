@@ -20,7 +20,7 @@ impl<T> Model for List<T> {
 }
 
 impl<T> List<T> {
-    /// A list with no item, which takes no memory.
+    /// Makes a list with no item, which takes no memory.
     pub fn new(alloc: Global) -> List<T>
         ensures { result ≡ [] }
     {
@@ -29,21 +29,21 @@ impl<T> List<T> {
         }
     }
 
-    /// The items.
+    /// Gives the items.
     pub fn items(&self) -> &[T]
         ensures { result.now ≡ self.now }
     {
         &self.items
     }
 
-    /// A list of the vector's items, which takes no memory.
+    /// Makes a list of the vector's items, which takes no memory.
     pub fn from_vec(items: Vec<T>) -> List<T>
         ensures { result ≡ items.items }
     {
         List { items }
     }
 
-    /// The items as a vector, which takes no memory.
+    /// Gives the items as a vector, which takes no memory.
     pub fn into_vec(self) -> Vec<T>
         ensures { result.items ≡ self }
     {

@@ -70,7 +70,7 @@ impl Model for MemSource {
 }
 
 impl MemSource {
-    /// A source of these bytes, which takes no memory. The calls whose numbers, from 1, are in `failing`
+    /// Makes a source of these bytes, which takes no memory. The calls whose numbers, from 1, are in `failing`
     /// fail and give nothing.
     pub fn new(bytes: Vec<u8>, failing: Vec<u64>) -> MemSource
         ensures { result ≡ record { left = bytes.items; failing = failing.items; calls = 0; faults = 0 } }
@@ -145,7 +145,7 @@ impl Model for MemSink {
 }
 
 impl MemSink {
-    /// An empty sink, which takes room for so many bytes. The calls whose numbers, from 1, are in
+    /// Makes an empty sink, which takes room for so many bytes. The calls whose numbers, from 1, are in
     /// `failing` fail and put nothing, and so do those that find too little room.
     pub fn new(alloc: Global, room: usize, failing: Vec<u64>) -> Result<MemSink, AllocError>
         ensures { IfOk result (λ sink. sink ≡ record {
@@ -163,7 +163,7 @@ impl MemSink {
         })
     }
 
-    /// The bytes that were put.
+    /// Gives the bytes that were put.
     pub fn bytes(&self) -> &[u8]
         ensures { result.now ≡ self.now.bytes }
     {

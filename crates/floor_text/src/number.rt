@@ -14,7 +14,7 @@ fn are_digits(bytes: &[u8]) -> bool
     bytes.iter().all(|byte| byte.is_ascii_digit())
 }
 
-/// Whether the bytes are digits with no zero in front, or the one digit `0`.
+/// Tells whether the bytes are digits with no zero in front, or the one digit `0`.
 fn is_spelled(bytes: &[u8]) -> bool
     ensures { result ≡ is_spelled bytes.now }
 {

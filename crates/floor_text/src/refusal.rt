@@ -98,7 +98,7 @@ pub enum Refusal {
 }
 
 impl Refusal {
-    /// The refusal's number, by which programs tell refusals apart.
+    /// Gives the refusal's number, by which programs tell refusals apart.
     pub fn number(self) -> u64
         ensures { result ≡ refusal_number self }
     {
@@ -150,7 +150,7 @@ impl Refusal {
         }
     }
 
-    /// The refusal's name, as an answer line shows it behind the number.
+    /// Gives the refusal's name, as an answer line shows it behind the number.
     pub fn name(self) -> &'static str
         ensures { result.now ≡ refusal_name self }
     {
@@ -203,7 +203,7 @@ impl Refusal {
     }
 }
 
-/// Two refusals have two numbers and two names, so either tells which refusal it is.
+/// Says that two refusals have two numbers and two names, so either tells which refusal it is.
 pub fn refusals_are_told_apart()
     ensures numbers { (r s : Refusal) → refusal_number r ≡ refusal_number s → r ≡ s }
     ensures names { (r s : Refusal) → refusal_name r ≡ refusal_name s → r ≡ s }

@@ -12,7 +12,7 @@ use crate::suits::Suits;
 use card_choices::pairs;
 use card_set::Card;
 
-/// The two hole cards and then the five of the board.
+/// Gives the two hole cards and then the five of the board.
 fn together(hole: [Card; 2], board: [Card; 5]) -> [Card; 7]
     ensures { result ≡ hole ++ board }
 {
@@ -21,8 +21,8 @@ fn together(hole: [Card; 2], board: [Card; 5]) -> [Card; 7]
     [a, b, c, d, e, f, g]
 }
 
-/// The best value of five of two hole cards and five board cards, as the list of its category and its ranks. No card
-/// may come twice.
+/// Gives the best value of five of two hole cards and five board cards, as the list of its category and its ranks. No
+/// card may come twice.
 pub fn best_holdem(hole: [Card; 2], board: [Card; 5]) -> HighValue
     requires distinct { AreDistinct (hole ++ board) }
     ensures best { result ≡ best_high (holdem_choices hole board) }
@@ -30,9 +30,9 @@ pub fn best_holdem(hole: [Card; 2], board: [Card; 5]) -> HighValue
     Suits::of(&together(hole, board)).value()
 }
 
-/// The best value of two of four hole cards with three of five board cards, as the list of its category and its ranks.
-/// No card may come twice. Each pair of hole cards is looked at with the sets of ranks of the board, and not with its
-/// choices of three cards.
+/// Gives the best value of two of four hole cards with three of five board cards, as the list of its category and its
+/// ranks. No card may come twice. Each pair of hole cards is looked at with the sets of ranks of the board, and not
+/// with its choices of three cards.
 pub fn best_omaha(hole: [Card; 4], board: [Card; 5]) -> HighValue
     requires distinct { AreDistinct (hole ++ board) }
     ensures best { result ≡ best_high (omaha_choices hole board) }

@@ -20,7 +20,7 @@ pub struct Board {
 }
 
 impl Board {
-    /// The board of these cards.
+    /// Makes the board of these cards.
     pub fn of(cards: [Card; 5]) -> Board
         ensures { AreOnce cards → IsBoardOf result cards }
     {
@@ -31,7 +31,7 @@ impl Board {
         }
     }
 
-    /// The ranks of the suit of two cards in them and on the board. None where they have two suits.
+    /// Gives the ranks of the suit of two cards in them and on the board. None where they have two suits.
     pub fn suited(&self, one: Card, other: Card) -> RankSet
         ensures { (cards : List Card) → IsBoardOf self.now cards
             → HasRanks result.bits 1 (count_of_some_suit (suit_of (one ∷ other ∷ [])) (one ∷ other ∷ cards)) }

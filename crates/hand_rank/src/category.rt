@@ -18,7 +18,7 @@ impl Category {
     ghost use Rattle.std.specs.Prelude.{◌≡◌};
     ghost use Rattle.hand_rank.specs.Values.{category_number};
 
-    /// The number of the category, from 0 to 8.
+    /// Gives the number of the category, from 0 to 8.
     pub fn number(self) -> u8
         ensures { result ≡ category_number self }
     {

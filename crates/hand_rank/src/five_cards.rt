@@ -13,7 +13,7 @@ use card_set::Card;
 /// The ranks from the ace down to the two.
 const RANKS_DOWN: [u8; 13] = [14, 13, 12, 11, 10, 9, 8, 7, 6, 5, 4, 3, 2];
 
-/// How often each rank occurs, by its number.
+/// Tells how often each rank occurs, by its number.
 fn count_ranks(cards: &[Card; 5]) -> [u8; 15]
     ensures { AreCountsOf result cards.now }
 {
@@ -46,7 +46,7 @@ fn add_ranks(
     }
 }
 
-/// The category by how often the distinct ranks occur, in their order. `None` where five ranks occur once.
+/// Gives the category by how often the distinct ranks occur, in their order. `None` where five ranks occur once.
 fn category_of(counts: &[u8]) -> Option<Category>
     ensures { result ≡ category_of counts.now }
 {
@@ -65,7 +65,7 @@ fn category_of(counts: &[u8]) -> Option<Category>
     }
 }
 
-/// The top rank of five distinct ranks, if they run.
+/// Gives the top rank of five distinct ranks, if they run.
 fn run_top(ranks: &[u8]) -> Option<u8>
     ensures { result ≡ run_top ranks.now }
 {
@@ -76,14 +76,14 @@ fn run_top(ranks: &[u8]) -> Option<u8>
     }
 }
 
-/// Whether all cards have a suit.
+/// Tells whether all cards have a suit.
 fn have_suit(cards: &[Card], suit: u8) -> bool
     ensures { result ≡ list_all (λ card. card.suit == suit) cards.now }
 {
     cards.iter().all(|card| card.suit == suit)
 }
 
-/// Whether there is one suit.
+/// Tells whether there is one suit.
 fn are_of_one_suit(cards: &[Card]) -> bool
     ensures { result ≡ are_of_one_suit cards.now }
 {
@@ -93,7 +93,7 @@ fn are_of_one_suit(cards: &[Card]) -> bool
     }
 }
 
-/// The value of five cards of distinct ranks.
+/// Gives the value of five cards of distinct ranks.
 fn value_of_distinct(top: Option<u8>, one_suit: bool, ranks: &[u8]) -> HighValue
     requires { length ranks.now ≤ 5 }
     ensures { result ≡ value_of_distinct top one_suit ranks.now }
@@ -106,7 +106,7 @@ fn value_of_distinct(top: Option<u8>, one_suit: bool, ranks: &[u8]) -> HighValue
     }
 }
 
-/// The value of five cards: their category, and then the distinct ranks.
+/// Gives the value of five cards: their category, and then the distinct ranks.
 pub fn five_card_value(cards: &[Card; 5]) -> HighValue
     ensures { result ≡ five_card_value cards.now }
 {

@@ -27,7 +27,7 @@ pub struct Held {
 }
 
 impl Held {
-    /// The pair with the board.
+    /// Gives the pair with the board.
     pub fn of(pair: Pair, board: &Board) -> Held
         ensures { (cards : List Card) → IsBoardOf board.now cards → length pair ≡ 2 → length cards ≡ 5
             → AreOnce (pair ++ cards) → IsHeld result pair cards }
@@ -41,7 +41,7 @@ impl Held {
         }
     }
 
-    /// The ranks that may occur most often where the others occur once: a pair of one rank is among them.
+    /// Gives the ranks that may occur most often where the others occur once: a pair of one rank is among them.
     fn leading(self, ranks: RankSet) -> RankSet
         ensures apart { ranks_of self.pair.twice.bits ≡ [] → result ≡ ranks }
         ensures alike { 1 ≤ length (ranks_of self.pair.twice.bits)
@@ -54,7 +54,8 @@ impl Held {
         }
     }
 
-    /// The ranks that may occur three times in a full house: where the pair has two ranks, they are those of the house.
+    /// Gives the ranks that may occur three times in a full house: where the pair has two ranks, they are those of the
+    /// house.
     fn threes(self) -> RankSet
         ensures apart { ranks_of self.pair.twice.bits ≡ []
             → (r : ℕ) → has_rank result.bits r ≡ (has_rank self.all.thrice.bits r && has_rank self.pair.once.bits r) }
@@ -67,7 +68,7 @@ impl Held {
         }
     }
 
-    /// The ranks that may occur twice beside another: a rank of the pair is among the two.
+    /// Gives the ranks that may occur twice beside another: a rank of the pair is among the two.
     fn seconds(self, first: u8) -> RankSet
         requires { first < 16 }
         ensures of_pair { has_rank self.pair.once.bits first ≡ true
@@ -84,7 +85,8 @@ impl Held {
         }
     }
 
-    /// The greatest so many ranks beside those that occur most often, with the other ranks of the pair among them.
+    /// Gives the greatest so many ranks beside those that occur most often, with the other ranks of the pair among
+    /// them.
     fn others(self, most: RankSet, from: RankSet, count: u8) -> Option<RankSet>
         ensures { IsGreatestWith result (λ r. has_rank from.bits r && not (has_rank most.bits r))
             (λ r. has_rank self.pair.once.bits r && not (has_rank most.bits r)) count }
@@ -93,7 +95,7 @@ impl Held {
         from.minus(most).greatest_with(forced, count)
     }
 
-    /// The top rank of the highest run among some ranks that has both ranks of the pair in it.
+    /// Gives the top rank of the highest run among some ranks that has both ranks of the pair in it.
     fn run(self, ranks: RankSet) -> Option<u8>
         ensures highest { (hole : List Card) (count : ℕ → ℕ)
             → IsTallyOf self.pair.once.bits self.pair.twice.bits self.pair.thrice.bits self.pair.four.bits
@@ -209,7 +211,7 @@ impl Held {
         })
     }
 
-    /// The best that the pair shows with three cards of the board.
+    /// Gives the best that the pair shows with three cards of the board.
     pub fn shown(self) -> Shown
         ensures { (hole board : List Card) → IsHeld self hole board → IsBest result (hands hole board) }
     {

@@ -32,7 +32,7 @@ impl Model for HighValue {
 }
 
 impl HighValue {
-    /// The empty list, which comes before every value.
+    /// Gives the empty list, which comes before every value.
     pub(crate) fn least() -> HighValue
         ensures { result ≡ [] }
     {
@@ -41,7 +41,7 @@ impl HighValue {
         }
     }
 
-    /// The value of a category and the ranks that decide.
+    /// Gives the value of a category and the ranks that decide.
     pub(crate) fn of(category: Category, ranks: &[u8]) -> HighValue
         requires { length ranks.now ≤ 5 }
         ensures { result ≡ category_number category ∷ ranks.now }
@@ -54,7 +54,7 @@ impl HighValue {
         HighValue { numbers }
     }
 
-    /// The value with more ranks that decide behind those that it has.
+    /// Gives the value with more ranks that decide behind those that it has.
     pub(crate) fn then(self, ranks: &[u8]) -> HighValue
         requires { length self + length ranks.now ≤ 6 }
         ensures { result ≡ self ++ ranks.now }
@@ -66,7 +66,7 @@ impl HighValue {
         HighValue { numbers }
     }
 
-    /// The value with the ranks of a set behind those that it has, higher ones first.
+    /// Gives the value with the ranks of a set behind those that it has, higher ones first.
     pub(crate) fn with_ranks(self, ranks: RankSet) -> HighValue
         requires { length self + length (ranks_of ranks.bits) ≤ 6 }
         ensures { result ≡ self ++ ranks_of ranks.bits }
@@ -81,7 +81,7 @@ impl HighValue {
         HighValue { numbers }
     }
 
-    /// The numbers of the value: its category, from 0 to 8, and then its ranks, from 2 to 14.
+    /// Gives the numbers of the value: its category, from 0 to 8, and then its ranks, from 2 to 14.
     pub fn numbers(&self) -> &[u8]
         ensures { result.now ≡ self.now }
     {

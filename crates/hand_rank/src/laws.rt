@@ -6,9 +6,9 @@ ghost use Rattle.card_choices.specs.Changes.{AreRenamed, IsOneToOne};
 ghost use Rattle.card_choices.specs.Choices.{holdem_choices, omaha_choices};
 ghost use Rattle.hand_rank.specs.BestHigh.{best_high};
 
-/// Two neighbours among the hole cards, or among the board cards, may change places and the value stays. So the order
-/// of the hole cards does not count, and that of the board cards does not, since exchanges of neighbours reach each
-/// order.
+/// Says that two neighbours among the hole cards, or among the board cards, may change places and the value stays. So
+/// the order of the hole cards does not count, and that of the board cards does not, since exchanges of neighbours
+/// reach each order.
 pub fn order_does_not_count()
     ensures hole_of_holdem { (front : List Card) (a b : Card) (back board : List Card)
         → best_high (holdem_choices (front ++ a ∷ b ∷ back) board)
@@ -24,7 +24,7 @@ pub fn order_does_not_count()
         ≡ best_high (omaha_choices hole (front ++ b ∷ a ∷ back)) }
 {}
 
-/// Where suits are renamed one to one, the value stays.
+/// Says that where suits are renamed one to one, the value stays.
 pub fn suits_break_no_tie()
     ensures holdem { (suit : ℕ → ℕ) → IsOneToOne suit → (hole others board boards : List Card)
         → AreRenamed suit hole others → AreRenamed suit board boards

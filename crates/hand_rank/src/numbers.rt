@@ -31,7 +31,7 @@ impl Model for Numbers {
 }
 
 impl Numbers {
-    /// The list of no numbers.
+    /// Gives the list of no numbers.
     pub fn new() -> Numbers
         ensures { result ≡ [] }
     {
@@ -50,7 +50,7 @@ impl Numbers {
         self.len += 1;
     }
 
-    /// The numbers.
+    /// Gives the numbers.
     pub fn as_slice(&self) -> &[u8]
         ensures { result.now ≡ self.now }
     {

@@ -20,14 +20,14 @@ pub struct RankSet {
 }
 
 impl RankSet {
-    /// The set of no ranks.
+    /// Gives the set of no ranks.
     pub const fn empty() -> RankSet
         ensures { result.bits ≡ 0 }
     {
         RankSet { bits: 0 }
     }
 
-    /// The set of one rank.
+    /// Gives the set of one rank.
     pub fn of(rank: u8) -> RankSet
         requires { rank < 16 }
         ensures ranks { (r : ℕ) → has_rank result.bits r ≡ (r == rank) }
@@ -35,7 +35,7 @@ impl RankSet {
         RankSet::empty().with(rank)
     }
 
-    /// The set with a rank in it.
+    /// Gives the set with a rank in it.
     #[tactic(auto, using(crate::proofs::SetLaws::has_rank_with))]
     pub fn with(self, rank: u8) -> RankSet
         requires { rank < 16 }
@@ -46,7 +46,7 @@ impl RankSet {
         }
     }
 
-    /// The set without a rank.
+    /// Gives the set without a rank.
     #[tactic(auto, using(crate::proofs::SetLaws::has_rank_without))]
     pub fn without(self, rank: u8) -> RankSet
         requires { rank < 16 }
@@ -57,7 +57,7 @@ impl RankSet {
         }
     }
 
-    /// The ranks of either set.
+    /// Gives the ranks of either set.
     #[tactic(auto, using(crate::proofs::SetLaws::has_rank_or))]
     pub fn union(self, other: RankSet) -> RankSet
         ensures { (r : ℕ) → has_rank result.bits r ≡ (has_rank self.bits r || has_rank other.bits r) }
@@ -67,7 +67,7 @@ impl RankSet {
         }
     }
 
-    /// The ranks of both sets.
+    /// Gives the ranks of both sets.
     #[tactic(auto, using(crate::proofs::SetLaws::has_rank_and))]
     pub fn meet(self, other: RankSet) -> RankSet
         ensures { (r : ℕ) → has_rank result.bits r ≡ (has_rank self.bits r && has_rank other.bits r) }
@@ -77,7 +77,7 @@ impl RankSet {
         }
     }
 
-    /// The ranks of this set that the other has not.
+    /// Gives the ranks of this set that the other has not.
     pub fn minus(self, other: RankSet) -> RankSet
         ensures { (r : ℕ) → r < 16 → has_rank result.bits r ≡ (has_rank self.bits r && not (has_rank other.bits r)) }
     {
@@ -86,7 +86,7 @@ impl RankSet {
         }
     }
 
-    /// Whether a rank is in the set.
+    /// Tells whether a rank is in the set.
     pub fn has(self, rank: u8) -> bool
         requires { rank < 16 }
         ensures { result ≡ has_rank self.bits rank }
@@ -94,7 +94,7 @@ impl RankSet {
         self.bits >> rank & 1 == 1
     }
 
-    /// Whether there is no rank.
+    /// Tells whether there is no rank.
     pub fn is_empty(self) -> bool
         ensures none { result ≡ true → ranks_of self.bits ≡ [] }
         ensures some { result ≡ false → 1 ≤ length (ranks_of self.bits) }
@@ -102,14 +102,14 @@ impl RankSet {
         self.bits == 0
     }
 
-    /// Whether there are five ranks or more.
+    /// Tells whether there are five ranks or more.
     pub fn has_five(self) -> bool
         ensures { (count : ℕ → ℕ) → HasRanks self.bits 1 count → result ≡ false → (value_of_suit count ≡ []) }
     {
         self.bits.count_ones() >= 5
     }
 
-    /// The highest rank. `None` where there is none.
+    /// Gives the highest rank. `None` where there is none.
     pub fn highest(self) -> Option<u8>
         ensures rank { result ≡ highest_below (has_rank self.bits) 16 }
         ensures within { IfSome result (λ rank. rank < 16) }
@@ -121,14 +121,14 @@ impl RankSet {
         }
     }
 
-    /// How many ranks there are.
+    /// Tells how many ranks there are.
     pub fn count(self) -> u8
         ensures { result ≡ length (ranks_of self.bits) }
     {
         self.bits.count_ones() as u8
     }
 
-    /// The ranks of the runs that a rank is in.
+    /// Gives the ranks of the runs that a rank is in.
     pub fn near(rank: u8) -> RankSet
         requires { rank < 16 }
         ensures { (r : ℕ) → r < 16 → has_rank result.bits r ≡ is_near rank r }
@@ -138,7 +138,8 @@ impl RankSet {
         }
     }
 
-    /// The greatest so many ranks of the set that have all ranks of another among them. `None` where there are none.
+    /// Gives the greatest so many ranks of the set that have all ranks of another among them. `None` where there are
+    /// none.
     pub fn greatest_with(self, forced: RankSet, count: u8) -> Option<RankSet>
         ensures { IsGreatestWith result (has_rank self.bits) (has_rank forced.bits) count }
     {
@@ -156,7 +157,7 @@ impl RankSet {
         Some(ranks)
     }
 
-    /// The two highest ranks, if there are two.
+    /// Gives the two highest ranks, if there are two.
     pub fn highest_two(self) -> Option<[u8; 2]>
         ensures { (count : ℕ → ℕ) → HasRanks self.bits 1 count → result ≡ picked (1 ∷ 1 ∷ []) count }
     {
@@ -166,7 +167,7 @@ impl RankSet {
         Some([first, second])
     }
 
-    /// The three highest ranks, if there are three.
+    /// Gives the three highest ranks, if there are three.
     pub fn highest_three(self) -> Option<[u8; 3]>
         ensures { (count : ℕ → ℕ) → HasRanks self.bits 1 count → result ≡ picked (1 ∷ 1 ∷ 1 ∷ []) count }
     {
@@ -178,7 +179,7 @@ impl RankSet {
         Some([first, second, third])
     }
 
-    /// The five highest ranks, if there are five.
+    /// Gives the five highest ranks, if there are five.
     pub fn highest_five(self) -> Option<[u8; 5]>
         ensures { (count : ℕ → ℕ) → HasRanks self.bits 1 count → result ≡ picked (1 ∷ 1 ∷ 1 ∷ 1 ∷ 1 ∷ []) count }
     {
@@ -194,7 +195,8 @@ impl RankSet {
         Some([first, second, third, fourth, fifth])
     }
 
-    /// The top rank of the highest five ranks that run, with the ace also below the two. `None` where no five run.
+    /// Gives the top rank of the highest five ranks that run, with the ace also below the two. `None` where no five
+    /// run.
     pub fn highest_run(self) -> Option<u8>
         ensures top { (count : ℕ → ℕ) → HasRanks self.bits 1 count
             → result ≡ highest_run (λ rank. nat_le 1 (count rank)) }

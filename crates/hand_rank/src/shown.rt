@@ -18,7 +18,7 @@ pub struct Shown {
 }
 
 impl Shown {
-    /// What comes before all that five cards show.
+    /// Tells what comes before all that five cards show.
     pub fn least() -> Shown
         ensures value { shown_value result ≡ 0 ∷ [] }
         ensures sized { IsSized result }
@@ -30,7 +30,7 @@ impl Shown {
         }
     }
 
-    /// Whether this comes before the other: by the category, then by the ranks that occur most often, then by the
+    /// Tells whether this comes before the other: by the category, then by the ranks that occur most often, then by the
     /// others. Of sets of as many ranks the one with the higher ranks is the greater number.
     fn is_less(self, other: Shown) -> bool
         ensures { result ≡ is_less self other }
@@ -46,7 +46,7 @@ impl Shown {
         }
     }
 
-    /// The greater of the two.
+    /// Gives the greater of the two.
     pub fn max(self, other: Shown) -> Shown
         ensures value { IsSized self → IsSized other
             → shown_value result ≡ greater (shown_value self) (shown_value other) }
@@ -55,7 +55,7 @@ impl Shown {
         if self.is_less(other) { other } else { self }
     }
 
-    /// The value as a list.
+    /// Gives the value as a list.
     pub fn value(self) -> HighValue
         requires { IsSized self }
         ensures { result ≡ shown_value self }

@@ -13,7 +13,7 @@ use crate::rank_set::RankSet;
 use crate::tally::Tally;
 use card_set::Card;
 
-/// The value of cards of one suit, by their ranks. The empty list where there are fewer than five.
+/// Gives the value of cards of one suit, by their ranks. The empty list where there are fewer than five.
 fn value_of_suit(ranks: RankSet) -> HighValue
     ensures { (count : ℕ → ℕ) → HasRanks ranks.bits 1 count → result ≡ value_of_suit count }
 {
@@ -26,7 +26,7 @@ fn value_of_suit(ranks: RankSet) -> HighValue
     }
 }
 
-/// The greater of a value and that of the cards of a suit.
+/// Gives the greater of a value and that of the cards of a suit.
 fn with_suit(best: HighValue, ranks: RankSet) -> HighValue
     ensures { (count : ℕ → ℕ) → HasRanks ranks.bits 1 count → result ≡ greater best (value_of_suit count) }
 {
@@ -44,7 +44,7 @@ pub struct Suits {
 }
 
 impl Suits {
-    /// The ranks of the suits of some cards.
+    /// Gives the ranks of the suits of some cards.
     pub fn of(cards: &[Card]) -> Suits
         ensures { AreSuitsOf result.ranks cards.now }
     {
@@ -56,7 +56,7 @@ impl Suits {
         Suits { ranks }
     }
 
-    /// How often ranks occur. No card may come twice.
+    /// Tells how often ranks occur. No card may come twice.
     pub fn tally(self) -> Tally
         ensures { (cards : List Card) → AreSuitsOf self.ranks cards → AreOnce cards
             → IsTallyOf result.once.bits result.twice.bits result.thrice.bits result.four.bits (count_of_rank cards) }
@@ -78,7 +78,7 @@ impl Suits {
         }
     }
 
-    /// The greatest value that the cards make, of which none comes twice.
+    /// Gives the greatest value that the cards make, of which none comes twice.
     pub fn value(self) -> HighValue
         ensures { (cards : List Card) → AreSuitsOf self.ranks cards → AreOnce cards → result ≡ value_made cards }
     {

@@ -19,7 +19,7 @@ pub struct Tally {
 }
 
 impl Tally {
-    /// How often ranks occur in one card.
+    /// Tells how often ranks occur in one card.
     pub fn of(rank: u8) -> Tally
         requires low { 2 ≤ rank }
         requires high { rank ≤ 14 }
@@ -34,7 +34,7 @@ impl Tally {
         }
     }
 
-    /// How often ranks occur in some cards and in others.
+    /// Tells how often ranks occur in some cards and in others.
     pub fn union(self, others: Tally) -> Tally
         ensures { (one other both : ℕ → ℕ)
             → IsTallyOf self.once.bits self.twice.bits self.thrice.bits self.four.bits one
@@ -125,7 +125,7 @@ impl Tally {
         Some(HighValue::of(Category::HighCard, &ranks))
     }
 
-    /// The best value of ranks that occur so often. The empty list where there are fewer than five cards.
+    /// Gives the best value of ranks that occur so often. The empty list where there are fewer than five cards.
     pub fn value(self) -> HighValue
         ensures { (count : ℕ → ℕ) → IsTallyOf self.once.bits self.twice.bits self.thrice.bits self.four.bits count
             → result ≡ value_of_ranks count }

@@ -10,7 +10,8 @@ use balance_rule::halted;
 use floor_text::Refusal;
 use seat_book::{SeatBook, TableStatus};
 
-/// Whether a table may begin a hand: `RoundDone` exactly where hand-for-hand is on and it has begun in this round.
+/// Tells whether a table may begin a hand: `RoundDone` exactly where hand-for-hand is on and it has begun in this
+/// round.
 pub fn may_begin(book: &SeatBook, table: u8) -> Result<(), Refusal>
     requires { IsTableOf book.now.table_count table }
     ensures { IsChecked (begin_checks book.now table) result }
@@ -21,7 +22,7 @@ pub fn may_begin(book: &SeatBook, table: u8) -> Result<(), Refusal>
     Ok(())
 }
 
-/// Whether a table is still to play in the round.
+/// Tells whether a table is still to play in the round.
 fn is_still_to_play(book: &SeatBook, table: u8) -> bool
     requires { IsTableOf book.now.table_count table }
     ensures { result ≡ is_still_to_play book.now table }
@@ -29,7 +30,7 @@ fn is_still_to_play(book: &SeatBook, table: u8) -> bool
     book.count(table) >= 2 && !halted(book, table) && !book.status(table).begun
 }
 
-/// Whether a table holds the round open.
+/// Tells whether a table holds the round open.
 fn holds_open(book: &SeatBook, table: u8) -> bool
     requires { IsTableOf book.now.table_count table }
     ensures { result ≡ holds_open book.now table }
@@ -37,7 +38,7 @@ fn holds_open(book: &SeatBook, table: u8) -> bool
     book.status(table).playing || is_still_to_play(book, table)
 }
 
-/// Whether some table plays a hand.
+/// Tells whether some table plays a hand.
 fn is_any_playing(book: &SeatBook) -> bool
     ensures { result ≡ is_any_playing book.now }
 {
@@ -50,7 +51,7 @@ fn is_any_playing(book: &SeatBook) -> bool
     false
 }
 
-/// Whether some table holds the round open.
+/// Tells whether some table holds the round open.
 fn is_unfinished(book: &SeatBook) -> bool
     ensures { result ≡ is_unfinished book.now }
 {
@@ -76,7 +77,7 @@ fn set_begun(book: &mut SeatBook, playing: bool)
     }
 }
 
-/// Whether the round may end: `RoundOpen` where hand-for-hand is on and a table plays or is still to play,
+/// Tells whether the round may end: `RoundOpen` where hand-for-hand is on and a table plays or is still to play,
 /// `SwitchWrong` where hand-for-hand is off.
 pub fn may_close(book: &SeatBook) -> Result<(), Refusal>
     ensures { IsChecked (round_checks book.now) result }
@@ -102,8 +103,8 @@ pub fn close_round(book: &mut SeatBook) -> Result<(), Refusal>
     Ok(())
 }
 
-/// Whether hand-for-hand may be switched so: `RoundOpen` at off where it is on and a table plays, `SwitchWrong` where
-/// it is so already.
+/// Tells whether hand-for-hand may be switched so: `RoundOpen` at off where it is on and a table plays, `SwitchWrong`
+/// where it is so already.
 pub fn may_switch(book: &SeatBook, on: bool) -> Result<(), Refusal>
     ensures { IsChecked (switch_checks on book.now) result }
 {

@@ -15,7 +15,7 @@ pub trait Grows {
     /// The number of the pass that made the entry, or `OPENER`.
     ghost caller_of: { Self.Entry → ℕ };
 
-    /// How many entries the history has.
+    /// Tells how many entries the history has.
     fn count(&self) -> u64
         ensures { result ≡ length (history self.now) };
 }

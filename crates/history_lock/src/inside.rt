@@ -23,14 +23,14 @@ pub struct Inside<V: Grows> {
 impl<V: Grows> Inside<V> {
     ghost use Rattle.history_lock.specs.Passes.{value_of, inside_number};
 
-    /// The number of the pass that is inside.
+    /// Gives the number of the pass that is inside.
     pub fn number(&self) -> u32
         ensures { result ≡ inside_number self.now }
     {
         self.turn.number
     }
 
-    /// The value.
+    /// Gives the value.
     pub fn value(&self) -> &V
         ensures { result.now ≡ value_of self.now }
     {

@@ -9,7 +9,7 @@ use crate::grows::Grows;
 use crate::inside::Inside;
 
 impl<V: Grows> Inside<V> {
-    /// The value, to be changed. When the borrow ends, all but the value is as it was.
+    /// Lends the value, to be changed. When the borrow ends, all but the value is as it was.
     pub fn value_mut(&mut self) -> &mut V
         ensures* writes_back { sem 𝓛 (LendsValue V.row V.Entry.row V.Grows self.entry result) }
         ensures value { result.now ≡ value_of self.old }

@@ -18,7 +18,8 @@ pub struct Pass<V: Grows> {
 impl<V: Grows> Pass<V> {
     ghost use Rattle.history_lock.specs.Passes.{pass_number};
 
-    /// The number of the pass, below the number of passes of its lock. It is what its own entries have as their caller.
+    /// Gives the number of the pass, below the number of passes of its lock. It is what its own entries have as their
+    /// caller.
     pub fn number(&self) -> u32
         ensures { result ≡ pass_number self.now }
     {

@@ -8,14 +8,14 @@ ghost use Rattle.level_plan.specs.Plans.{unit_of_level};
 use crate::bounds::{GREATEST_AMOUNT, MOST_SHARES, WHOLE_POOL};
 use crate::plan::Blind;
 
-/// Whether a number is from `low` to `high`, both included.
+/// Tells whether a number is from `low` to `high`, both included.
 pub fn is_between(low: u64, high: u64, n: u64) -> bool
     ensures { result ≡ is_between low high n }
 {
     low <= n && n <= high
 }
 
-/// Whether a new unit is the one before times one of the whole numbers 1 to 6.
+/// Tells whether a new unit is the one before times one of the whole numbers 1 to 6.
 pub fn is_next_unit(before: u64, unit: u64) -> bool
     ensures { result ≡ is_next_unit before unit }
 {
@@ -24,7 +24,7 @@ pub fn is_next_unit(before: u64, unit: u64) -> bool
         .any(|times| before.checked_mul(*times) == Some(unit))
 }
 
-/// Whether the blinds and the unit of a level are lawful, whatever the levels before it.
+/// Tells whether the blinds and the unit of a level are lawful, whatever the levels before it.
 pub fn is_blind(blind: Blind) -> bool
     ensures { result ≡ is_blind blind }
 {
@@ -36,7 +36,7 @@ pub fn is_blind(blind: Blind) -> bool
         && blind.big % blind.unit == 0
 }
 
-/// Whether a level's unit may follow that of the last of the levels before it.
+/// Tells whether a level's unit may follow that of the last of the levels before it.
 pub fn may_follow(blinds: &[Blind], blind: Blind) -> bool
     ensures { result ≡ may_follow blinds.now blind }
 {
@@ -54,7 +54,7 @@ pub fn unit_of_level(blinds: &[Blind], level: u64) -> u64
     blinds.get(level as usize - 1).map_or(1, |blind| blind.unit)
 }
 
-/// Whether no number is greater than the one before it.
+/// Tells whether no number is greater than the one before it.
 fn is_falling(numbers: &[u64]) -> bool
     ensures { result ≡ is_falling numbers.now }
 {
@@ -64,14 +64,14 @@ fn is_falling(numbers: &[u64]) -> bool
         .all(|(before, next)| next <= before)
 }
 
-/// Whether each share is 1 to 1000 thousandths.
+/// Tells whether each share is 1 to 1000 thousandths.
 fn are_thousandths(shares: &[u64]) -> bool
     ensures { result ≡ list_all (is_between 1 WHOLE_POOL) shares.now }
 {
     shares.iter().all(|share| is_between(1, WHOLE_POOL, *share))
 }
 
-/// Whether the shares are together at most the whole pool, 1000.
+/// Tells whether the shares are together at most the whole pool, 1000.
 fn is_within_pool(shares: &[u64]) -> bool
     requires { sum shares.now < 2 ^ 64 }
     ensures { result ≡ nat_le (sum shares.now) WHOLE_POOL }
@@ -79,7 +79,7 @@ fn is_within_pool(shares: &[u64]) -> bool
     shares.iter().sum::<u64>() <= WHOLE_POOL
 }
 
-/// Whether the shares are lawful: 1 to 64 of them, each 1 to 1000, none greater than the one before,
+/// Tells whether the shares are lawful: 1 to 64 of them, each 1 to 1000, none greater than the one before,
 /// and together at most 1000.
 pub fn are_shares(shares: &[u64]) -> bool
     ensures { result ≡ are_shares shares.now }

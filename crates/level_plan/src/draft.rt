@@ -65,7 +65,7 @@ impl PlanDraft {
         }
     }
 
-    /// Whether a line is wrong here: its item was given before, or what it gives is not lawful.
+    /// Tells whether a line is wrong here: its item was given before, or what it gives is not lawful.
     pub fn is_wrong(&self, line: &PlanLine) -> bool
         ensures { result ≡ is_wrong_line self.now line.now }
     {

@@ -9,7 +9,7 @@ use crate::low_value::LowValue;
 use card_choices::{Pair, pairs, threes};
 use card_set::Card;
 
-/// The better of two lows: the lesser one, and one that qualifies before none.
+/// Gives the better of two lows: the lesser one, and one that qualifies before none.
 fn better(one: Option<LowValue>, other: Option<LowValue>) -> Option<LowValue>
     ensures { result ≡ better_low one other }
 {
@@ -20,7 +20,7 @@ fn better(one: Option<LowValue>, other: Option<LowValue>) -> Option<LowValue>
     }
 }
 
-/// The best low of a pair of hole cards with any three board cards.
+/// Gives the best low of a pair of hole cards with any three board cards.
 fn best_of_pair(pair: Pair, board: [Card; 5]) -> Option<LowValue>
     ensures { result ≡ best_low_of (map (λ three. pair ++ three) (choices 3 board)) }
 {
@@ -32,8 +32,8 @@ fn best_of_pair(pair: Pair, board: [Card; 5]) -> Option<LowValue>
     best
 }
 
-/// The best low of two of four hole cards with three of five board cards: five different ranks, eight or lower, of
-/// which the ace counts as 1, as the list of these ranks in falling order. The lesser list is better. `None` exactly
+/// Gives the best low of two of four hole cards with three of five board cards: five different ranks, eight or lower,
+/// of which the ace counts as 1, as the list of these ranks in falling order. The lesser list is better. `None` exactly
 /// where no such cards have a low. No card may come twice.
 pub fn best_low(hole: [Card; 4], board: [Card; 5]) -> Option<LowValue>
     requires distinct { AreDistinct (hole ++ board) }

@@ -11,14 +11,14 @@ use card_set::Card;
 /// The ranks of low hands, from the eight down to the ace.
 const LOW_RANKS_DOWN: [u8; 8] = [8, 7, 6, 5, 4, 3, 2, 1];
 
-/// The rank of a card in a low hand: the ace counts as 1.
+/// Gives the rank of a card in a low hand: the ace counts as 1.
 fn low_rank(card: Card) -> u8
     ensures { result ≡ low_rank card }
 {
     if card.rank == 14 { 1 } else { card.rank }
 }
 
-/// The ranks of five cards in a low hand.
+/// Gives the ranks of five cards in a low hand.
 fn low_ranks(cards: [Card; 5]) -> [u8; 5]
     ensures same { result ≡ map low_rank cards }
     ensures from_one { list_all (λ rank. nat_le 1 rank) result ≡ true }
@@ -33,7 +33,7 @@ fn low_ranks(cards: [Card; 5]) -> [u8; 5]
     ]
 }
 
-/// Whether each rank differs from each later one.
+/// Tells whether each rank differs from each later one.
 fn are_different(ranks: &[u8]) -> bool
     ensures { result ≡ are_different ranks.now }
 {
@@ -43,14 +43,14 @@ fn are_different(ranks: &[u8]) -> bool
     }
 }
 
-/// Whether no rank is above eight.
+/// Tells whether no rank is above eight.
 fn are_eight_or_lower(ranks: &[u8; 5]) -> bool
     ensures { result ≡ list_all (λ rank. nat_le rank 8) ranks.now }
 {
     ranks.iter().all(|rank| *rank <= 8)
 }
 
-/// Five different low ranks in falling order.
+/// Puts five different low ranks in falling order.
 fn in_falling_order(ranks: [u8; 5]) -> [u8; 5]
     requires different { are_different ranks ≡ true }
     requires from_one { list_all (λ rank. nat_le 1 rank) ranks ≡ true }
@@ -68,7 +68,7 @@ fn in_falling_order(ranks: [u8; 5]) -> [u8; 5]
     falling
 }
 
-/// The low value of five cards. `None` exactly where they do not qualify.
+/// Gives the low value of five cards. `None` exactly where they do not qualify.
 pub fn low_value(cards: Five) -> Option<LowValue>
     ensures { result ≡ low_value cards }
 {

@@ -27,14 +27,14 @@ impl Model for LowValue {
 }
 
 impl LowValue {
-    /// The value of five ranks in falling order.
+    /// Makes the value of five ranks in falling order.
     pub(crate) fn of(ranks: [u8; 5]) -> LowValue
         ensures { result ≡ ranks }
     {
         LowValue { ranks }
     }
 
-    /// The five ranks in falling order, from 1 for the ace to 8.
+    /// Gives the five ranks in falling order, from 1 for the ace to 8.
     pub fn ranks(&self) -> &[u8]
         ensures { result.now ≡ self.now }
     {

@@ -6,19 +6,19 @@ ghost use Rattle.place_list.specs.declared.bust.Bust.{Bust};
 ghost use Rattle.place_list.specs.Places.{place_of, tied, is_ahead, ties};
 ghost use Rattle.place_list.specs.Standings.{comes_before, standings_of};
 
-/// Players who tie share a place.
+/// Says that players who tie share a place.
 pub fn players_who_tie_share_a_place()
     ensures { (entries : ℕ) (busts : List Bust) (one other : Bust) → ties one other ≡ true
         → place_of entries busts one ≡ place_of entries busts other }
 {}
 
-/// A player who is ahead is placed higher: his place and the places of all who share it come first.
+/// Says that a player who is ahead is placed higher: his place and the places of all who share it come first.
 pub fn who_is_ahead_is_placed_higher()
     ensures { (entries : ℕ) (busts : List Bust) (one other : Bust) → is_ahead one other ≡ true
         → place_of entries busts one + tied busts one ≤ place_of entries busts other }
 {}
 
-/// Where nobody is between two players, the next place counts just those who share the place before.
+/// Says that where nobody is between two players, the next place counts just those who share the place before.
 pub fn the_next_place_counts_those_who_tie()
     ensures { (entries : ℕ) (busts : List Bust) (one other : Bust) → is_ahead one other ≡ true
         → ((index : ℕ) (d : Bust) → index < length busts → is_ahead (slice_index_or busts index d) other ≡ true
@@ -26,7 +26,8 @@ pub fn the_next_place_counts_those_who_tie()
         → place_of entries busts other ≡ place_of entries busts one + tied busts one }
 {}
 
-/// All prizes of a tournament that is over, in which one player is left, sum to the pool: a buy-in for each entry.
+/// Says that all prizes of a tournament that is over, in which one player is left, sum to the pool: a buy-in for each
+/// entry.
 pub fn all_prizes_sum_to_the_pool()
     ensures { (entries last buyin : ℕ) (shares : List ℕ) (busts : List Bust)
         → are_distinct (λ one other. one == other) (map (λ bust. bust.player) busts) ≡ true
@@ -34,14 +35,14 @@ pub fn all_prizes_sum_to_the_pool()
         → sum_by (λ standing. standing.prize) (standings_of entries (Some last) buyin shares busts) ≡ entries * buyin }
 {}
 
-/// The prizes of those who are out never sum to more than the pool.
+/// Says that the prizes of those who are out never sum to more than the pool.
 pub fn prizes_of_those_who_are_out_are_within_the_pool()
     ensures { (entries buyin : ℕ) (shares : List ℕ) (busts : List Bust)
         → are_distinct (λ one other. one == other) (map (λ bust. bust.player) busts) ≡ true → sum shares ≤ 1000
         → sum_by (λ standing. standing.prize) (standings_of entries None buyin shares busts) ≤ entries * buyin }
 {}
 
-/// Where somebody is in, standings come by place, and of the same place by entry.
+/// Says that where somebody is in, standings come by place, and of the same place by entry.
 pub fn standings_come_in_order()
     ensures { (entries : ℕ) (last : Option ℕ) (buyin : ℕ) (shares : List ℕ) (busts : List Bust)
         → are_distinct (λ one other. one == other) (map (λ bust. bust.player) busts) ≡ true → length busts < entries

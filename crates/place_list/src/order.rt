@@ -11,7 +11,7 @@ use crate::Bust;
 use std::alloc::{AllocError, Global};
 use std::cmp::Ordering;
 
-/// Whether two players tie: they are in the same group with equal stacks.
+/// Tells whether two players tie: they are in the same group with equal stacks.
 pub(crate) fn ties(one: &Bust, other: &Bust) -> bool
     ensures { result ≡ ties one.now other.now }
 {
@@ -30,7 +30,7 @@ fn compare(one: &Bust, other: &Bust) -> Ordering
         .then(one.player.cmp(&other.player))
 }
 
-/// The players in the order of their places, and of the same place in that of their entries.
+/// Gives the players in the order of their places, and of the same place in that of their entries.
 pub(crate) fn in_order(alloc: Global, busts: &[Bust]) -> Result<Vec<Bust>, AllocError>
     requires { are_distinct (λ one other. one == other) (map (λ bust. bust.player) busts.now) ≡ true }
     ensures same { IfOk result (λ sorted. IsPermutation busts.now sorted.items) }

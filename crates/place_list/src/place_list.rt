@@ -35,7 +35,7 @@ impl Model for PlaceList {
 }
 
 impl PlaceList {
-    /// A list on which nobody is, with room for all players there can be. Want of memory is the only error.
+    /// Makes a list on which nobody is, with room for all players there can be. Want of memory is the only error.
     pub fn new(alloc: Global) -> Result<PlaceList, AllocError>
         ensures { IfOk result (λ list. list ≡ []) }
     {
@@ -58,14 +58,14 @@ impl PlaceList {
         });
     }
 
-    /// Whether this player is out.
+    /// Tells whether this player is out.
     pub fn is_out(&self, player: u32) -> bool
         ensures { result ≡ list_any (λ bust. bust.player == player) self.now }
     {
         self.busts.iter().any(|bust| bust.player == player)
     }
 
-    /// How many players are out.
+    /// Tells how many players are out.
     pub fn len(&self) -> u32
         ensures len { result ≡ length self.now }
         ensures most { result ≤ MOST_ENTRIES }
@@ -73,16 +73,16 @@ impl PlaceList {
         self.busts.len() as u32
     }
 
-    /// Whether nobody is out.
+    /// Tells whether nobody is out.
     pub fn is_empty(&self) -> bool
         ensures { result ≡ (length self.now == 0) }
     {
         self.busts.is_empty()
     }
 
-    /// Where each player stands who is out, and `last`, the winner, where the tournament is over: by place, and of the
-    /// same place by entry. `buyin` is in chips of money and `shares` in thousandths of the pool. Want of memory is the
-    /// only error.
+    /// Tells where each player stands who is out, and `last`, the winner, where the tournament is over: by place, and
+    /// of the same place by entry. `buyin` is in chips of money and `shares` in thousandths of the pool. Want of memory
+    /// is the only error.
     pub fn standings(
         &self,
         alloc: Global,

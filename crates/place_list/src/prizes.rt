@@ -6,7 +6,7 @@ ghost use Rattle.place_list.specs.Prizes.{part_of, pool_of, first_gets, prizes_o
 use rulebook::MOST_ENTRIES;
 use std::alloc::{AllocError, Global};
 
-/// The share in chips of money, rounded down, where `share` is in thousandths of the pool.
+/// Gives the share in chips of money, rounded down, where `share` is in thousandths of the pool.
 fn part_of(pool: u64, share: u64) -> u64
     requires pool { pool ≤ 640000000000 }
     requires share { share ≤ 1000 }
@@ -25,7 +25,7 @@ fn first_gets(prizes: &mut Vec<u64>, left: u64)
     }
 }
 
-/// The prizes of the places, from the first on, in chips of money.
+/// Gives the prizes of the places, from the first on, in chips of money.
 pub(crate) fn prizes_of(
     alloc: Global,
     entries: u32,
@@ -51,7 +51,7 @@ pub(crate) fn prizes_of(
     Ok(prizes)
 }
 
-/// The sum of some prizes.
+/// Gives the sum of some prizes.
 fn total(prizes: &[u64]) -> u64
     requires { sum prizes.now < 2 ^ 64 }
     ensures { result ≡ sum prizes.now }
@@ -59,7 +59,7 @@ fn total(prizes: &[u64]) -> u64
     prizes.iter().sum()
 }
 
-/// The prizes of so many places together, behind so many places.
+/// Gives the prizes of so many places together, behind so many places.
 pub(crate) fn prizes_together(prizes: &[u64], before: usize, count: usize) -> u64
     requires { sum prizes.now < 2 ^ 64 }
     ensures { result ≡ sum (take count (drop before prizes.now)) }
@@ -68,7 +68,8 @@ pub(crate) fn prizes_together(prizes: &[u64], before: usize, count: usize) -> u6
     total(&behind[..count.min(behind.len())])
 }
 
-/// What one of several players who tie gets of the prizes of their places, where so many of them entered before him.
+/// Tells what one of several players who tie gets of the prizes of their places, where so many of them entered before
+/// him.
 pub(crate) fn equal_share(together: u64, players: usize, before: usize) -> u64
     requires some { 1 ≤ players }
     requires fits { together < 2 ^ 63 }

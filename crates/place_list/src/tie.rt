@@ -17,7 +17,7 @@ pub(crate) struct Tie {
     pub(crate) players: usize,
 }
 
-/// How many at the head of a list tie with this player.
+/// Tells how many at the head of a list tie with this player.
 fn tied_at_head(busts: &[Bust], bust: &Bust) -> usize
     ensures { result ≡ tied_at_head bust.now busts.now }
 {
@@ -28,7 +28,7 @@ impl Tie {
     ghost use Rattle.place_list.specs.Orders.{Placed};
     ghost use Rattle.place_list.specs.Ties.{IsTieAt, IsTieBefore};
 
-    /// The players from this index on who tie with the one at it.
+    /// Gives the players from this index on who tie with the one at it.
     fn at(busts: &[Bust], first: usize) -> Tie
         requires { first < length busts.now }
         ensures first { result.first ≡ first }
@@ -41,7 +41,7 @@ impl Tie {
         }
     }
 
-    /// The players who tie with the one at an index, where `self` is the tie of the one before.
+    /// Gives the players who tie with the one at an index, where `self` is the tie of the one before.
     pub(crate) fn next(self, busts: &[Bust], index: usize) -> Tie
         requires within { index < length busts.now }
         requires most { length busts.now ≤ MOST_ENTRIES }

@@ -7,7 +7,7 @@ ghost use Rattle.pot_layers.specs.Tallies.{total_put};
 
 use crate::{PotTally, Pots, Put};
 
-/// The pots of what the players have put in during the whole hand, the main pot first: index 0 is seat 1. A live
+/// Gives the pots of what the players have put in during the whole hand, the main pot first: index 0 is seat 1. A live
 /// player has put in chips.
 pub fn pots(puts: &[Put; 10]) -> Pots
     requires contested { is_contested puts.now ≡ true }

@@ -7,42 +7,42 @@ ghost use Rattle.pot_layers.specs.PotTests.{total_of, live_seats, are_for, are_w
 ghost use Rattle.pot_layers.specs.Shares.{share_of, high_half, low_half, sum_below};
 ghost use Rattle.pot_layers.specs.Tallies.{total_put};
 
-/// The pots sum to all that was put in.
+/// Says that the pots sum to all that was put in.
 pub fn pots_sum_to_all_put()
     ensures { (puts : List Put) → total_of (layers puts) ≡ total_put puts }
 {}
 
-/// Only live players may win a pot.
+/// Says that only live players may win a pot.
 pub fn pots_are_for_live_players()
     ensures { (puts : List Put) → are_for (live_seats puts) (layers puts) ≡ true }
 {}
 
-/// Each pot can be won by somebody, where a live player has put in chips.
+/// Says that each pot can be won by somebody, where a live player has put in chips.
 pub fn pots_have_somebody()
     ensures { (puts : List Put) → is_contested puts ≡ true → have_somebody (layers puts) ≡ true }
 {}
 
-/// Each pot is of whole units, where all that was put in is.
+/// Says that each pot is of whole units, where all that was put in is.
 pub fn pots_are_whole_units()
     ensures { (puts : List Put) (unit : ℕ) → are_whole_puts unit puts ≡ true
         → are_whole_pots unit (layers puts) ≡ true }
 {}
 
-/// What a live player has put in above the height that any other player reached comes back to him: it is in the
-/// highest pot, which is for him alone.
+/// Says that what a live player has put in above the height that any other player reached comes back to him: it is in
+/// the highest pot, which is for him alone.
 pub fn what_nobody_reached_comes_back()
     ensures { (puts : List Put) (index amount reached : ℕ) → length puts ≡ 10 → has_put puts index amount ≡ true
         → are_others_within puts index reached ≡ true → reached < amount
         → IsOwnPot (layers puts) index (amount - reached) }
 {}
 
-/// The shares of a pot of whole units sum to it.
+/// Says that the shares of a pot of whole units sum to it.
 pub fn shares_sum_to_the_pot()
     ensures { (amount unit winners : ℕ) → 1 ≤ winners → amount % unit ≡ 0
         → sum_below (λ index. share_of amount unit winners index) winners ≡ amount }
 {}
 
-/// The two halves of a pot of whole units sum to it.
+/// Says that the two halves of a pot of whole units sum to it.
 pub fn halves_sum_to_the_pot()
     ensures { (amount unit : ℕ) → amount % unit ≡ 0 → high_half amount unit + low_half amount unit ≡ amount }
 {}

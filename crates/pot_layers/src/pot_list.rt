@@ -37,7 +37,7 @@ impl Model for Pots {
 }
 
 impl Pots {
-    /// No pots yet.
+    /// Makes a list with no pots yet.
     pub(crate) fn empty() -> Pots
         ensures { result ≡ [] }
     {
@@ -71,7 +71,7 @@ impl Pots {
         self.pots[self.len - 1].amount += amount;
     }
 
-    /// How many pots there are.
+    /// Tells how many pots there are.
     pub fn len(&self) -> usize
         ensures len { result ≡ length self.now }
         ensures most { result ≤ 10 }
@@ -79,14 +79,14 @@ impl Pots {
         self.len
     }
 
-    /// Whether there is no pot.
+    /// Tells whether there is no pot.
     pub fn is_empty(&self) -> bool
         ensures { result ≡ (length self.now == 0) }
     {
         self.len == 0
     }
 
-    /// The pot at this index, the main pot at 0.
+    /// Gives the pot at this index, the main pot at 0.
     pub fn get(&self, i: usize) -> Pot
         requires { i < length self.now }
         ensures { slice_get self.now i ≡ Some result }

@@ -35,7 +35,7 @@ impl Model for PotTally {
 }
 
 impl PotTally {
-    /// A tally of ten players who are live and have put in nothing.
+    /// Makes a tally of ten players who are live and have put in nothing.
     pub fn new() -> PotTally
         ensures { result ≡ nothing_put }
     {
@@ -46,7 +46,7 @@ impl PotTally {
         }
     }
 
-    /// The tally of these puts.
+    /// Makes the tally of these puts.
     pub fn of(puts: &[Put; 10]) -> PotTally
         requires { total_put puts.now < 2 ^ 53 }
         ensures { result ≡ puts.now }
@@ -85,7 +85,7 @@ impl PotTally {
         fold(&mut self.standings, seat as usize - 1);
     }
 
-    /// The pots of what is put in so far.
+    /// Gives the pots of what is put in so far.
     pub fn pots(&self) -> Pots
         requires { is_contested self.now ≡ true }
         ensures pots { result ≡ layers self.now }

@@ -18,14 +18,14 @@ impl Put {
         live: false,
     };
 
-    /// What a live player has put in, in chips.
+    /// Tells what a live player has put in, in chips.
     pub fn live(amount: u64) -> Put
         ensures { result ≡ record { amount = amount; live = true } }
     {
         Put { amount, live: true }
     }
 
-    /// What a player has put in who has folded, in chips.
+    /// Tells what a player has put in who has folded, in chips.
     pub fn folded(amount: u64) -> Put
         ensures { result ≡ record { amount = amount; live = false } }
     {

@@ -16,7 +16,7 @@ pub(crate) struct Standing {
 }
 
 impl Standing {
-    /// Whether he is live and has put in at least this height.
+    /// Tells whether he is live and has put in at least this height.
     fn is_eligible(&self, height: u64) -> bool
         ensures { result ≡ is_eligible height self.now.put }
     {
@@ -37,7 +37,7 @@ impl Standing {
     }
 }
 
-/// What all players have put in up to a height: of each no more than the height.
+/// Tells what all players have put in up to a height: of each no more than the height.
 pub(crate) fn total_to(standings: &[Standing; 10], height: u64) -> u64
     requires { total_put (puts_of standings.now) < 2 ^ 53 }
     ensures { result ≡ total_to (puts_of standings.now) height }
@@ -49,7 +49,7 @@ pub(crate) fn total_to(standings: &[Standing; 10], height: u64) -> u64
     total
 }
 
-/// The live players who have put in at least this height.
+/// Gives the live players who have put in at least this height.
 pub(crate) fn live_payers(standings: &[Standing; 10], height: u64) -> SeatSet
     ensures { result ≡ live_payers (puts_of standings.now) height }
 {
@@ -62,7 +62,7 @@ pub(crate) fn live_payers(standings: &[Standing; 10], height: u64) -> SeatSet
     payers
 }
 
-/// Of two live players above a height, the one who is nearer to it.
+/// Gives the one of two live players above a height who is nearer to it.
 fn nearer(below: u64, nearest: Option<Standing>, standing: Standing) -> Option<Standing>
     ensures { result ≡ nearer below nearest standing }
 {
@@ -74,7 +74,7 @@ fn nearer(below: u64, nearest: Option<Standing>, standing: Standing) -> Option<S
     }
 }
 
-/// The live player above a height who is nearest to it, if there is one.
+/// Gives the live player above a height who is nearest to it, if there is one.
 pub(crate) fn nearest_above(standings: &[Standing; 10], below: u64) -> Option<Standing>
     ensures { result ≡ fold (nearer below) None standings.now }
 {

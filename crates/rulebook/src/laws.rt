@@ -5,8 +5,8 @@ ghost use Rattle.rulebook.specs.Pairs.{are_rising};
 ghost use Rattle.rulebook.specs.Search.{found_along, are_at_table};
 ghost use Rattle.rulebook.specs.Seats.{clockwise_after, people_clockwise_after};
 
-/// Of people who are listed in rising seat, the first that the search through the list finds is the first that is
-/// found along the seats of the table clockwise, from the seat after this one.
+/// Says that of people who are listed in rising seat, the first that the search through the list finds is the first
+/// that is found along the seats of the table clockwise, from the seat after this one.
 pub fn search_is_the_walk<A>()
     ensures { (seat_of : A → ℕ) (wanted : A → Bool) (people : List A) (seats seat : ℕ) → seat ≤ seats
         → are_rising (map seat_of people) ≡ true → are_at_table seat_of seats people ≡ true

@@ -3,7 +3,7 @@
 ghost use Rattle.std.specs.Prelude.{◌≡◌, ◌≤◌};
 ghost use Rattle.rulebook.specs.Seats.{seat_after, seat_before};
 
-/// The next seat clockwise, at a table of so many seats: 1 follows the last.
+/// Gives the next seat clockwise, at a table of so many seats: 1 follows the last.
 pub fn seat_after(seats: u8, seat: u8) -> u8
     requires { 1 ≤ seats }
     ensures next { result ≡ seat_after seats seat }
@@ -13,7 +13,7 @@ pub fn seat_after(seats: u8, seat: u8) -> u8
     if seat < seats { seat + 1 } else { 1 }
 }
 
-/// The next seat counter-clockwise, at a table of so many seats: the last comes before 1.
+/// Gives the next seat counter-clockwise, at a table of so many seats: the last comes before 1.
 pub fn seat_before(seats: u8, seat: u8) -> u8
     requires some { 1 ≤ seats }
     requires within { seat ≤ seats }

@@ -47,7 +47,7 @@ impl Model for SeatBook {
         book.counts.items book.statuses.items };
 }
 
-/// Where the slot of a place is, at tables of so many seats: one after another, table by table.
+/// Tells where the slot of a place is, at tables of so many seats: one after another, table by table.
 fn slot_of(place: Place, seats: u8) -> usize
     requires table { 1 ≤ place.table }
     requires seat { 1 ≤ place.seat }
@@ -56,7 +56,7 @@ fn slot_of(place: Place, seats: u8) -> usize
     usize::from(place.table - 1) * usize::from(seats) + usize::from(place.seat - 1)
 }
 
-/// Where what is kept of a table is.
+/// Tells where what is kept of a table is.
 fn table_index(table: u8) -> usize
     requires { 1 ≤ table }
     ensures { result ≡ table - 1 }
@@ -67,7 +67,8 @@ fn table_index(table: u8) -> usize
 impl SeatBook {
     ghost use Rattle.seat_book.specs.Seatings.{empty_seating, IsSeating};
 
-    /// So many tables of so many seats, where nobody sits and no hand was played. Want of memory is the only error.
+    /// Makes so many tables of so many seats, where nobody sits and no hand was played. Want of memory is the only
+    /// error.
     pub fn new(alloc: Global, tables: u8, seats: u8) -> Result<SeatBook, AllocError>
         requires some_tables { 1 ≤ tables }
         requires most_tables { tables ≤ 64 }
@@ -88,7 +89,7 @@ impl SeatBook {
         })
     }
 
-    /// The number of tables.
+    /// Counts the tables.
     pub fn table_count(&self) -> u8
         ensures tables { result ≡ self.now.table_count }
         ensures lawful { IsSeating self.now }
@@ -96,7 +97,7 @@ impl SeatBook {
         self.table_count
     }
 
-    /// The number of seats of each table.
+    /// Counts the seats of each table.
     pub fn seat_count(&self) -> u8
         ensures seats { result ≡ self.now.seat_count }
         ensures lawful { IsSeating self.now }
@@ -104,7 +105,7 @@ impl SeatBook {
         self.seat_count
     }
 
-    /// The player of this number and name sits down, with this stack in chips.
+    /// Seats the player of this number and name, with this stack in chips.
     pub fn seat(&mut self, player: u32, name: Name, place: Place, stack: u64)
         requires entry { player < MOST_ENTRIES }
         requires place { IsPlaceOf self.old.table_count self.old.seat_count place }
@@ -127,7 +128,7 @@ impl SeatBook {
         self.counts[table_index(place.table)] += 1;
     }
 
-    /// The player of this number, who sits.
+    /// Gives the player of this number, who sits.
     fn seated(&self, player: u32) -> Seated
         requires entry { player < MOST_ENTRIES }
         requires sits { IsSome (place_of self.now.players player) }
@@ -138,7 +139,7 @@ impl SeatBook {
         self.slots[slot_of(place, self.seat_count)].unwrap()
     }
 
-    /// The player of this number leaves his seat: where he sat, and his stack in chips.
+    /// Lifts the player of this number from his seat, and tells where he sat, and his stack in chips.
     pub fn lift(&mut self, player: u32) -> (Place, u64)
         requires entry { player < MOST_ENTRIES }
         requires sits { IsSome (place_of self.old.players player) }
@@ -154,7 +155,7 @@ impl SeatBook {
         (place, stack)
     }
 
-    /// Where the player of this number sits, if he does.
+    /// Tells where the player of this number sits, if he does.
     pub fn find(&self, player: u32) -> Option<Place>
         requires { player < MOST_ENTRIES }
         ensures place { result ≡ place_of self.now.players player }
@@ -163,7 +164,7 @@ impl SeatBook {
         self.places[player as usize]
     }
 
-    /// The number, the name and the stack in chips of the player who sits in a place, if one does.
+    /// Gives the number, the name and the stack in chips of the player who sits in a place, if one does.
     pub fn at(&self, place: Place) -> Option<(u32, Name, u64)>
         requires { IsPlaceOf self.now.table_count self.now.seat_count place }
         ensures player { result ≡ option_map (λ seated. (seated.player, seated.name, seated.stack))
@@ -175,7 +176,7 @@ impl SeatBook {
         Some((seated.player, seated.name, seated.stack))
     }
 
-    /// The player who sits in a place has this stack, in chips.
+    /// Gives the player who sits in a place this stack, in chips.
     pub fn set_stack(&mut self, place: Place, stack: u64)
         requires place { IsPlaceOf self.old.table_count self.old.seat_count place }
         requires sits { IsSome (player_at self.old.players place) }
@@ -187,7 +188,7 @@ impl SeatBook {
         self.slots[slot] = Some(Seated { stack, ..seated });
     }
 
-    /// The slots of all places, by table and then by seat: who sits there, if one does.
+    /// Gives the slots of all places, by table and then by seat: who sits there, if one does.
     pub fn slots(&self) -> &[Option<Seated>]
         ensures players { players_in result.now ≡ self.now.players }
         ensures len { length result.now ≡ self.now.table_count * self.now.seat_count }
@@ -196,7 +197,7 @@ impl SeatBook {
         &self.slots
     }
 
-    /// The slots of a table's places, by seat: who sits there, if one does.
+    /// Gives the slots of a table's places, by seat: who sits there, if one does.
     pub fn table_slots(&self, table: u8) -> &[Option<Seated>]
         requires { IsTableOf self.now.table_count table }
         ensures players { players_in result.now ≡ players_at self.now.players table }
@@ -208,7 +209,7 @@ impl SeatBook {
         &self.slots[first..first + seats]
     }
 
-    /// The seats of a table where somebody sits.
+    /// Gives the seats of a table where somebody sits.
     pub fn occupied(&self, table: u8) -> SeatSet
         requires { IsTableOf self.now.table_count table }
         ensures taken { result ≡ taken_seats self.now.players table }
@@ -224,7 +225,7 @@ impl SeatBook {
         taken
     }
 
-    /// The count of a table: how many players sit there.
+    /// Counts the players who sit at a table.
     pub fn count(&self, table: u8) -> u8
         requires { IsTableOf self.now.table_count table }
         ensures count { result ≡ count_at self.now.players table }
@@ -233,7 +234,7 @@ impl SeatBook {
         self.counts[table_index(table)]
     }
 
-    /// The greatest count of an open table, 0 where none is open.
+    /// Gives the greatest count of an open table, 0 where none is open.
     pub fn fullest(&self) -> u8
         ensures { result ≡ greatest_count self.now.table_count self.now.players }
     {
@@ -244,7 +245,7 @@ impl SeatBook {
         greatest
     }
 
-    /// The least count of an open table, 0 where none is open.
+    /// Gives the least count of an open table, 0 where none is open.
     pub fn fewest(&self) -> u8
         ensures { result ≡ least_count self.now.table_count self.now.players }
     {
@@ -257,7 +258,7 @@ impl SeatBook {
         least
     }
 
-    /// How a table stands.
+    /// Tells how a table stands.
     pub fn status(&self, table: u8) -> TableStatus
         requires { IsTableOf self.now.table_count table }
         ensures status { result ≡ status_at self.now.tables table }
@@ -266,7 +267,7 @@ impl SeatBook {
         self.statuses[table_index(table)]
     }
 
-    /// A table stands so from now on.
+    /// Sets how a table stands from now on.
     pub fn set_status(&mut self, table: u8, status: TableStatus)
         requires table { IsTableOf self.old.table_count table }
         requires status { IsStatusOf self.old.seat_count status }
@@ -276,7 +277,7 @@ impl SeatBook {
         self.statuses[table_index(table)] = status;
     }
 
-    /// Whether hand-for-hand is on.
+    /// Tells whether hand-for-hand is on.
     pub fn hands(&self) -> bool
         ensures { result ≡ self.now.hands }
     {

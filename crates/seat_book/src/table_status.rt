@@ -21,7 +21,7 @@ pub struct TableStatus {
 }
 
 impl TableStatus {
-    /// A table at which no hand was played: no marks, no hand, no race, the unit 1, and not begun in the round.
+    /// Makes a table at which no hand was played: no marks, no hand, no race, the unit 1, and not begun in the round.
     pub fn fresh() -> TableStatus
         ensures { result ≡ fresh_status }
     {

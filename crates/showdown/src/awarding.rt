@@ -64,7 +64,7 @@ fn award_pot(
     split(low, unit, awards, low_order.as_slice());
 }
 
-/// What each player is awarded of the pots, in chips, by seat: index 0 is seat 1. Each pot goes to those of its
+/// Tells what each player is awarded of the pots, in chips, by seat: index 0 is seat 1. Each pot goes to those of its
 /// eligible players who have the best hand; it is cut into units, and units that are left over go one each to the
 /// winners, clockwise from the seat after the button. In hi-lo the high half is the greater in units and the low half
 /// the rest; where both sides have the same winners the pot is split once, and with no qualifying low the high side

@@ -26,7 +26,7 @@ pub(crate) enum Side {
     Low,
 }
 
-/// A live player's high value.
+/// Gives a live player's high value.
 fn high_value(player: Live, board: [Card; 5], game: Game) -> HighValue
     requires { AreDistinct (hole_cards game player ++ board) }
     ensures { result ≡ high_value game board player }
@@ -38,7 +38,7 @@ fn high_value(player: Live, board: [Card; 5], game: Game) -> HighValue
     }
 }
 
-/// A live player's low value, where he has one.
+/// Gives a live player's low value, where he has one.
 fn low_value(player: Live, board: [Card; 5], game: Game) -> Option<LowValue>
     requires { AreDistinct (hole_cards game player ++ board) }
     ensures { result ≡ low_value game board player }
@@ -49,7 +49,7 @@ fn low_value(player: Live, board: [Card; 5], game: Game) -> Option<LowValue>
     }
 }
 
-/// A live player's hand.
+/// Gives a live player's hand.
 fn hand_of(player: Live, board: [Card; 5], game: Game) -> Hand
     requires { AreDistinct (hole_cards game player ++ board) }
     ensures { result ≡ hand_of game board player }
@@ -60,7 +60,7 @@ fn hand_of(player: Live, board: [Card; 5], game: Game) -> Hand
     }
 }
 
-/// The hand in a seat, where a live player sits there.
+/// Gives the hand in a seat, where a live player sits there.
 fn hand_in_seat(player: Option<Live>, board: [Card; 5], game: Game) -> Option<Hand>
     requires { ForSome player (λ own. AreDistinct (hole_cards game own ++ board)) }
     ensures { result ≡ option_map (hand_of game board) player }
@@ -71,7 +71,7 @@ fn hand_in_seat(player: Option<Live>, board: [Card; 5], game: Game) -> Option<Ha
     }
 }
 
-/// The hands of the live players by seat.
+/// Gives the hands of the live players by seat.
 pub(crate) fn hands_of(
     live: &[Option<Live>; 10],
     board: [Card; 5],

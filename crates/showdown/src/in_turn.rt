@@ -26,7 +26,7 @@ impl Model for InTurn {
 }
 
 impl InTurn {
-    /// No seat yet.
+    /// Makes a list with no seat yet.
     fn empty() -> InTurn
         ensures { result ≡ [] }
     {
@@ -45,7 +45,7 @@ impl InTurn {
         self.count += 1;
     }
 
-    /// The seats of a set clockwise, from the seat after the button.
+    /// Gives the seats of a set clockwise, from the seat after the button.
     pub(crate) fn of(set: SeatSet, button: u8, seats: u8) -> InTurn
         requires some { 1 ≤ seats }
         requires most { seats ≤ 10 }
@@ -63,7 +63,7 @@ impl InTurn {
         order
     }
 
-    /// The seats as a slice.
+    /// Gives the seats as a slice.
     pub(crate) fn as_slice(&self) -> &[u8]
         ensures { result.now ≡ self.now }
     {

@@ -11,7 +11,8 @@ ghost use Rattle.showdown.specs.declared.live.Live.{Live};
 ghost use Rattle.showdown.specs.Hands.{hands_of};
 ghost use Rattle.showdown.specs.Awards.{award_pot, awards_of};
 
-/// The awards sum to the pots: where each pot is of whole units and for live players of the table, one or more.
+/// Says that the awards sum to the pots: where each pot is of whole units and for live players of the table, one or
+/// more.
 pub fn awards_sum_to_the_pots()
     ensures { (game : Game) (board : List Card) (live : List (Option Live)) (unit button seats : ℕ) (pots : List Pot)
         → seats ≤ 10 → 1 ≤ button → button ≤ seats → AreSeatsOf seats (map is_some live)
@@ -19,7 +20,7 @@ pub fn awards_sum_to_the_pots()
         → sum (awards_of (hands_of game board live) unit button seats pots) ≡ total_of pots }
 {}
 
-/// A player is awarded nothing from a pot for which he is not eligible: his award stays as it was.
+/// Says that a player is awarded nothing from a pot for which he is not eligible: his award stays as it was.
 pub fn only_eligible_players_are_awarded()
     ensures { (game : Game) (board : List Card) (live : List (Option Live)) (unit button seats : ℕ)
         (awards : List ℕ) (pot : Pot) (index : ℕ)
@@ -28,13 +29,13 @@ pub fn only_eligible_players_are_awarded()
         ≡ slice_index_or awards index 0 }
 {}
 
-/// Each award is a multiple of the unit.
+/// Says that each award is a multiple of the unit.
 pub fn awards_are_whole_units()
     ensures { (game : Game) (board : List Card) (live : List (Option Live)) (unit button seats : ℕ) (pots : List Pot)
         → list_all (λ award. award % unit == 0) (awards_of (hands_of game board live) unit button seats pots) ≡ true }
 {}
 
-/// Who is not live is awarded nothing, where only live players may win a pot.
+/// Says that who is not live is awarded nothing, where only live players may win a pot.
 pub fn only_live_players_are_awarded()
     ensures { (game : Game) (board : List Card) (live : List (Option Live)) (unit button seats : ℕ) (pots : List Pot)
         (index : ℕ) → has_seat (map is_some live) (suc index) ≡ false → are_for (map is_some live) pots ≡ true

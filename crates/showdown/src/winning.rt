@@ -8,7 +8,7 @@ use crate::hand::{Hand, Side};
 use button_blinds::SeatSet;
 use low_rank::LowValue;
 
-/// Whether a low is better than another: the lesser one, and one before none.
+/// Tells whether a low is better than another: the lesser one, and one before none.
 fn is_better_low(low: Option<LowValue>, other: Option<LowValue>) -> bool
     ensures { result ≡ is_better_low low other }
 {
@@ -20,7 +20,7 @@ fn is_better_low(low: Option<LowValue>, other: Option<LowValue>) -> bool
 }
 
 impl Side {
-    /// Whether a hand beats another on this side.
+    /// Tells whether a hand beats another on this side.
     fn beats(self, hand: &Hand, other: &Hand) -> bool
         ensures { result ≡ beats self hand.now other.now }
     {
@@ -30,7 +30,7 @@ impl Side {
         }
     }
 
-    /// Whether a hand takes part on this side.
+    /// Tells whether a hand takes part on this side.
     fn has(self, hand: &Hand) -> bool
         ensures { result ≡ contends self hand.now }
     {
@@ -41,7 +41,7 @@ impl Side {
     }
 }
 
-/// The hands of those who are eligible, by seat.
+/// Gives the hands of those who are eligible, by seat.
 pub(crate) fn in_play(eligible: SeatSet, hands: &[Option<Hand>; 10]) -> [Option<Hand>; 10]
     requires { length hands.now ≡ 10 }
     ensures rivals { result ≡ in_play eligible hands.now }
@@ -58,7 +58,7 @@ pub(crate) fn in_play(eligible: SeatSet, hands: &[Option<Hand>; 10]) -> [Option<
     rivals
 }
 
-/// Whether the hand of a seat, where it has one, beats another.
+/// Tells whether the hand of a seat, where it has one, beats another.
 fn is_beaten_by(side: Side, rival: &Option<Hand>, hand: &Hand) -> bool
     ensures { result ≡ option_map_or (λ own. beats side own hand.now) rival.now false }
 {
@@ -68,7 +68,7 @@ fn is_beaten_by(side: Side, rival: &Option<Hand>, hand: &Hand) -> bool
     }
 }
 
-/// Whether some hand in play beats this one.
+/// Tells whether some hand in play beats this one.
 fn is_beaten(side: Side, hands: &[Option<Hand>; 10], hand: &Hand) -> bool
     ensures { result ≡ is_beaten side hands.now hand.now }
 {
@@ -80,7 +80,7 @@ fn is_beaten(side: Side, hands: &[Option<Hand>; 10], hand: &Hand) -> bool
     false
 }
 
-/// Whether a hand in play wins a side.
+/// Tells whether a hand in play wins a side.
 fn wins(side: Side, hands: &[Option<Hand>; 10], hand: &Option<Hand>) -> bool
     ensures { result ≡ wins side hands.now hand.now }
 {
@@ -90,7 +90,7 @@ fn wins(side: Side, hands: &[Option<Hand>; 10], hand: &Option<Hand>) -> bool
     }
 }
 
-/// The winners of a side.
+/// Gives the winners of a side.
 pub(crate) fn winners(side: Side, hands: &[Option<Hand>; 10]) -> SeatSet
     requires { length hands.now ≡ 10 }
     ensures { result ≡ winners side hands.now }

@@ -13,7 +13,7 @@ pub(crate) enum Awards {
 }
 
 impl Awards {
-    /// What the player in a seat gets, who is live or has folded.
+    /// Tells what the player in a seat gets, who is live or has folded.
     pub(crate) fn award_in(&self, seat: u8, live: bool) -> u64
         requires first { 1 ≤ seat }
         requires last { seat ≤ 10 }

@@ -16,7 +16,7 @@ use card_set::{Card, Game};
 use deal_order::{board_place, hole_place};
 use showdown::Live;
 
-/// The seats that are dealt in.
+/// Gives the seats that are dealt in.
 pub(crate) fn dealt_seats(start: &HandStart) -> SeatSet
     ensures { result ≡ dealt_seats start.now }
 {
@@ -30,7 +30,7 @@ pub(crate) fn dealt_seats(start: &HandStart) -> SeatSet
     dealt
 }
 
-/// How many hole cards each player is dealt.
+/// Tells how many hole cards each player is dealt.
 fn hole_count(game: Game) -> u8
     ensures count { result ≡ hole_count game }
     ensures some { 2 ≤ result }
@@ -42,7 +42,7 @@ fn hole_count(game: Game) -> u8
     }
 }
 
-/// A player's hole card, counted from 0, by his seat.
+/// Gives a player's hole card, counted from 0, by his seat.
 fn hole_card(start: &HandStart, dealt: SeatSet, seat: u8, card: u8) -> Card
     requires lawful { IsLawfulStart start.now }
     requires dealt { dealt ≡ dealt_seats start.now }
@@ -60,7 +60,8 @@ fn hole_card(start: &HandStart, dealt: SeatSet, seat: u8, card: u8) -> Card
     ))
 }
 
-/// Which of a player's hole cards stands at an index of the four that a showdown lists: in hold'em his two stand twice.
+/// Tells which of a player's hole cards stands at an index of the four that a showdown lists: in hold'em his two stand
+/// twice.
 fn listed(game: Game, index: u8) -> u8
     requires { index < 4 }
     ensures card { result ≡ listed game index }
@@ -72,7 +73,7 @@ fn listed(game: Game, index: u8) -> u8
     }
 }
 
-/// The card at an index of the four that a showdown lists of a player.
+/// Gives the card at an index of the four that a showdown lists of a player.
 fn listed_card(start: &HandStart, dealt: SeatSet, seat: u8, index: u8) -> Card
     requires lawful { IsLawfulStart start.now }
     requires dealt { dealt ≡ dealt_seats start.now }
@@ -82,7 +83,7 @@ fn listed_card(start: &HandStart, dealt: SeatSet, seat: u8, index: u8) -> Card
     hole_card(start, dealt, seat, listed(start.game, index))
 }
 
-/// A player at the showdown, with his hole cards.
+/// Gives a player at the showdown, with his hole cards.
 fn tabled(start: &HandStart, dealt: SeatSet, seat: u8) -> Live
     requires lawful { IsLawfulStart start.now }
     requires dealt { dealt ≡ dealt_seats start.now }
@@ -99,7 +100,7 @@ fn tabled(start: &HandStart, dealt: SeatSet, seat: u8) -> Live
     }
 }
 
-/// A card of the board, counted from 0.
+/// Gives a card of the board, counted from 0.
 fn board_card(start: &HandStart, dealt: SeatSet, card: u8) -> Card
     requires dealt { dealt ≡ dealt_seats start.now }
     requires card { card ≤ 4 }
@@ -110,7 +111,7 @@ fn board_card(start: &HandStart, dealt: SeatSet, card: u8) -> Card
     start.deck.card(board_place(dealt.count(), holes, card))
 }
 
-/// The board: the flop, the turn and the river.
+/// Gives the board: the flop, the turn and the river.
 pub(crate) fn board_of(start: &HandStart, dealt: SeatSet) -> [Card; 5]
     requires { dealt ≡ dealt_seats start.now }
     ensures board { result ≡ board_of start.now }
@@ -125,7 +126,7 @@ pub(crate) fn board_of(start: &HandStart, dealt: SeatSet) -> [Card; 5]
     ]
 }
 
-/// A player of the start who is live, with his hole cards.
+/// Gives a player of the start who is live, with his hole cards.
 fn live_on(
     start: &HandStart,
     dealt: SeatSet,
@@ -144,7 +145,7 @@ fn live_on(
     Some(tabled(start, dealt, player.seat))
 }
 
-/// The live players with their hole cards, by the seats 1 to 10.
+/// Gives the live players with their hole cards, by the seats 1 to 10.
 pub(crate) fn all_live(start: &HandStart, dealt: SeatSet, round: &Round) -> [Option<Live>; 10]
     requires lawful { IsLawfulStart start.now }
     requires dealt { dealt ≡ dealt_seats start.now }

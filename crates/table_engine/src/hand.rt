@@ -49,7 +49,7 @@ impl Model for Hand {
 }
 
 impl Hand {
-    /// A hand before any act. It takes the room for its end; want of memory hands the start back.
+    /// Makes a hand before any act. It takes the room for its end; want of memory hands the start back.
     pub fn new(alloc: Global, start: HandStart) -> Result<Hand, HandStart>
         requires { IsLawfulStart start }
         ensures hand { IfOk result (λ hand. hand ≡ record { start = start; acts = [] }) }
@@ -75,7 +75,7 @@ impl Hand {
         })
     }
 
-    /// How the hand started. Every hand started lawfully and was played lawfully so far.
+    /// Tells how the hand started. Every hand started lawfully and was played lawfully so far.
     pub fn start(&self) -> &HandStart
         ensures same { result.now ≡ self.now.start }
         ensures lawful { IsLawfulStart self.now.start }
@@ -84,14 +84,14 @@ impl Hand {
         &self.start
     }
 
-    /// The seat of the player who is due, if somebody is.
+    /// Gives the seat of the player who is due, if somebody is.
     fn due_seat(&self) -> Option<u8>
         ensures { result ≡ due_in_hand self.now }
     {
         self.standing.round.due()
     }
 
-    /// The name of the player who is due. `None` exactly where nobody is.
+    /// Gives the name of the player who is due. `None` exactly where nobody is.
     pub fn due(&self) -> Option<Name>
         ensures name { result ≡ due_name self.now }
         ensures nobody { is_none result ≡ is_none (due_in_hand self.now) }
@@ -100,7 +100,8 @@ impl Hand {
         self.start.name_in_seat(seat)
     }
 
-    /// The seat of the player of this name, if he is dealt in. Who acts is mostly due, and then there is no search.
+    /// Gives the seat of the player of this name, if he is dealt in. Who acts is mostly due, and then there is no
+    /// search.
     fn seat_of_name(&self, name: Name) -> Option<u8>
         ensures seat { result ≡ seat_of_name self.now.start name }
         ensures played { IsLawfulPlay self.now }
@@ -113,21 +114,21 @@ impl Hand {
         self.start.seat_of_name(name)
     }
 
-    /// Whether the hand is over: nobody is due on the street and on no later one.
+    /// Tells whether the hand is over: nobody is due on the street and on no later one.
     pub fn is_over(&self) -> bool
         ensures { result ≡ is_over self.now }
     {
         self.due_seat().is_none()
     }
 
-    /// Whether one player alone is live.
+    /// Tells whether one player alone is live.
     pub fn is_won_by_folds(&self) -> bool
         ensures { result ≡ is_won_by_folds self.now }
     {
         self.standing.round.is_one_live()
     }
 
-    /// An act of the player in a seat. `NoMemory` is want of memory for an act that is not refused.
+    /// Takes an act of the player in a seat. `NoMemory` is want of memory for an act that is not refused.
     fn act_in_seat(
         &mut self,
         name: Name,
@@ -168,7 +169,7 @@ impl Hand {
         self.act_in_seat(name, seat, act, false)
     }
 
-    /// What the player in a seat does where time is called on him.
+    /// Tells what the player in a seat does where time is called on him.
     fn act_in_time(&self, seat: u8) -> Act
         ensures { result ≡ act_in_time self.now seat }
     {
@@ -200,7 +201,8 @@ impl Hand {
         self.act_in_seat(name, seat, act, true)
     }
 
-    /// What the players get of the pots at the showdown of a hand that is over, in chips, by seat: index 0 is seat 1.
+    /// Tells what the players get of the pots at the showdown of a hand that is over, in chips, by seat: index 0 is
+    /// seat 1.
     #[inline(never)]
     fn showdown_awards(&self) -> [u64; 10]
         requires over { IsTrue (is_over self.now) }
@@ -221,7 +223,7 @@ impl Hand {
         )
     }
 
-    /// What the players get of the pots of a hand that is over.
+    /// Tells what the players get of the pots of a hand that is over.
     fn awards(&self) -> Awards
         requires { IsTrue (is_over self.now) }
         ensures awards { result ≡ awards_in_hand self.now }

@@ -13,9 +13,9 @@ ghost use Rattle.table_engine.specs.Acts.{refusal_of_act};
 ghost use Rattle.table_engine.specs.Results.{award, is_won_by_folds, players_after, pot, puts_in_hand, stacks_after_hand, starting_stacks};
 ghost use Rattle.table_engine.specs.Plays.{IsLawfulPlay};
 
-/// The chips of a hand are kept. At each moment, all that the players have behind and all that they have put in
-/// sum to their starting stacks, and nobody has put in more than his stack. The pots of a hand that is over sum to all
-/// that was put in, what its players get sums to the same, and the stacks after it sum to the starting stacks.
+/// Says that the chips of a hand are kept. At each moment, all that the players have behind and all that they have put
+/// in sum to their starting stacks, and nobody has put in more than his stack. The pots of a hand that is over sum to
+/// all that was put in, what its players get sums to the same, and the stacks after it sum to the starting stacks.
 pub fn chips_of_a_hand()
     ensures in_play { (hand : HandTerms) → IsLawfulStart hand.start → IsLawfulPlay hand
         → sum_by (behind hand) hand.start.seats + sum_by (put_in_hand hand) hand.start.seats
@@ -31,14 +31,14 @@ pub fn chips_of_a_hand()
         → chips_of (players_after hand) ≡ chips_of hand.start.seats }
 {}
 
-/// Each act of a lawful play is refused by no check on the acts before it.
+/// Says that each act of a lawful play is refused by no check on the acts before it.
 pub fn acts_of_a_hand()
     ensures { (hand : HandTerms) (front : List ActOf) (act : ActOf) (back : List ActOf) → IsLawfulPlay hand
         → hand.acts ≡ front ++ act ∷ back → refusal_of_act (record hand { acts = front }) act.name act.act ≡ None }
 {}
 
-/// As long as a hand is not over somebody is due. He has chips behind, and he may fold, so there is always an act of
-/// his that is not refused.
+/// Says that as long as a hand is not over somebody is due. He has chips behind, and he may fold, so there is always an
+/// act of his that is not refused.
 pub fn turns_of_a_hand()
     ensures somebody { (hand : HandTerms) → IsLawfulStart hand.start → IsLawfulPlay hand → is_over hand ≡ false
         → IsSome (due_name hand) }
@@ -48,24 +48,24 @@ pub fn turns_of_a_hand()
         → refusal_of_act hand name acts.Fold ≡ None }
 {}
 
-/// The bet level of a street never falls: where an act that is not refused leaves the hand on the same street, with as
-/// many streets to come, the level is no lower after it.
+/// Says that the bet level of a street never falls: where an act that is not refused leaves the hand on the same
+/// street, with as many streets to come, the level is no lower after it.
 pub fn levels_of_a_hand()
     ensures { (hand : HandTerms) (act : ActOf) → refusal_of_act hand act.name act.act ≡ None
         → (streets_of (record hand { acts = hand.acts ++ act ∷ [] })).left ≡ (streets_of hand).left
         → (street_of hand).level ≤ (street_of (record hand { acts = hand.acts ++ act ∷ [] })).level }
 {}
 
-/// A hand cannot go on for ever: it has at most as many acts as its players have chips, and fifty more. Each act puts a
-/// chip in, or is one of at most ten folds, or one of at most ten checks on each of four streets.
+/// Says that a hand cannot go on for ever: it has at most as many acts as its players have chips, and fifty more. Each
+/// act puts a chip in, or is one of at most ten folds, or one of at most ten checks on each of four streets.
 pub fn length_of_a_hand()
     ensures { (hand : HandTerms) → IsLawfulStart hand.start → IsLawfulPlay hand
         → length hand.acts ≤ chips_of hand.start.seats + 50 }
 {}
 
-/// The players after a hand are those who were dealt in: they have their numbers, names and seats. Each of them has a
-/// stack that is a multiple of the unit. After a hand that is won by folds it is above 0, as before the hand: a player
-/// who folds was due, so he has chips behind.
+/// Says that the players after a hand are those who were dealt in: they have their numbers, names and seats. Each of
+/// them has a stack that is a multiple of the unit. After a hand that is won by folds it is above 0, as before the
+/// hand: a player who folds was due, so he has chips behind.
 pub fn players_of_a_hand()
     ensures numbers { (hand : HandTerms)
         → map (λ player. player.player) (players_after hand) ≡ map (λ player. player.player) hand.start.seats }
@@ -80,8 +80,8 @@ pub fn players_of_a_hand()
         → have_playable_stacks hand.start.unit (players_after hand) ≡ true }
 {}
 
-/// A hand that is over and not won by folds comes to a showdown: a live player has put in chips, so that each of its
-/// pots can be won.
+/// Says that a hand that is over and not won by folds comes to a showdown: a live player has put in chips, so that each
+/// of its pots can be won.
 pub fn showdown_of_a_hand()
     ensures { (hand : HandTerms) → IsLawfulStart hand.start → IsLawfulPlay hand → is_over hand ≡ true
         → is_won_by_folds hand ≡ false → is_contested (puts_in_hand hand) ≡ true }

@@ -12,7 +12,7 @@ use crate::awards::Awards;
 use crate::start::StartSeat;
 use betting_round::Round;
 
-/// What the player in a seat has after a hand, in chips: what he has behind, and what he gets.
+/// Tells what the player in a seat has after a hand, in chips: what he has behind, and what he gets.
 fn stack_after(round: &Round, seat: u8, awards: &Awards) -> u64
     requires first { 1 ≤ seat }
     requires last { seat ≤ 10 }

@@ -34,7 +34,7 @@ pub struct HandRecord {
 }
 
 impl HandRecord {
-    /// The players of the hand with their stacks after it, in rising seat. It takes no memory.
+    /// Gives the players of the hand with their stacks after it, in rising seat. It takes no memory.
     pub fn into_players(self) -> List<StartSeat>
         requires { length self.stacks ≡ length self.start.seats }
         ensures same { result ≡ with_stacks self.start.seats self.stacks }

@@ -26,7 +26,7 @@ pub struct Standing {
     pub left: u8,
 }
 
-/// The blind that is due of a seat, in chips.
+/// Gives the blind that is due of a seat, in chips.
 fn blind_of(start: &HandStart, seat: u8) -> u64
     ensures { result ≡ blind_of start.now seat }
 {
@@ -39,7 +39,7 @@ fn blind_of(start: &HandStart, seat: u8) -> u64
     }
 }
 
-/// What a player posts, in chips.
+/// Tells what a player posts, in chips.
 pub(crate) fn posted(start: &HandStart, player: &StartSeat) -> u64
     ensures posted { result ≡ posted start.now player.now }
     ensures covered { result ≤ player.now.stack }
@@ -47,14 +47,14 @@ pub(crate) fn posted(start: &HandStart, player: &StartSeat) -> u64
     player.stack.min(blind_of(start, player.seat))
 }
 
-/// What a player's blind lacks because his stack is short, in chips.
+/// Tells what a player's blind lacks because his stack is short, in chips.
 fn lacking(start: &HandStart, player: &StartSeat) -> u64
     ensures { result ≡ lacking start.now player.now }
 {
     blind_of(start, player.seat).saturating_sub(posted(start, player))
 }
 
-/// A player of the start as he begins the hand.
+/// Gives a player of the start as he begins the hand.
 fn seated(start: &HandStart, player: &StartSeat) -> Bettor
     ensures { result ≡ seated start.now player.now }
 {
@@ -67,7 +67,7 @@ fn seated(start: &HandStart, player: &StartSeat) -> Bettor
     }
 }
 
-/// Who is dealt in at a seat, as he begins the hand.
+/// Tells who is dealt in at a seat, as he begins the hand.
 fn seated_in(start: &HandStart, slot: &Option<StartSeat>) -> Option<Bettor>
     ensures { result ≡ option_map (seated start.now) slot.now }
 {
@@ -77,7 +77,7 @@ fn seated_in(start: &HandStart, slot: &Option<StartSeat>) -> Option<Bettor>
     }
 }
 
-/// The players who are dealt in, by the seats 1 to 10, as they begin the hand.
+/// Gives the players who are dealt in, by the seats 1 to 10, as they begin the hand.
 fn all_seated(start: &HandStart, players: &[Option<StartSeat>; 10]) -> [Option<Bettor>; 10]
     requires { players.now ≡ players_by_seat start.now }
     ensures { result ≡ map (option_map (seated start.now)) (players_by_seat start.now) }
@@ -96,7 +96,7 @@ fn all_seated(start: &HandStart, players: &[Option<StartSeat>; 10]) -> [Option<B
     ]
 }
 
-/// The players who are dealt in, by the seats 1 to 10.
+/// Gives the players who are dealt in, by the seats 1 to 10.
 pub(crate) fn players_by_seat(start: &HandStart) -> [Option<StartSeat>; 10]
     ensures { result ≡ players_by_seat start.now }
 {
@@ -114,7 +114,7 @@ pub(crate) fn players_by_seat(start: &HandStart) -> [Option<StartSeat>; 10]
     ]
 }
 
-/// What the short blinds of these players lack, in chips.
+/// Tells what the short blinds of these players lack, in chips.
 fn all_lacking(start: &HandStart, players: &[Option<StartSeat>]) -> u64
     requires { sum_over (lacking start.now) players.now < 2 ^ 60 }
     ensures { result ≡ sum_over (lacking start.now) players.now }
@@ -126,7 +126,7 @@ fn all_lacking(start: &HandStart, players: &[Option<StartSeat>]) -> u64
     }
 }
 
-/// Whether a street has ended: nobody is due and more than one player is live.
+/// Tells whether a street has ended: nobody is due and more than one player is live.
 fn has_ended(round: &Round) -> bool
     ensures { result ≡ has_ended round.now }
 {
@@ -147,7 +147,7 @@ fn check(round: &Round, game: Game, seat: u8, act: Act) -> Result<Done, Refusal>
 }
 
 impl Standing {
-    /// A hand before the first act, on its first street, with its players by seat.
+    /// Makes a hand as it stands before the first act, on its first street, with its players by seat.
     pub fn first(start: &HandStart, players: &[Option<StartSeat>; 10]) -> Standing
         requires lawful { IsLawfulStart start.now }
         requires players { players.now ≡ players_by_seat start.now }

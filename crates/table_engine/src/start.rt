@@ -57,7 +57,7 @@ pub struct HandStart {
 }
 
 impl HandStart {
-    /// The same start once more. It fails for want of memory alone.
+    /// Copies the start. It fails for want of memory alone.
     pub fn copy(&self, alloc: Global) -> Result<HandStart, AllocError>
         ensures { IfOk result (λ copy. copy ≡ self.now) }
     {
@@ -76,7 +76,7 @@ impl HandStart {
         })
     }
 
-    /// The player who is dealt in at a seat, if one is.
+    /// Gives the player who is dealt in at a seat, if one is.
     pub(crate) fn player_of(&self, seat: u8) -> Option<StartSeat>
         ensures { result ≡ player_of self.now seat }
     {
@@ -84,7 +84,7 @@ impl HandStart {
         seats.find(|player| player.seat == seat)
     }
 
-    /// The seat of the player of this name.
+    /// Gives the seat of the player of this name.
     pub(crate) fn seat_of_name(&self, name: Name) -> Option<u8>
         ensures { result ≡ seat_of_name self.now name }
     {
@@ -94,7 +94,7 @@ impl HandStart {
             .map(|player| player.seat)
     }
 
-    /// The name of the player in this seat.
+    /// Gives the name of the player in this seat.
     pub(crate) fn name_in_seat(&self, seat: u8) -> Option<Name>
         ensures { result ≡ name_in_seat self.now seat }
     {
@@ -104,7 +104,7 @@ impl HandStart {
             .map(|player| player.name)
     }
 
-    /// Whether the player in this seat has this name.
+    /// Tells whether the player in this seat has this name.
     pub(crate) fn has_in_seat(&self, seat: u8, name: Name) -> bool
         ensures { IsTrue result → name_in_seat self.now seat ≡ Some name }
     {

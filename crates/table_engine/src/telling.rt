@@ -11,7 +11,7 @@ use crate::start::{HandStart, StartSeat};
 use betting_round::Act;
 use pot_layers::{PotTally, Put};
 
-/// What was put in at a seat before any act.
+/// Tells what was put in at a seat before any act.
 fn first_put(start: &HandStart, slot: &Option<StartSeat>) -> Put
     ensures { result ≡ first_put start.now slot.now }
 {
@@ -21,7 +21,7 @@ fn first_put(start: &HandStart, slot: &Option<StartSeat>) -> Put
     }
 }
 
-/// What was put in before any act, by the seats 1 to 10.
+/// Tells what was put in before any act, by the seats 1 to 10.
 pub(crate) fn first_puts(start: &HandStart, players: &[Option<StartSeat>; 10]) -> [Put; 10]
     requires { players.now ≡ players_by_seat start.now }
     ensures { result ≡ map (first_put start.now) (players_by_seat start.now) }

@@ -32,8 +32,8 @@ ghost use Rattle.tournament_rules.specs.Units.{IsRaceTo};
 ghost use Rattle.tournament_rules.specs.Valid.{is_bust_of, without_stack};
 ghost use Rattle.tournament_rules.specs.Apart.{first_apart, answers_apart};
 
-/// After any list of events, lawful or not, the chips at rest, those in play and those that races took away are those
-/// sold and those that races gave.
+/// Says that after any list of events, lawful or not, the chips at rest, those in play and those that races took away
+/// are those sold and those that races gave.
 pub fn chips_are_kept()
     ensures { (events : List Event)
         → rest (run first_state events) + play (run first_state events) + removed (run first_state events)
@@ -52,14 +52,14 @@ pub fn entries_and_races_alone_change_the_chips()
     ensures refused { (state : State) (event : Event) → answer_to state event ≢ Ok → state_after state event ≡ state }
 {}
 
-/// After any list of events, lawful or not, the players are listed by table, at one table in rising seat, and no two
-/// of them sit in one seat.
+/// Says that after any list of events, lawful or not, the players are listed by table, at one table in rising seat, and
+/// no two of them sit in one seat.
 pub fn players_are_in_order()
     ensures { (events : List Event) → are_in_order (players_of (run first_state events)) ≡ true }
 {}
 
-/// After any list of events, each entered player has exactly one seat or exactly one row of those who are out, and
-/// never both. Who has a seat sits there under the name with which they entered.
+/// Says that after any list of events, each entered player has exactly one seat or exactly one row of those who are
+/// out, and never both. Who has a seat sits there under the name with which they entered.
 pub fn each_entry_is_in_or_out()
     ensures one { (events : List Event) → ForSome (run first_state events).play (λ play. (number : ℕ)
         → number < length play.book.entries → count_by (is_numbered number) play.book.seating.players
@@ -68,8 +68,8 @@ pub fn each_entry_is_in_or_out()
         All (λ player. slice_get play.book.entries player.player ≡ Some player.name) play.book.seating.players) }
 {}
 
-/// After any list of events, a player who sits and is in no started hand has a stack above 0 that is a multiple of
-/// the table's unit.
+/// Says that after any list of events, a player who sits and is in no started hand has a stack above 0 that is a
+/// multiple of the table's unit.
 pub fn stacks_are_lawful()
     ensures above { (events : List Event) → ForSome (run first_state events).play (λ play.
         All (λ player. is_in_hand play.book.out player ≡ false → 0 < player.stack) play.book.seating.players) }
@@ -78,8 +78,8 @@ pub fn stacks_are_lawful()
         play.book.seating.players) }
 {}
 
-/// After any list of events, a table where no race is pending has the unit of the current level. A race that is pending
-/// goes to that unit, from a smaller one after which it may come next.
+/// Says that after any list of events, a table where no race is pending has the unit of the current level. A race that
+/// is pending goes to that unit, from a smaller one after which it may come next.
 pub fn units_follow_the_level()
     ensures own { (events : List Event) (table : ℕ) → ForSome (run first_state events).play (λ play.
         has_table play.book table ≡ true → (status_at play.book.seating.tables table).race ≡ None
@@ -92,14 +92,15 @@ pub fn units_follow_the_level()
         IsRaceTo unit (status_at play.book.seating.tables table).unit)) }
 {}
 
-/// A level changes no hand that is out and no stack at rest.
+/// Says that a level changes no hand that is out and no stack at rest.
 pub fn a_level_changes_no_hand()
     ensures hands { (play : PlayState) (table : ℕ) → hand_at (play_after play Level) table ≡ hand_at play table }
     ensures players { (play : PlayState)
         → (play_after play Level).book.seating.players ≡ play.book.seating.players }
 {}
 
-/// A chip race changes no other table: how it stands, who sits there and with which stacks. It changes no hand.
+/// Says that a chip race changes no other table: how it stands, who sits there and with which stacks. It changes no
+/// hand.
 pub fn a_race_changes_no_other_table()
     ensures tables { (play : PlayState) (table other : ℕ) (row : CardRow) → other ≢ table
         → status_at (play_after play (Race table row)).book.seating.tables other
@@ -111,7 +112,7 @@ pub fn a_race_changes_no_other_table()
         → hand_at (play_after play (Race table row)) other ≡ hand_at play other }
 {}
 
-/// After any list of events, a table where a race was accepted has no other one before a level is accepted.
+/// Says that after any list of events, a table where a race was accepted has no other one before a level is accepted.
 pub fn a_table_races_once_between_levels()
     ensures { (before between : List Event) (table : ℕ) (row other : CardRow)
         → answer_to (run first_state before) (Race table row) ≡ Ok
@@ -119,8 +120,8 @@ pub fn a_table_races_once_between_levels()
         → answer_to (run (state_after (run first_state before) (Race table row)) between) (Race table other) ≢ Ok }
 {}
 
-/// After any list of events, a table that begins a hand while hand-for-hand is on begins no other before the end of a
-/// round is accepted. Nor does a table that plays as hand-for-hand is switched on.
+/// Says that after any list of events, a table that begins a hand while hand-for-hand is on begins no other before the
+/// end of a round is accepted. Nor does a table that plays as hand-for-hand is switched on.
 pub fn a_table_begins_once_in_a_round()
     ensures once { (before between : List Event) (table : ℕ) (row other : CardRow)
         → ForSome (run first_state before).play (λ play. play.book.seating.hands ≡ true
@@ -134,15 +135,16 @@ pub fn a_table_begins_once_in_a_round()
         → answer_to (run (state_after (run first_state before) (Hands true)) between) (Begin table row) ≢ Ok) }
 {}
 
-/// After any list of events, the players who are in a hand are, in number, name and seat, those of its start, and
-/// they have nothing at rest.
+/// Says that after any list of events, the players who are in a hand are, in number, name and seat, those of its start,
+/// and they have nothing at rest.
 pub fn hands_have_their_players()
     ensures { (events : List Event) (table : ℕ) → ForSome (run first_state events).play (λ play.
         map start_seat (filter (is_in_hand play.book.out) (filter (sits_at table) play.book.seating.players))
         ≡ map without_stack (players_out (start_at play.book.out table))) }
 {}
 
-/// After any list of events, each hand that is out started lawfully, and its acts are a lawful play of that start.
+/// Says that after any list of events, each hand that is out started lawfully, and its acts are a lawful play of that
+/// start.
 pub fn hands_are_lawful_plays()
     ensures start { (events : List Event) (table : ℕ) → ForSome (run first_state events).play (λ play.
         ForSome (hand_at play table) (λ hand. IsLawfulStart hand.start)) }
@@ -150,8 +152,8 @@ pub fn hands_are_lawful_plays()
         ForSome (hand_at play table) IsLawfulPlay) }
 {}
 
-/// An act of a player and a called time change the acts of their own table's hand and nothing else: the book stays as
-/// it is, and so does each hand at another table.
+/// Says that an act of a player and a called time change the acts of their own table's hand and nothing else: the book
+/// stays as it is, and so does each hand at another table.
 pub fn acts_stay_at_their_table()
     ensures book { (play : PlayState) (event : Event) (table : ℕ) → act_table event ≡ Some table
         → (play_after play event).book ≡ play.book }
@@ -159,8 +161,9 @@ pub fn acts_stay_at_their_table()
         → other ≢ table → hand_at (play_after play event) other ≡ hand_at play other }
 {}
 
-/// After any list of events, who is out has no seat, is in no hand that is out, is dealt into no hand that begins and
-/// makes no act that is accepted. Whatever events follow, he stays out, with the same stack and in the same group.
+/// Says that after any list of events, who is out has no seat, is in no hand that is out, is dealt into no hand that
+/// begins and makes no act that is accepted. Whatever events follow, he stays out, with the same stack and in the same
+/// group.
 pub fn who_is_out_stays_out()
     ensures seat { (events : List Event) → ForSome (run first_state events).play (λ play.
         All (λ bust. count_by (is_numbered bust.player) play.book.seating.players ≡ 0) play.book.busts) }
@@ -177,15 +180,15 @@ pub fn who_is_out_stays_out()
         take (length earlier.book.busts) later.book.busts ≡ earlier.book.busts)) }
 {}
 
-/// After any list of events, who went out later is in the same group or in a later one.
+/// Says that after any list of events, who went out later is in the same group or in a later one.
 pub fn groups_never_fall()
     ensures { (events : List Event) → ForSome (run first_state events).play (λ play.
         is_pairwise (λ earlier later. nat_le earlier.group later.group) play.book.busts ≡ true) }
 {}
 
-/// No group has players of two rounds. Those who go out while hand-for-hand is on, before the end of a round is
-/// accepted, are in one group. Each accepted end of a round raises the group by one, so those who go out after it are
-/// in later groups than all who were out before. So are those who go out after a settle while hand-for-hand is off.
+/// Says that no group has players of two rounds. Those who go out while hand-for-hand is on, before the end of a round
+/// is accepted, are in one group. Each accepted end of a round raises the group by one, so those who go out after it
+/// are in later groups than all who were out before. So are those who go out after a settle while hand-for-hand is off.
 pub fn a_group_is_of_one_round()
     ensures one { (before during : List Event) → ForSome (run first_state before).play (λ earlier.
         earlier.book.seating.hands ≡ true → is_any_accepted ends_round (run first_state before) during ≡ false
@@ -208,22 +211,22 @@ pub fn a_group_is_of_one_round()
         earlier.book.busts))) }
 {}
 
-/// After any list of events, where the tournament is over one player is in, with all chips: those that were sold and
-/// those that races gave, but for those that races took away.
+/// Says that after any list of events, where the tournament is over one player is in, with all chips: those that were
+/// sold and those that races gave, but for those that races took away.
 pub fn the_last_player_has_all_chips()
     ensures { (events : List Event) → ForSome (run first_state events).play (λ play.
         is_over_for_all play.book ≡ true → map (λ player. player.stack + play.book.removed) play.book.seating.players
         ≡ (sold_by play.book + play.book.added) ∷ []) }
 {}
 
-/// After any list of events, a hand that begins starts lawfully.
+/// Says that after any list of events, a hand that begins starts lawfully.
 pub fn starts_are_lawful()
     ensures { (events : List Event) (table : ℕ) (row : CardRow) → ForSome (run first_state events).play (λ play.
         answer_to (run first_state events) (Begin table row) ≡ Ok
         → IsLawfulStart (next_start play.book table row.cards)) }
 {}
 
-/// After any list of events, each balance and each break that is accepted is a lawful move where it stands.
+/// Says that after any list of events, each balance and each break that is accepted is a lawful move where it stands.
 pub fn moves_are_lawful()
     ensures balances { (events : List Event) (from to : ℕ) → ForSome (run first_state events).play (λ play.
         answer_to (run first_state events) (Balance from to) ≡ Ok
@@ -234,14 +237,14 @@ pub fn moves_are_lawful()
         → IsLawfulMove play.book.seating (ByBreak table places names)) }
 {}
 
-/// After any list of events, nobody is in hands at two tables.
+/// Says that after any list of events, nobody is in hands at two tables.
 pub fn nobody_is_dealt_in_at_two_tables()
     ensures { (events : List Event) (number table other : ℕ) → ForSome (run first_state events).play (λ play.
         is_among number (players_out (start_at play.book.out table)) ≡ true
         → is_among number (players_out (start_at play.book.out other)) ≡ true → table ≡ other) }
 {}
 
-/// After any list of events, a table that is not open has no players, no hand, no marks and no pending race.
+/// Says that after any list of events, a table that is not open has no players, no hand, no marks and no pending race.
 pub fn a_table_that_is_not_open_is_bare()
     ensures players { (events : List Event) (table : ℕ) → ForSome (run first_state events).play (λ play.
         is_open play.book.seating.players table ≡ false → players_at play.book.seating.players table ≡ []) }
@@ -253,7 +256,7 @@ pub fn a_table_that_is_not_open_is_bare()
         is_open play.book.seating.players table ≡ false → (status_at play.book.seating.tables table).race ≡ None) }
 {}
 
-/// After any list of events and a break that is accepted, nobody sits at the table that broke.
+/// Says that after any list of events and a break that is accepted, nobody sits at the table that broke.
 pub fn a_broken_table_is_left()
     ensures { (events : List Event) (table : ℕ) (places : List Place) (names : List (List ℕ))
         → ForSome (run first_state events).play (λ play.
@@ -261,14 +264,14 @@ pub fn a_broken_table_is_left()
         → players_at (players_of (state_after (run first_state events) (Break table places names))) table ≡ []) }
 {}
 
-/// After any list of events, a halted table begins no hand: it waits until the gap is smaller.
+/// Says that after any list of events, a halted table begins no hand: it waits until the gap is smaller.
 pub fn halted_tables_wait()
     ensures { (events : List Event) (table : ℕ) (row : CardRow) → ForSome (run first_state events).play (λ play.
         is_halted play.book.seating table ≡ true → answer_to (run first_state events) (Begin table row) ≢ Ok) }
 {}
 
-/// After any list of events and an entry that is accepted, its table has at most one player more than any other that
-/// could be entered.
+/// Says that after any list of events and an entry that is accepted, its table has at most one player more than any
+/// other that could be entered.
 pub fn entries_go_to_the_fewest()
     ensures { (events : List Event) (name : List ℕ) (table seat other : ℕ)
         → ForSome (run first_state events).play (λ play.
@@ -277,8 +280,8 @@ pub fn entries_go_to_the_fewest()
         ≤ count_at (players_of (state_after (run first_state events) (Enter name table seat))) other + 1) }
 {}
 
-/// A book and the hands that are out, each by itself, run over any list of events, answer as the tournament does: as
-/// one that begins with the plan, and as any whose plan an accepted `go` has just made whole.
+/// Says that a book and the hands that are out, each by itself, run over any list of events, answer as the tournament
+/// does: as one that begins with the plan, and as any whose plan an accepted `go` has just made whole.
 pub fn a_book_and_its_hands_answer_alike()
     ensures plan { (plan : PlanTerms) (events : List Event) → is_right plan ≡ true
         → answers_apart (first_apart plan) events ≡ answers_in_play (first_play plan) events }
