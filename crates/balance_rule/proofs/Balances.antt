@@ -2,18 +2,19 @@
 use Rattle.std.proofs.Common.{◌≡◌, ◌∙◌, refl, sym, ap, ℕ, ◌+◌, ◌≤◌, ◌≢◌, Bool, true, false, cond, ◌==◌, List, [], ◌∷◌, Option, None, Some, arith}
 use Rattle.std.specs.Prelude.{not, count_by, nat_lt}
 use Rattle.std.specs.List.{list_all}
-use Rattle.std.proofs.lemmas.Bool.{and_parts, eqb-true}
+use Rattle.std.proofs.lemmas.Bool.{and_parts, eqb-true, ltb-false}
 use Rattle.std.proofs.lemmas.Bool.Decides.{nat_tests}
 use Rattle.std.proofs.lemmas.List.Sums.{sum_by-insert}
 use Rattle.floor_text.specs.declared.refusal.Refusal.TheVariants.{NotFullest, NotShortest, EvenEnough}
 use Rattle.rulebook.specs.Checks.{first_that_holds}
+use Rattle.rulebook.proofs.Tests.{count_by-cons, find-passes}
 use Rattle.seat_book.specs.declared.place.Place.{Place}
 use Rattle.seat_book.specs.declared.seated.Seated.{Seated}
 use Rattle.seat_book.specs.Places.{comes_before, IsTableOf}
 use Rattle.seat_book.specs.Players.{sits_at, sits_in, is_numbered, player_of, sit_down, lifted, are_apart}
 use Rattle.seat_book.specs.Counts.{count_at, is_open, greatest_count, least_count}
 use Rattle.seat_book.specs.Seatings.{Seating, IsSeating}
-use Rattle.seat_book.proofs.Passing.{count_by-cons, filter-all, found-passes}
+use Rattle.seat_book.proofs.Passing.{filter-all}
 use Rattle.balance_rule.specs.declared.balance.Move.{Move}
 use Rattle.balance_rule.specs.EmptySeats.{worst_empty_seat}
 use Rattle.balance_rule.specs.Balance.{next_big_seat, next_big_player, move_to, balance_move, balance_checks, reseated, after_move}
@@ -110,7 +111,7 @@ count-after : (seating : Seating) (from to : ℕ) (order : Move) (table : ℕ) �
 count-after seating from to order table lawful is =
     let moved = mover seating from to order lawful is in
     let seated = moved.0 in
-    let parts = found-passes (is_numbered order.player) seating.players seated moved.1.found in
+    let parts = find-passes (is_numbered order.player) seating.players seated moved.1.found in
     let number : seated.player ≡ order.player = eqb-true seated.player order.player parts in
     let players = ap (λ found. count_at (reseated order found seating.players) table) moved.1.found in
     let down = count-down (record seated { place = order.to }) (lifted seated.player seating.players) table in
@@ -163,9 +164,6 @@ passed : (here there most least : ℕ)
 passed here there most least none =
     by_tests (nat_lt here most) refl (nat_lt least there) refl (nat_lt here (there + 2)) refl none
   where
-    not_below : (a b : ℕ) → nat_lt a b ≡ false → b ≤ a
-    not_below a b is = grind (arith, nat_tests)
-
     by_tests : (one : Bool) → nat_lt here most ≡ one → (two : Bool) → nat_lt least there ≡ two → (three : Bool)
         → nat_lt here (there + 2) ≡ three
         → first_that_holds ((NotFullest, one) ∷ (NotShortest, two) ∷ (EvenEnough, three) ∷ []) ≡ None
@@ -174,7 +172,7 @@ passed here there most least none =
     by_tests false one_is true two_is three three_is none = absurd cc
     by_tests false one_is false two_is true three_is none = absurd cc
     by_tests false one_is false two_is false three_is none =
-        (not_below here most one_is, not_below least there two_is, not_below here (there + 2) three_is)
+        (ltb-false here most one_is, ltb-false least there two_is, ltb-false here (there + 2) three_is)
 
 -- Two open tables that pass the checks of a balance, of which the one is not playing, are balanced lawfully.
 pub checked-lawful : (seating : Seating) (from to : ℕ) (order : Move) → is_race_pending seating ≡ false

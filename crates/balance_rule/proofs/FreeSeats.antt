@@ -1,17 +1,17 @@
 -- Seats that are free: where fewer are taken than a table has, a walk round it finds one.
-use Rattle.std.proofs.Common.{◌≡◌, ◌∙◌, refl, ap, ℕ, zero, suc, ◌+◌, ◌-◌, ◌<◌, ◌≤◌, ◌==◌, Bool, true, false, cond, List, [], ◌∷◌, Option, None, Some, inl, inr, arith}
+use Rattle.std.proofs.Common.{◌≡◌, ◌∙◌, refl, ap, ℕ, zero, suc, ◌<◌, ◌≤◌, ◌==◌, Bool, true, false, cond, List, [], ◌∷◌, Option, None, Some, inl, inr, arith}
 use Rattle.std.specs.Option.{is_some}
 use Rattle.std.specs.Prelude.{not, ◌&&◌, ◌||◌, find, unwrap_or, slice_index_or}
-use Rattle.std.proofs.lemmas.Bool.{cases_lt, eq-eqb, and_parts}
+use Rattle.std.proofs.lemmas.Bool.{both_ways, cases_lt, eq-eqb, eqb-true, and_parts, not-true}
 use Rattle.std.proofs.lemmas.Bool.Decides.{nat_tests}
 use Rattle.rulebook.specs.Seats.{seat_after, walk, clockwise_after}
-use Rattle.rulebook.proofs.Walks.{walk-next}
-use Rattle.rulebook.proofs.OccupiedSeats.{walk-higher, walk-round}
+use Rattle.rulebook.proofs.OccupiedSeats.{seat_after-within, walk-higher, walk-round}
+use Rattle.rulebook.proofs.Tests.{count_by-cons, eqb-swap, find-passes}
 use Rattle.button_blinds.specs.SeatSets.{has_seat, with_seat, seat_count}
 use Rattle.button_blinds.specs.declared.marks.Marks.{Marks}
 use Rattle.seat_book.specs.declared.seated.Seated.{Seated}
 use Rattle.seat_book.specs.Players.{player_at, taken_seats}
-use Rattle.seat_book.proofs.Passing.{none-find, found-all, found-passes, count_by-cons}
+use Rattle.seat_book.proofs.Passing.{none-find, found-all}
 use Rattle.seat_book.proofs.TakenPlaces.{has_seat-one_more, has_seat-taken, taken-size}
 use Rattle.balance_rule.specs.EmptySeats.{is_empty_seat, first_after, worst_of}
 
@@ -51,10 +51,8 @@ comes-to seats seat target within first last = found (find (λ other. other == t
       where
         not_above : (suc target == target) ≡ true → ⊥
         not_above same = grind (arith, nat_tests)
-    found (Some other) is = let same : (other == target) ≡ true = rw is at is_target in is ∙ ap Some (equal other same)
-      where
-        equal : (other : ℕ) → (other == target) ≡ true → other ≡ target
-        equal other same = grind (arith, nat_tests)
+    found (Some other) is = let same : (other == target) ≡ true = rw is at is_target in is
+        ∙ ap Some (eqb-true other target same)
 
 -- A walk round a table finds a seat that passes a test, where a seat of the table does.
 pub walk-finds : (seats : ℕ) (test : ℕ → Bool) (seat target : ℕ) → seat ≤ seats → 1 ≤ target → target ≤ seats
@@ -64,11 +62,7 @@ walk-finds seats test seat target within first last passes none =
     let failed = found-all (λ other. other == target) (λ other. not (test other))
     (clockwise_after seats seat) target all
     (comes-to seats seat target within first last) in
-    both (test target) passes failed
-  where
-    both : (b : Bool) → b ≡ true → not b ≡ true → ⊥
-    both true one other = cc
-    both false one other = cc
+    both_ways (test target) (not-true (test target) failed) passes
 
 -- A walk round a table finds a seat that is not taken, where fewer are taken than the table has.
 pub walk-free : (set : List Bool) (seats seat : ℕ) → seat ≤ seats → seat_count set < seats
@@ -77,26 +71,12 @@ walk-free set seats seat within fewer none =
     let free = some-free set seats fewer in
     walk-finds seats (λ other. not (has_seat set other)) seat free.0 within free.1.0 free.1.1 (ap not free.1.2) none
 
--- While steps are left, a walk whose next seat passes finds that seat.
-pub first-found : (test : ℕ → Bool) (step : ℕ → ℕ) (steps taken seat : ℕ) → taken < steps → test (step seat) ≡ true
-    → find test (walk step (steps - taken) seat) ≡ Some (step seat)
-first-found test step steps taken seat within passes = rw (walk-next step steps taken seat within, passes) refl
-
--- While steps are left, a walk whose next seat fails finds what the rest of it finds.
-pub first-passed : (test : ℕ → Bool) (step : ℕ → ℕ) (steps taken seat : ℕ) → taken < steps → test (step seat) ≡ false
-    → find test (walk step (steps - taken) seat) ≡ find test (walk step (steps - (taken + 1)) (step seat))
-first-passed test step steps taken seat within fails = rw (walk-next step steps taken seat within, fails) refl
-
--- the next seat is one of the table's
-next-within : (seats seat : ℕ) → 1 ≤ seats → (1 ≤ seat_after seats seat) × (seat_after seats seat ≤ seats)
-next-within seats seat some = (grind (arith, nat_tests), grind (arith, nat_tests))
-
 walk-alike : (seats : ℕ) (one other : ℕ → Bool) (steps seat : ℕ) → 1 ≤ seats
     → ((at : ℕ) → 1 ≤ at → at ≤ seats → one at ≡ other at)
     → find one (walk (seat_after seats) steps seat) ≡ find other (walk (seat_after seats) steps seat)
 walk-alike seats one other zero seat some alike = refl
 walk-alike seats one other (suc steps) seat some alike =
-    let next = next-within seats seat some in
+    let next = seat_after-within seats seat some in
     let here = alike (seat_after seats seat) next.0 next.1 in
     let rest = walk-alike seats one other steps (seat_after seats seat) some alike in
     rw here (ap (λ found. cond (other (seat_after seats seat)) (Some (seat_after seats seat)) found) rest)
@@ -121,11 +101,8 @@ empty-apart players table seats big at most first last =
     let one = has_seat-one_more (taken_seats players table) big at first (omega (arith, size, last, most)) in
     ap not (one ∙ ap (λ taken. big == at || taken) (has_seat-taken table at first (omega arith) players))
     ∙ neither (is_some (player_at players (record { table = table; seat = at }))) (big == at) (at == big)
-    (swapped big at)
+    (eqb-swap big at)
   where
-    swapped : (a b : ℕ) → (a == b) ≡ (b == a)
-    swapped a b = grind (arith, nat_tests)
-
     either_way : (taken other : Bool) → not (other || taken) ≡ (not taken && not other)
     either_way true true = refl
     either_way true false = refl
@@ -138,10 +115,10 @@ empty-apart players table seats big at most first last =
 -- The worst seat by the marks is empty.
 pub worst-empty : (seats : ℕ) (is_empty : ℕ → Bool) (marks : Option Marks) (seat : ℕ)
     → worst_of seats is_empty marks ≡ Some seat → is_empty seat ≡ true
-worst-empty seats is_empty None seat is = found-passes is_empty (clockwise_after seats seats) seat is
+worst-empty seats is_empty None seat is = find-passes is_empty (clockwise_after seats seats) seat is
 worst-empty seats is_empty (Some marks) seat is =
     (and_parts (is_empty seat) (not (seat == marks.big))
-    (found-passes (λ other. is_empty other && not (other == marks.big))
+    (find-passes (λ other. is_empty other && not (other == marks.big))
     (clockwise_after seats marks.big) seat is)).0
 
 -- Nobody sits in an empty seat.

@@ -1,15 +1,15 @@
 -- The player who moves: who is found in a place is found by his number, and sits there.
-use Rattle.std.proofs.Common.{◌≡◌, ◌∙◌, refl, sym, ap, ℕ, ◌≤◌, Bool, true, false, ◌==◌, List, [], ◌∷◌, Option, None, Some, arith}
+use Rattle.std.proofs.Common.{◌≡◌, ◌∙◌, refl, sym, ap, ℕ, ◌≤◌, Bool, true, false, ◌==◌, List, [], ◌∷◌, Option, Some, arith}
 use Rattle.std.specs.Prelude.{not, find, option_map}
-use Rattle.std.specs.Option.{is_some}
 use Rattle.std.specs.List.{list_all}
 use Rattle.std.proofs.lemmas.Bool.{and_parts, eq-eqb, eqb-true}
+use Rattle.rulebook.proofs.Tests.{find-passes, some_there}
 use Rattle.button_blinds.specs.SeatSets.{has_seat}
 use Rattle.seat_book.specs.declared.place.Place.{Place}
 use Rattle.seat_book.specs.declared.seated.Seated.{Seated}
 use Rattle.seat_book.specs.Players.{sits_in, is_numbered, player_at, player_of, place_of, taken_seats, are_apart}
 use Rattle.seat_book.specs.Seatings.{Seating, IsSeating}
-use Rattle.seat_book.proofs.Passing.{found-all, found-passes}
+use Rattle.seat_book.proofs.Passing.{found-all}
 use Rattle.seat_book.proofs.TakenPlaces.{has_seat-taken}
 use Rattle.balance_rule.specs.EmptySeats.{worst_empty_seat}
 use Rattle.balance_rule.specs.Balance.{next_big_seat, next_big_player, move_to, balance_move}
@@ -43,21 +43,16 @@ pub found-place : (players : List Seated) (place : Place) (seated : Seated) → 
     → seated.place ≡ place
 found-place players place seated is =
     let parts = and_parts (seated.place.table == place.table) (seated.place.seat == place.seat)
-    (found-passes (sits_in place) players seated is) in
+    (find-passes (sits_in place) players seated is) in
     let table : seated.place.table ≡ place.table = eqb-true seated.place.table place.table parts.0 in
     let seat : seated.place.seat ≡ place.seat = eqb-true seated.place.seat place.seat parts.1 in
     λ i. record { table = table i; seat = seat i }
-
--- Where somebody sits in a place, he is found there.
-pub some-player : {A : Type 0} (found : Option A) → is_some found ≡ true → (x : A) × (found ≡ Some x)
-some-player None is = absurd cc
-some-player (Some x) is = (x, refl)
 
 -- In a seat that is taken somebody sits.
 pub taken-player : (players : List Seated) (table seat : ℕ) → 1 ≤ seat → seat ≤ 10
     → has_seat (taken_seats players table) seat ≡ true
     → (seated : Seated) × (player_at players (record { table = table; seat = seat }) ≡ Some seated)
-taken-player players table seat first last taken = some-player
+taken-player players table seat first last taken = some_there
     (player_at players (record { table = table; seat = seat })) (sym (has_seat-taken table seat first last players)
     ∙ taken)
 

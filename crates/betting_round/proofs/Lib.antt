@@ -2,5 +2,4 @@ pub mod ActRefusals
 pub mod Acted
 mod Closings
 pub mod Steps
-pub mod Walks
 pub mod Turns

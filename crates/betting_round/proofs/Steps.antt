@@ -2,6 +2,7 @@
 use Rattle.std.proofs.Common.{◌≡◌, ◌≢◌, ◌∙◌, ℕ, zero, suc, ◌+◌, ◌-◌, ◌≤◌, ◌<◌, ◌^◌, Bool, true, false, List, [], ◌∷◌, Some, None, refl, ap, sym, arith}
 use Rattle.std.specs.Prelude.{Option, IsSome, ◌==◌, map, max, option_map, slice_index_or, slice_set, not, ◌&&◌, ◌||◌}
 use Rattle.std.specs.Option.{is_some}
+use Rattle.std.proofs.Math.Bool.{and-true}
 use Rattle.std.proofs.lemmas.Bool.Decides.{nat_tests}
 use Rattle.betting_round.specs.declared.act.Act.{Act}
 use Rattle.betting_round.specs.declared.bettor.Bettor.{Bettor}
@@ -250,17 +251,13 @@ street_more_acts street seat act low sits start acts right is = by_slot (player_
         ap (λ (s : Street). stepped s seat act) is ∙ sym
         (street_stepped start acts (record { seat = seat; act = act }) now right.seated low there)
 
-and_true : (test : Bool) → (test && true) ≡ test
-and_true true = refl
-and_true false = refl
-
 -- A player before any act is as he began.
 player_start : (start : StreetStart) (bettor : Bettor) → player_after start [] bettor ≡ fresh bettor
 unfolding put_by_acts
 player_start start bettor =
     let put : bettor.put + 0 ≡ bettor.put = omega arith in
     let behind : bettor.behind - 0 ≡ bettor.behind = omega arith in
-    let live = and_true bettor.live in
+    let live = and-true bettor.live in
     rw (put, behind, live)
 
 -- A table before any act is as it began.

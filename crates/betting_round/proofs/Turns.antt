@@ -8,6 +8,7 @@ use Rattle.floor_text.specs.declared.refusal.Refusal.{Refusal}
 use Rattle.floor_text.specs.declared.refusal.Refusal.TheVariants.{BetFacing, NothingToRaise, NotReopened, NotUnit, PastPot, PastStack, TooSmall}
 use Rattle.rulebook.specs.Checks.{first_that_holds}
 use Rattle.rulebook.proofs.Checks.{first_that_holds-later, none_holds-both}
+use Rattle.rulebook.proofs.Tests.{find-passes}
 use Rattle.rulebook.specs.Seats.{clockwise_after, seat_after, walk}
 use Rattle.betting_round.specs.declared.act.Act.{Act}
 use Rattle.betting_round.specs.declared.act.Act.TheVariants.{Fold, Check, Call, AllIn, Bet, Raise}
@@ -23,15 +24,6 @@ use Rattle.betting_round.specs.WhoIsDue.{can_act, due_seat, is_closed, is_there,
 use Rattle.betting_round.specs.Running.{amount_of, moved, placed}
 use Rattle.betting_round.proofs.ActRefusals.{held_facing}
 use Rattle.betting_round.proofs.Steps.{street_stepped, sum_set}
-
--- What is found in a list passes the test.
-find-passes : (test : ℕ → Bool) (seats : List ℕ) (seat : ℕ) → find test seats ≡ Some seat → test seat ≡ true
-find-passes test [] seat found = absurd cc
-find-passes test (other ∷ seats) seat found =
-    elim (cases_Bool (test other)) [
-      | inl is ↦ let first : Some other ≡ Some seat = rw is at found in let same : other ≡ seat = cc in rw (← same) is
-      | inr passed ↦ find-passes test seats seat (rw passed at found)
-    ]
 
 -- Who may be due can act.
 can_act-due : (level : ℕ) (slot : Option Player) → is_there (may_be_due level) slot ≡ true

@@ -135,7 +135,7 @@ fn may_be_due(players: &[Option<Player>; 10], level: u64, seat: u8) -> bool
 }
 
 /// Gives the first seat, of so many, whose player may be due, clockwise from the seat after this one.
-#[tactic(auto, using(crate::proofs::Walks::find_found, crate::proofs::Walks::find_passed))]
+#[tactic(auto, using(rulebook::proofs::Walks::find_found, rulebook::proofs::Walks::find_passed))]
 pub(crate) fn first_to_act(
     players: &[Option<Player>; 10],
     seats: u8,

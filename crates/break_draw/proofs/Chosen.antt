@@ -5,6 +5,7 @@ use Rattle.std.specs.List.{list_all}
 use Rattle.std.proofs.lemmas.Bool.{eqb-true, or_cases, or_left, or_right, and_from}
 use Rattle.std.proofs.lemmas.Bool.Decides.{nat_tests}
 use Rattle.rulebook.specs.Seats.{seat_after, walk}
+use Rattle.rulebook.proofs.OccupiedSeats.{seat_after-within}
 use Rattle.seat_book.specs.declared.place.Place.{Place}
 use Rattle.seat_book.specs.Places.{IsTableOf, is_place_of}
 use Rattle.seat_book.specs.Counts.{table_numbers}
@@ -65,16 +66,13 @@ found-within test seats zero seat found some is = absurd cc
 found-within test seats (suc steps) seat found some is =
     by_test (test (seat_after seats seat)) refl is (found-within test seats steps (seat_after seats seat) found some)
   where
-    next : (1 ≤ seat_after seats seat) × (seat_after seats seat ≤ seats)
-    next = (grind (arith, nat_tests), grind (arith, nat_tests))
-
     by_test : (b : Bool) → test (seat_after seats seat) ≡ b → cond b (Some (seat_after seats seat))
         (find test (walk (seat_after seats) steps (seat_after seats seat))) ≡ Some found
         → (find test (walk (seat_after seats) steps (seat_after seats seat)) ≡ Some found
         → (1 ≤ found) × (found ≤ seats)) → (1 ≤ found) × (found ≤ seats)
     by_test true passes here later =
         let same : seat_after seats seat ≡ found = cc in
-        let bounds = next in
+        let bounds = seat_after-within seats seat some in
         (omega (arith, same, bounds.0), omega (arith, same, bounds.1))
     by_test false fails there later = later there
 

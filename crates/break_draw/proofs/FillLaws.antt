@@ -2,17 +2,18 @@
 use Rattle.std.proofs.Common.{◌≡◌, ◌∙◌, refl, sym, ap, subst, ℕ, zero, suc, ◌+◌, ◌≤◌, ◌==◌, Bool, true, false, cond, List, [], ◌∷◌, ◌++◌, Some, inl, inr, arith}
 use Rattle.std.specs.Prelude.{not, ◌&&◌, ◌||◌}
 use Rattle.std.specs.List.{list_all, list_any}
+use Rattle.std.proofs.Math.Bool.{or-false}
 use Rattle.std.proofs.lemmas.Bool.{cases_Bool, eqb-true, and_parts, and_from}
 use Rattle.std.proofs.lemmas.Bool.Decides.{nat_tests}
 use Rattle.std.proofs.lemmas.List.Folds.{list_any-append}
 use Rattle.rulebook.specs.Seats.{clockwise_after}
 use Rattle.rulebook.specs.Pairs.{are_distinct}
+use Rattle.rulebook.proofs.Tests.{find-passes}
 use Rattle.seat_book.specs.declared.place.Place.{Place}
 use Rattle.seat_book.specs.Places.{IsTableOf}
 use Rattle.seat_book.specs.Counts.{table_numbers}
 use Rattle.seat_book.specs.Seatings.{Seating}
 use Rattle.seat_book.proofs.Numbers.{list_all-joined}
-use Rattle.seat_book.proofs.Passing.{found-passes}
 use Rattle.balance_rule.specs.EmptySeats.{is_empty_seat}
 use Rattle.balance_rule.specs.Filling.{is_other_open, other_open_tables, is_at, is_same_place, count_with, is_free, next_to_fill, filled}
 use Rattle.balance_rule.proofs.Extremes.{is_among, among-tables, among-filter}
@@ -42,7 +43,7 @@ next-free : (seating : Seating) (table n : ℕ) (chosen : List Place) (is : fill
 next-free seating table n chosen is =
     let last = filled-last seating table n chosen is in
     let next = next-parts seating table last.0 last.1.0 last.1.1.1 in
-    found-passes (is_free seating.players last.0 last.1.0.table) (clockwise_after seating.seat_count seating.seat_count)
+    find-passes (is_free seating.players last.0 last.1.0.table) (clockwise_after seating.seat_count seating.seat_count)
     last.1.0.seat next.1
 
 -- Each chosen seat is empty.
@@ -121,11 +122,7 @@ level-step seating table one other fewer place next took among before =
   where
     had : (before now : Bool) → now ≡ false → (before || (now || false)) ≡ true → before ≡ true
     had true now none some = refl
-    had false now none some = let same : now ≡ true = simple now some in absurd cc
-      where
-        simple : (b : Bool) → (b || false) ≡ true → b ≡ true
-        simple true is = refl
-        simple false is = is
+    had false now none some = let same : now ≡ true = sym (or-false now) ∙ some in absurd cc
 
 -- No table that got a chosen seat has, with the chosen seats, two players more than another open table.
 pub chosen-level : (seating : Seating) (table n one other : ℕ) (chosen : List Place)

@@ -1,7 +1,8 @@
 -- What is kept of the tables that a walk by number has passed, when it passes one more.
-use Rattle.std.proofs.Common.{◌≡◌, ◌∙◌, refl, ap, ℕ, zero, suc, ◌+◌, Bool, true, false, cond, List, [], ◌∷◌, ◌++◌, map, add-one, arith, append-nil}
+use Rattle.std.proofs.Common.{◌≡◌, ◌∙◌, ap, ℕ, zero, suc, ◌+◌, Bool, true, false, cond, List, [], ◌∷◌, ◌++◌, map, add-one, arith, append-nil}
 use Rattle.std.specs.Prelude.{filter, fold, sum}
-use Rattle.std.proofs.lemmas.List.Sums.{sum_by-cons}
+use Rattle.std.proofs.lemmas.List.Elements.{filter-append}
+use Rattle.std.proofs.lemmas.List.Sums.{fold-append, sum_by-cons}
 use Rattle.rulebook.specs.Seats.{walk}
 
 -- A walk by number with one more step ends with the next number.
@@ -10,17 +11,6 @@ walk-ends zero from = ap (λ (n : ℕ). suc n ∷ []) (omega arith)
 walk-ends (suc steps) from = ap (λ rest. suc from ∷ rest) (walk-ends steps (suc from)
     ∙ ap (λ (n : ℕ). walk suc steps (suc from) ++ suc n ∷ []) (omega arith))
 
-filter-ends : (test : ℕ → Bool) (xs : List ℕ) (x : ℕ)
-    → filter test (xs ++ x ∷ []) ≡ filter test xs ++ cond (test x) (x ∷ []) []
-filter-ends test [] x = refl
-filter-ends test (y ∷ xs) x = by_test (test y) (filter-ends test xs x)
-  where
-    by_test : (b : Bool) → filter test (xs ++ x ∷ []) ≡ filter test xs ++ cond (test x) (x ∷ []) []
-        → cond b (y ∷ filter test (xs ++ x ∷ [])) (filter test (xs ++ x ∷ []))
-        ≡ cond b (y ∷ filter test xs) (filter test xs) ++ cond (test x) (x ∷ []) []
-    by_test true rest = ap (λ more. y ∷ more) rest
-    by_test false rest = rest
-
 -- The tables that pass a test, of one more table.
 pub passed-more : (test : ℕ → Bool) (below : ℕ)
     → filter test (walk suc (below + 1) 0) ≡ filter test (walk suc below 0) ++ cond (test (below + 1))
@@ -28,7 +18,7 @@ pub passed-more : (test : ℕ → Bool) (below : ℕ)
 passed-more test below =
     ap (λ (n : ℕ). filter test (walk suc n 0)) (add-one below)
     ∙ (ap (filter test) (walk-ends below 0 ∙ ap (λ (n : ℕ). walk suc below 0 ++ n ∷ []) (omega arith))
-    ∙ filter-ends test (walk suc below 0) (below + 1))
+    ∙ filter-append test (walk suc below 0) ((below + 1) ∷ []))
 
 -- One more table that passes.
 pub passed-one : (test : ℕ → Bool) (below : ℕ) → test (below + 1) ≡ true
@@ -43,17 +33,12 @@ passed-none test below fails = passed-more test below
     ∙ (ap (λ b. filter test (walk suc below 0) ++ cond b ((below + 1) ∷ []) []) fails
     ∙ append-nil (filter test (walk suc below 0)))
 
-fold-ends : {A B : Type 0} (f : B → A → B) (start : B) (xs : List A) (x : A)
-    → fold f start (xs ++ x ∷ []) ≡ f (fold f start xs) x
-fold-ends f start [] x = refl
-fold-ends f start (y ∷ xs) x = fold-ends f (f start y) xs x
-
 -- What is folded over the tables that pass, with one more that passes.
 pub folded-one : {B : Type 0} (f : B → ℕ → B) (start : B) (test : ℕ → Bool) (below : ℕ) → test (below + 1) ≡ true
     → fold f start (filter test (walk suc (below + 1) 0)) ≡ f (fold f start (filter test (walk suc below 0)))
     (below + 1)
 folded-one f start test below passes = ap (fold f start) (passed-one test below passes)
-    ∙ fold-ends f start (filter test (walk suc below 0)) (below + 1)
+    ∙ fold-append f start (filter test (walk suc below 0)) ((below + 1) ∷ [])
 
 -- A sum over one more table in front.
 pub sum-first : (value : ℕ → ℕ) (x : ℕ) (xs : List ℕ) → sum (map value (x ∷ xs)) ≡ value x + sum (map value xs)

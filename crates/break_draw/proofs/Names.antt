@@ -4,11 +4,11 @@ use Rattle.std.specs.Prelude.{count_by}
 use Rattle.std.specs.Str.{bytes_eq}
 use Rattle.std.proofs.lemmas.List.{length-map}
 use Rattle.std.proofs.lemmas.List.Sums.{length-filter}
+use Rattle.rulebook.proofs.Tests.{count_by-cons}
 use Rattle.seat_book.specs.declared.seated.Seated.{Seated}
 use Rattle.seat_book.specs.Players.{players_in, players_at, sits_at}
 use Rattle.seat_book.specs.Counts.{count_at}
 use Rattle.seat_book.specs.Seatings.{Seating}
-use Rattle.seat_book.proofs.Passing.{count_by-cons}
 use Rattle.balance_rule.specs.Filling.{names_at}
 use Rattle.break_draw.specs.Draws.{is_named}
 

@@ -7,15 +7,12 @@ use Rattle.std.specs.List.{list_all, list_any}
 use Rattle.std.proofs.lemmas.Bool.{eq-eqb, eqb-true, or_cases, or_left, or_right, and_parts, and_from}
 use Rattle.std.proofs.lemmas.List.Sums.{sum_by-append}
 use Rattle.std.proofs.lemmas.List.Sorted.{IsPermutation-refl, IsPermutation-sym, IsPermutation-cons, IsPermutation-middle, IsPermutation-trans, length_permutation, sum_by-IsPermutation}
-use Rattle.seat_book.proofs.Passing.{count_by-cons}
+use Rattle.rulebook.proofs.Tests.{count_by-cons, list_all-always}
+use Rattle.seat_book.proofs.PlaceOrder.{same_place-itself}
 use Rattle.seat_book.specs.declared.place.Place.{Place}
 use Rattle.seat_book.specs.Seatings.{Seating}
 use Rattle.balance_rule.specs.Filling.{is_same_place, names_at}
 use Rattle.break_draw.specs.Draws.{come_as_often, is_reordered, is_draw, IsDraw}
-
-all-pass : {A : Type 0} (test : A → Bool) (xs : List A) → ((x : A) → test x ≡ true) → list_all test xs ≡ true
-all-pass test [] passes = refl
-all-pass test (x ∷ xs) passes = and_from (test x) (list_all test xs) (passes x) (all-pass test xs passes)
 
 -- a list with an item that passes a test is split there
 record Split {A : Type 0} (test : A → Bool) (xs : List A) : Type 0 where
@@ -100,7 +97,7 @@ module _ {A : Type 0} (same : A → A → Bool) (decides : (a b : A) → same a 
   pub permutes-reordered : (xs ys : List A) → IsPermutation xs ys → is_reordered same xs ys ≡ true
   permutes-reordered xs ys is = and_from (length xs == length ys) (come_as_often same xs ys)
       (eq-eqb (length xs) (length ys) (sym (length_permutation xs ys is)))
-      (all-pass (λ item. count_by (same item) xs == count_by (same item) ys) xs (λ item.
+      (list_all-always (λ item. count_by (same item) xs == count_by (same item) ys) xs (λ item.
       eq-eqb (count_by (same item) xs) (count_by (same item) ys)
       (sym (sum_by-IsPermutation (λ y. cond {A = ℕ} (same item y) 1 0) xs ys is))))
 
@@ -110,10 +107,6 @@ same_place-decides a b is =
     let table = eqb-true a.table b.table parts.0 in
     let seat = eqb-true a.seat b.seat parts.1 in
     λ i. record { table = table i; seat = seat i }
-
-same_place-itself : (a : Place) → is_same_place a a ≡ true
-same_place-itself a = and_from (a.table == a.table) (a.seat == a.seat) (eq-eqb a.table a.table refl)
-    (eq-eqb a.seat a.seat refl)
 
 -- A draw passes the test exactly where it is right.
 pub draw-exact : (seating : Seating) (table : ℕ) (fill seats : List Place) (names : List (List ℕ)) (result : Bool)

@@ -1,15 +1,15 @@
 -- The room that is left while seats are chosen, and the table with the lowest count.
-use Rattle.std.proofs.Common.{◌≡◌, ◌∙◌, refl, sym, ap, subst, ℕ, zero, suc, ◌+◌, ◌-◌, ◌<◌, ◌≤◌, ◌==◌, ◌≢◌, Bool, true, false, cond, List, [], ◌∷◌, ◌++◌, map, length, Option, None, Some, inl, inr, add-one, arith}
+use Rattle.std.proofs.Common.{◌≡◌, ◌∙◌, refl, sym, ap, subst, ℕ, zero, suc, ◌+◌, ◌-◌, ◌<◌, ◌≤◌, ◌==◌, ◌≢◌, Bool, true, false, cond, List, [], ◌∷◌, ◌++◌, map, length, Option, None, Some, inl, inr, add-one, arith, length-append}
 use Rattle.std.specs.Prelude.{filter, fold, sum, nat_lt, ◌⊎◌}
-use Rattle.std.proofs.lemmas.Bool.{cases_eq, eq-eqb, eqb-true, or_cases, or_left, or_right}
+use Rattle.std.proofs.lemmas.Bool.{cases_eq, eq-eqb, eqb-true, ltb-true, ltb-false, or_cases, or_left, or_right}
 use Rattle.std.proofs.lemmas.Bool.Decides.{nat_tests}
 use Rattle.std.proofs.lemmas.List.Sums.{sum_by-append}
 use Rattle.rulebook.specs.Seats.{walk}
+use Rattle.rulebook.proofs.Tests.{at_most_one, count_by-cons}
 use Rattle.seat_book.specs.declared.place.Place.{Place}
 use Rattle.seat_book.specs.declared.seated.Seated.{Seated}
 use Rattle.seat_book.specs.Counts.{count_at}
 use Rattle.seat_book.specs.Seatings.{Seating}
-use Rattle.seat_book.proofs.Passing.{count_by-cons}
 use Rattle.balance_rule.specs.Filling.{is_other_open, other_open_tables, empty_elsewhere, is_at, count_with, lower_of, lowest_table, next_to_fill, with_one, one_more, filled}
 use Rattle.balance_rule.proofs.Extremes.{is_among}
 use Rattle.break_draw.proofs.Growing.{sum-first}
@@ -47,12 +47,6 @@ is_lowest count before (other ∷ tables) lowest is =
     }
     step (Some table) rest = by_test (nat_lt (count other) (count table)) refl rest
       where
-        not_lower : (a b : ℕ) → nat_lt a b ≡ false → b ≤ a
-        not_lower a b is = grind (arith, nat_tests)
-
-        lower : (a b : ℕ) → nat_lt a b ≡ true → a ≤ b
-        lower a b is = grind (arith, nat_tests)
-
         by_test : (b : Bool) → nat_lt (count other) (count table) ≡ b
             → IsLowest count (Some (cond b other table)) tables lowest
             → IsLowest count (Some table) (other ∷ tables) lowest
@@ -63,7 +57,7 @@ is_lowest count before (other ∷ tables) lowest is =
             | inr later ↦ or_right (other == lowest) (is_among lowest tables) later
           ]);
           first = λ one was. let same : table ≡ one = cc in let counts = ap count same in
-              let below = rest.first other refl in let less = lower (count other) (count table) test in
+              let below = rest.first other refl in let less = ltb-true (count other) (count table) test in
               omega (arith, counts, below, less);
           least = λ one among. elim (or_cases (other == one) (is_among one tables) among) [
             | inl here ↦ subst (λ (n : ℕ). count lowest ≤ count n) (eqb-true other one here) (rest.first other refl)
@@ -80,7 +74,7 @@ is_lowest count before (other ∷ tables) lowest is =
             | inl here ↦
                 let counts = ap count (eqb-true other one here) in
                 let below = rest.first table refl in
-                let less = not_lower (count other) (count table) test in
+                let less = ltb-false (count other) (count table) test in
                 omega (arith, counts, below, less)
             | inr later ↦ rest.least one later
           ];
@@ -220,14 +214,10 @@ room-step seating table fewer place = falls-one (is_other_open seating table)
     (λ other apart. let more = count_with-more seating.players fewer place other in
     let none : cond {A = ℕ} (place.table == other) 1 0 ≡ 0 = not_here other apart in omega (arith, more, none))
     (let more = count_with-more seating.players fewer place place.table in
-    let most = at_most (place.table == place.table) in omega (arith, more, most)) seating.table_count 0
+    let most = at_most_one (place.table == place.table) in omega (arith, more, most)) seating.table_count 0
   where
     not_here : (other : ℕ) → other ≢ place.table → cond {A = ℕ} (place.table == other) 1 0 ≡ 0
     not_here other apart = grind (arith, nat_tests)
-
-    at_most : (b : Bool) → cond {A = ℕ} b 1 0 ≤ 1
-    at_most true = omega arith
-    at_most false = omega arith
 
 -- The room that is left and the seats that are chosen are together the room that there was.
 pub room-enough : (seating : Seating) (table n : ℕ) (chosen : List Place) → filled seating table n ≡ Some chosen
@@ -256,12 +246,8 @@ filled-length seating table (suc n) chosen is =
     let last = filled-last seating table n chosen is in
     let before = filled-length seating table n last.0 last.1.1.0 in
     let now = ap length last.1.1.2 in
-    let one = length-more last.0 last.1.0 in
+    let one : length (last.0 ++ last.1.0 ∷ []) ≡ length last.0 + 1 = length-append last.0 (last.1.0 ∷ []) in
     omega (arith, before, now, one)
-  where
-    length-more : (xs : List Place) (x : Place) → length (xs ++ x ∷ []) ≡ length xs + 1
-    length-more [] x = refl
-    length-more (y ∷ xs) x = let rest = length-more xs x in omega (arith, rest)
 
 -- While fewer seats are chosen than the other open tables have empty ones, one of them has the lowest count, and it has
 -- an empty seat that is not chosen.

@@ -1,15 +1,16 @@
 -- How many steps clockwise lead from one seat to another, and what the walks find by that.
 use Rattle.std.proofs.Common.{◌≡◌, ◌⊎◌, ◌∙◌, ℕ, zero, suc, ◌+◌, ◌-◌, ◌<◌, ◌≤◌, List, [], ◌∷◌, Bool, true, false, cond, length, refl, sym, ap, inl, inr, arith}
 use Rattle.std.specs.Prelude.{Some, None, ◌==◌, not, nat_lt, slice_index_or, slice_set, find, filter, take_while}
-use Rattle.std.proofs.lemmas.Bool.{cases_Bool, cases_eq}
+use Rattle.std.proofs.lemmas.Bool.{cases_Bool, cases_eq, eqb-true, eqb-false}
 use Rattle.std.proofs.lemmas.Bool.Decides.{nat_tests}
 use Rattle.std.proofs.lemmas.List.Sums.{take_while-cons, sum_by-cons}
-use Rattle.std.proofs.lemmas.List.{length-set}
 use Rattle.std.proofs.lemmas.Option.{same_Some}
 use Rattle.rulebook.specs.Seats.{seat_after, walk}
+use Rattle.rulebook.proofs.OccupiedSeats.{seat_after-within}
+use Rattle.rulebook.proofs.Tests.{at_most_one, find-passes}
 use Rattle.button_blinds.specs.SeatSets.{has_seat, with_seat, with_seats, seat_count}
 use Rattle.button_blinds.specs.Marks.{players_before}
-use Rattle.button_blinds.proofs.SeatSetLaws.{has_seat-with_seat}
+use Rattle.button_blinds.proofs.SeatSetLaws.{with_seat-size, has_seat-with_seat}
 
 -- the steps clockwise from a seat to another, and all round to itself
 abbrev pub steps_to : ℕ → ℕ → ℕ → ℕ
@@ -20,13 +21,7 @@ abbrev pub IsSeat : ℕ → ℕ → Type 0
 IsSeat seats seat = (1 ≤ seat) × (seat ≤ seats)
 
 next_is_seat : (seats from : ℕ) → IsSeat seats from → IsSeat seats (seat_after seats from)
-next_is_seat seats from at = (first seats from at.0 at.1, last seats from at.0 at.1)
-  where
-    first : (seats from : ℕ) → 1 ≤ from → from ≤ seats → 1 ≤ seat_after seats from
-    first seats from low high = grind (arith, nat_tests)
-
-    last : (seats from : ℕ) → 1 ≤ from → from ≤ seats → seat_after seats from ≤ seats
-    last seats from low high = grind (arith, nat_tests)
+next_is_seat seats from at = seat_after-within seats from (omega (arith, at.0, at.1))
 
 one_step : (seats from : ℕ) → 1 ≤ from → from ≤ seats → steps_to seats from (seat_after seats from) ≡ 1
 one_step seats from low high = grind (arith, nat_tests)
@@ -70,18 +65,10 @@ found-nearest occupied seats (suc steps) from found seat at there is first sits 
           (next_is_seat seats from at) there is later sits (omega (arith, less, within)) in
           let found_apart : found ≡ seat_after seats from
           → ⊥ = λ same. not_there (occupied found) (occupied (seat_after seats from))
-          (found-sits occupied (walk (seat_after seats) steps (seat_after seats from)) found later) empty
+          (find-passes occupied (walk (seat_after seats) steps (seat_after seats from)) found later) empty
           (ap occupied same) in
           let found_less = step_less seats from found at.0 at.1 there.0 there.1 found_apart in
           omega (arith, less, found_less, nearest)
-    ]
-  where
-    found-sits : (occupied : ℕ → Bool) (seats_in_order : List ℕ) (found : ℕ) → find occupied seats_in_order ≡ Some found
-        → occupied found ≡ true
-    found-sits occupied [] found first = cc
-    found-sits occupied (seat ∷ more) found first = elim (cases_Bool (occupied seat)) [
-      | inl here ↦ ap occupied (sym (same_Some seat found (rw here at first))) ∙ here
-      | inr empty ↦ found-sits occupied more found (rw empty at first)
     ]
 
 -- those who come before small among a seat and the seats behind it
@@ -100,12 +87,6 @@ players_before-cons occupied small seat more =
     by_test true sits = refl
     by_test false sits = refl
 
-equal_seats : (one other : ℕ) → (one == other) ≡ true → one ≡ other
-equal_seats one other is = grind (arith, nat_tests)
-
-apart_seats : (one other : ℕ) → (one == other) ≡ false → one ≡ other → ⊥
-apart_seats one other differ same = grind (arith, nat_tests)
-
 -- who waits is fewer steps away than small
 pub waits-nearer : (occupied set : List Bool) (small seats steps from seat : ℕ) → IsSeat seats from → IsSeat seats small
     → IsSeat seats seat
@@ -122,7 +103,7 @@ waits-nearer occupied set small seats (suc steps) from seat at end is waits =
       | inr other ↦
           let rest = rw other at (sym front ∙ waits) in
           let small_less = step_less seats from small at.0 at.1 end.0 end.1
-          (λ same. apart_seats next small other (sym same)) in
+          (λ same. eqb-false next small other (sym same)) in
           let small_some = some_steps seats next small (next_is_seat seats from at).0
           (next_is_seat seats from at).1 end.0 end.1 in
           elim (cases_eq seat next) [
@@ -179,10 +160,6 @@ with_seats-keeps set [] other there = there
 with_seats-keeps set (seat ∷ seats) other there =
     with_seats-keeps (with_seat set seat) seats other (with_seat-keeps set seat other there)
 
-with_seat-size : (set : List Bool) (seat : ℕ) → length (with_seat set seat) ≡ length set
-with_seat-size set zero = refl
-with_seat-size set (suc at) = length-set set at true
-
 -- a player who is fewer steps away than small waits
 pub nearer-waits : (occupied set : List Bool) (small seats steps from seat : ℕ) → IsSeat seats from → IsSeat seats small
     → IsSeat seats seat → seats ≤ length set
@@ -201,11 +178,11 @@ nearer-waits occupied set small seats (suc steps) from seat at end is room sits 
     elim (cases_Bool (next == small)) [
       | inl here ↦
           let end_one : steps_to seats from small ≡ 1 =
-          ap (λ (s : ℕ). steps_to seats from s) (sym (equal_seats next small here)) ∙ one in
+          ap (λ (s : ℕ). steps_to seats from s) (sym (eqb-true next small here)) ∙ one in
           absurd (omega (arith, end_one, some, nearer))
       | inr other ↦
           let small_less = step_less seats from small at.0 at.1 end.0 end.1
-          (λ same. apart_seats next small other (sym same)) in
+          (λ same. eqb-false next small other (sym same)) in
           elim (cases_eq seat next) [
             | inl same ↦
                 let sits_next : has_seat occupied next ≡ true = ap (has_seat occupied) (sym same) ∙ sits in
@@ -236,10 +213,6 @@ nearer-waits occupied set small seats (suc steps) from seat at end is room sits 
 head_le : (a b : Bool) → (a ≡ true → b ≡ true) → cond a 1 0 ≤ cond b 1 0
 head_le true b there = rw (there refl) (omega arith)
 head_le false b there = omega arith
-
-at_most_one : (a : Bool) → cond a 1 0 ≤ 1
-at_most_one true = omega arith
-at_most_one false = omega arith
 
 -- a set whose seats another set has is no larger
 pub dominated : (one other : List Bool)

@@ -1,7 +1,13 @@
 -- Who is in a set after a seat is put in or taken out.
-use Rattle.std.proofs.Common.{◌≡◌, ◌⊎◌, ℕ, zero, suc, ◌-◌, ◌≤◌, List, [], ◌∷◌, Bool, true, false, refl, ap, inl, inr, arith}
+use Rattle.std.proofs.Common.{◌≡◌, ◌⊎◌, ℕ, zero, suc, ◌-◌, ◌≤◌, List, [], ◌∷◌, Bool, true, false, length, refl, ap, inl, inr, arith}
 use Rattle.std.specs.Prelude.{IsTrue, slice_index_or, slice_set, replicate}
+use Rattle.std.proofs.lemmas.List.{length-set}
 use Rattle.button_blinds.specs.SeatSets.{no_seats, has_seat, with_seat, without_seat, seat_count, AreSeatsOf}
+
+-- With one more seat a set has as many tests as before.
+pub with_seat-size : (set : List Bool) (seat : ℕ) → length (with_seat set seat) ≡ length set
+with_seat-size set zero = refl
+with_seat-size set (suc at) = length-set set at true
 
 -- A test that is true after one is made true was true, or is that one.
 true-set_true : (set : List Bool) (at k : ℕ) → slice_index_or (slice_set set at true) k false ≡ true

@@ -1,7 +1,7 @@
 -- What values of all choices come to, where their order does not count, as their greatest or their least.
-use Rattle.std.proofs.Common.{◌≡◌, ℕ, zero, suc, List, [], ◌∷◌, ◌++◌, refl, sym, ap, ap₂, ◌∙◌, append_assoc}
+use Rattle.std.proofs.Common.{◌≡◌, ℕ, zero, suc, Bool, true, false, ◌&&◌, List, [], ◌∷◌, ◌++◌, refl, sym, ap, ap₂, ◌∙◌, append_assoc}
 use Rattle.std.specs.Prelude.{map}
-use Rattle.std.specs.List.{flat_map}
+use Rattle.std.specs.List.{flat_map, list_all}
 use Rattle.card_set.specs.declared.card.Card.{Card}
 use Rattle.card_choices.specs.Changes.{AreRenamed}
 use Rattle.card_choices.specs.Choices.{choices}
@@ -59,6 +59,17 @@ turned op none is a b c = sym (is.assoc a b c) ∙ ap (λ v. op v c) (is.comm a 
 abbrev pub AllowsExchange : {A V : Type 0} → (List A → V) → Type 0
 AllowsExchange {A} value = (front : List A) (a b : A) (back : List A)
     → value (front ++ a ∷ b ∷ back) ≡ value (front ++ b ∷ a ∷ back)
+
+and-turned : (x y z : Bool) → (x && (y && z)) ≡ (y && (x && z))
+and-turned true true z = refl
+and-turned true false z = refl
+and-turned false true z = refl
+and-turned false false z = refl
+
+-- whether all things pass a test is such a value
+pub list_all-exchange : {A : Type 0} (test : A → Bool) → AllowsExchange (list_all test)
+list_all-exchange test [] a b back = and-turned (test a) (test b) (list_all test back)
+list_all-exchange test (x ∷ front) a b back = ap (λ y. test x && y) (list_all-exchange test front a b back)
 
 exchange-first : {A V : Type 0} (op : V → V → V) (none : V) → IsCombining op none → (value : List A → V)
     → AllowsExchange value → (n : ℕ) (a b : A) (back : List A)

@@ -1,5 +1,6 @@
 -- Lists of numbers in order: the first number that differs decides, and else the shorter list comes first.
 use Rattle.std.proofs.Common.{◌≡◌, ℕ, ◌<◌, ◌⊎◌, inl, inr, true, false, eqb, ltb, List, [], ◌∷◌, refl, sym, ap₂, ◌∙◌, subst, arith}
+use Rattle.std.proofs.lemmas.Bool.{cases_order}
 use Rattle.std.proofs.lemmas.Bool.Decides.{nat_tests}
 use Rattle.std.specs.Ordering.{nat_cmp, ord_max, ord_min, is_lt}
 use Rattle.std.specs.Cmp.Lexicographic.{slice_cmp}
@@ -34,29 +35,17 @@ upto_both (x ∷ xs) (y ∷ ys) (inl less) (inr same) = let e = same.0 in absurd
 upto_both (x ∷ xs) (y ∷ ys) (inr same) (inl more) = let e = same.0 in absurd (omega arith)
 upto_both (x ∷ xs) (y ∷ ys) (inr same) (inr also) = ap₂ (λ z zs. z ∷ zs) same.0 (upto_both xs ys same.1 also.1)
 
--- the order of two numbers
-which : (x y : ℕ) → (x < y) ⊎ ((x ≡ y) ⊎ (y < x))
-which x y =
-    elim (ltb x y) as (λ b. ltb x y ≡ b → (x < y) ⊎ ((x ≡ y) ⊎ (y < x))) [
-      | true ↦ λ less. inl (grind (arith, nat_tests))
-      | false ↦ λ not_less. elim (eqb x y) as (λ b. eqb x y ≡ b → (x < y) ⊎ ((x ≡ y) ⊎ (y < x))) [
-        | true ↦ λ same. inr (inl (grind (arith, nat_tests)))
-        | false ↦ λ other. inr (inr (grind (arith, nat_tests)))
-      ] refl
-    ] refl
-
 pub upto_either : (xs ys : List ℕ) → Upto xs ys ⊎ Upto ys xs
 upto_either [] ys = inl tt
 upto_either (x ∷ xs) [] = inr tt
 upto_either (x ∷ xs) (y ∷ ys) =
-    elim (which x y) [
-      | inl less ↦ inl (inl less)
-      | inr rest ↦ elim rest [
-        | inl same ↦ elim (upto_either xs ys) [
-          | inl one ↦ inl (inr (same, one))
-          | inr other ↦ inr
-              (inr (sym same, other))
-        ]
+    elim (cases_order x y) [
+      | inl same ↦ elim (upto_either xs ys) [
+        | inl one ↦ inl (inr (same, one))
+        | inr other ↦ inr (inr (sym same, other))
+      ]
+      | inr apart ↦ elim apart [
+        | inl less ↦ inl (inl less)
         | inr more ↦ inr (inl more)
       ]
     ]

@@ -1,7 +1,8 @@
 -- Cards by their ranks and suits. This project's own.
 use mathlib.Core.HLevel.{is_prop→PathP}
-use Rattle.std.proofs.Common.{◌≡◌, ◌≢◌, ℕ, ◌<◌, ◌≤◌, List, length, Bool, true, false, ◌==◌, ◌&&◌, arith, refl, ap}
+use Rattle.std.proofs.Common.{◌≡◌, ◌≢◌, ℕ, ◌<◌, ◌≤◌, List, length, true, false, ◌==◌, ◌&&◌, arith, ap}
 use Rattle.std.proofs.Props.{props}
+use Rattle.std.proofs.lemmas.Bool.{false_from_ne_true}
 use Rattle.std.proofs.lemmas.Bool.Decides.{nat_tests}
 use Rattle.card_set.specs.declared.card.Card.{Card}
 use Rattle.card_set.specs.declared.card.CardRow.{CardRow}
@@ -39,16 +40,6 @@ same_numbers a b c d test = grind (arith, nat_tests)
 passes_same : (a b c d : ℕ) → a ≡ b → c ≡ d → ((a == b) && (c == d)) ≡ true
 passes_same a b c d ranks suits = grind (arith, nat_tests)
 
--- a test that cannot pass fails
-pub test_fails : (test : Bool) → (test ≡ true → ⊥) → test ≡ false
-test_fails true never = absurd (never refl)
-test_fails false never = refl
-
--- a test that cannot fail passes
-pub test_passes : (test : Bool) → (test ≡ false → ⊥) → test ≡ true
-test_passes true never = refl
-test_passes false never = absurd (never refl)
-
 pub same-from_is_same_card : (one other : Card) → is_same_card one other ≡ true → one ≡ other
 same-from_is_same_card one other test =
     let both : (one.rank ≡ other.rank) × (one.suit ≡ other.suit) =
@@ -64,4 +55,4 @@ differ-from_is_same_card one other test = λ same.
 
 pub is_same_card-from_differ : (one other : Card) → one ≢ other → is_same_card one other ≡ false
 is_same_card-from_differ one other differ =
-    test_fails (is_same_card one other) (λ passed. differ (same-from_is_same_card one other passed))
+    false_from_ne_true (is_same_card one other) (λ passed. differ (same-from_is_same_card one other passed))

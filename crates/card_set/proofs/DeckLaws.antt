@@ -1,5 +1,6 @@
 -- Which rows are decks. This project's own.
-use Rattle.std.proofs.Common.{◌≡◌, ◌≢◌, ℕ, suc, zero, ◌+◌, ◌/◌, ◌%◌, ◌<◌, Bool, true, false, ◌||◌, List, [], ◌∷◌, length, take, arith, refl, ap, length-take-le, ◌∙◌, sym}
+use Rattle.std.proofs.Common.{◌≡◌, ◌≢◌, ℕ, suc, zero, ◌+◌, ◌/◌, ◌%◌, ◌<◌, true, false, List, [], ◌∷◌, length, take, arith, refl, ap, length-take-le, ◌∙◌, sym}
+use Rattle.std.proofs.lemmas.Bool.{or_from, or_parts, false_from_ne_true, true_from_ne_false}
 use Rattle.std.proofs.lemmas.List.{take_more, get_or-take}
 use Rattle.std.proofs.lemmas.List.Quantifiers.{all_pairs_push}
 use Rattle.std.proofs.lemmas.List.Folds.{list_any_none, list_any_at}
@@ -7,7 +8,7 @@ use Rattle.std.proofs.lemmas.List.Kept.{AllPairs-cons}
 use Rattle.std.specs.List.{All, AllPairs, HoldsAt, AllWithin, slice_index_or, list_any}
 use Rattle.card_set.specs.declared.card.Card.{Card}
 use Rattle.card_set.specs.Decks.{IsDeck, IsInOrder, is_same_card, repeats_a_card}
-use Rattle.card_set.proofs.CardLaws.{test_fails, test_passes, same-from_is_same_card, differ-from_is_same_card, is_same_card-from_differ}
+use Rattle.card_set.proofs.CardLaws.{same-from_is_same_card, differ-from_is_same_card, is_same_card-from_differ}
 
 -- in a deck in order no card comes twice, since no two indices have the same quotient and the same rest
 pub in_order_is_deck : (cards : List Card) → length cards ≡ 52 → IsInOrder cards → IsDeck cards
@@ -47,23 +48,12 @@ comes_twice cards index d within k below test deck =
     same-from_is_same_card _ _ (test d) in
     deck.distinct k index d before within (sym (get_or-take index cards k d before) ∙ same)
 
-neither_passes : (first second : Bool) → first ≡ false → second ≡ false → (first || second) ≡ false
-neither_passes first second first_fails second_fails = rw (first_fails, second_fails) refl
-
-first_fails : (first second : Bool) → (first || second) ≡ false → first ≡ false
-first_fails true second none = none
-first_fails false second none = refl
-
-second_fails : (first second : Bool) → (first || second) ≡ false → second ≡ false
-second_fails true second none = absurd (cc)
-second_fails false second none = none
-
 -- where each card differs from each later one, none comes twice
 pub repeats_none-from_AllPairs : (cards : List Card) → AllPairs (λ one other. one ≢ other) cards
     → repeats_a_card cards ≡ false
 repeats_none-from_AllPairs [] distinct = refl
 repeats_none-from_AllPairs (card ∷ cards) distinct =
-    neither_passes (list_any (is_same_card card) cards) (repeats_a_card cards)
+    or_from (list_any (is_same_card card) cards) (repeats_a_card cards)
     (list_any_none (is_same_card card) cards
     (λ k d within. is_same_card-from_differ card (slice_index_or cards k d)
     (distinct zero (suc k) d (omega arith) (omega arith))))
@@ -74,7 +64,7 @@ differs_from_each : (card : Card) (cards : List Card) → list_any (is_same_card
     → All (λ other. card ≢ other) cards
 differs_from_each card cards none = λ k d within.
     differ-from_is_same_card card (slice_index_or cards k d)
-    (test_fails (is_same_card card (slice_index_or cards k d))
+    (false_from_ne_true (is_same_card card (slice_index_or cards k d))
     (λ passed. cc (none, list_any_at (is_same_card card) cards k d within passed)))
 
 -- where no card comes twice, each differs from each later one
@@ -82,12 +72,12 @@ pub AllPairs-from_repeats_none : (cards : List Card) → repeats_a_card cards �
     → AllPairs (λ one other. one ≢ other) cards
 AllPairs-from_repeats_none [] none = λ i j d before within. absurd (omega arith)
 AllPairs-from_repeats_none (card ∷ cards) none =
-    AllPairs-cons (λ one other. one ≢ other) card cards
-    (differs_from_each card cards (first_fails (list_any (is_same_card card) cards) (repeats_a_card cards) none))
-    (AllPairs-from_repeats_none cards (second_fails (list_any (is_same_card card) cards) (repeats_a_card cards) none))
+    let parts = or_parts (list_any (is_same_card card) cards) (repeats_a_card cards) none in
+    AllPairs-cons (λ one other. one ≢ other) card cards (differs_from_each card cards parts.0)
+    (AllPairs-from_repeats_none cards parts.1)
 
 -- 52 cards that are no deck repeat a card
 pub repeats-unless_deck : (cards : List Card) → length cards ≡ 52 → (IsDeck cards → ⊥) → repeats_a_card cards ≡ true
 repeats-unless_deck cards size never =
-    test_passes (repeats_a_card cards)
+    true_from_ne_false (repeats_a_card cards)
     (λ none. never (record { whole = size; distinct = AllPairs-from_repeats_none cards none }))

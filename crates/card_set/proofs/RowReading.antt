@@ -11,7 +11,8 @@ use Rattle.card_set.specs.declared.card.Card.{Card}
 use Rattle.card_set.specs.declared.card.CardRow.{CardRow}
 use Rattle.card_set.specs.Cards.{rank_letters, rank_letter, suit_letter, card_text, cards_text, row_text, rank_of, suit_of, card_by, card_at, card_of, cards_of, so_many, so_many_of, row_by, row_at, row_of}
 use Rattle.card_set.proofs.CardLaws.{same_card, same_row}
-use Rattle.card_set.proofs.LetterTables.{all_below, holds_below}
+use Rattle.card_set.proofs.Computed.{all_below, holds_below}
+use Rattle.card_set.proofs.Steps.{bind_found, map_found}
 
 -- what reads exactly the things that satisfy a property reads the same as another that does
 reads_same : {A : Type 0} (P : A → Type 0) (one other : Option A) → IfSome one P → ((x : A) → P x → one ≡ Some x)
@@ -19,16 +20,6 @@ reads_same : {A : Type 0} (P : A → Type 0) (one other : Option A) → IfSome o
 reads_same P (Some x) other found only other_found other_only = sym (other_only x found)
 reads_same P None None found only other_found other_only = refl
 reads_same P None (Some x) found only other_found other_only = only x (other_found x refl)
-
-bind_found : {A B : Type 0} (o : Option A) (f : A → Option B) (y : B) → option_and_then f o ≡ Some y
-    → (x : A) × (o ≡ Some x) × (f x ≡ Some y)
-bind_found None f y h = absurd cc
-bind_found (Some x) f y h = (x, refl, h)
-
-map_found : {A B : Type 0} (f : A → B) (o : Option A) (y : B) → option_map f o ≡ Some y
-    → (x : A) × (o ≡ Some x) × (f x ≡ y)
-map_found f None y h = absurd cc
-map_found f (Some x) y h = (x, refl, same_Some (f x) y h)
 
 -- a letter that was looked up stands at the index that was found
 index_found : (letters : List ℕ) (letter index : ℕ) → position (λ known. known == letter) letters ≡ Some index

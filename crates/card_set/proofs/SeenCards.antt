@@ -1,13 +1,13 @@
 -- A table of the cards that were seen.
-use Rattle.std.proofs.Common.{◌≡◌, ◌≢◌, ◌∙◌, refl, sym, ap, ℕ, ◌+◌, ◌-◌, ◌*◌, ◌<◌, ◌≤◌, Bool, true, false, ◌==◌, ◌&&◌, ◌||◌, List, [], length, take, replicate, set, inl, inr, arith, get_or-set_same, get_or-set_other}
+use Rattle.std.proofs.Common.{◌≡◌, ◌≢◌, ◌∙◌, sym, ap, ℕ, ◌+◌, ◌-◌, ◌*◌, ◌<◌, ◌≤◌, Bool, true, false, ◌==◌, ◌&&◌, ◌||◌, List, [], length, take, replicate, set, inl, inr, arith, get_or-set_same, get_or-set_other}
 use Rattle.std.specs.List.{list_any, HoldsAt, AllWithin, slice_index_or}
-use Rattle.std.proofs.lemmas.Bool.{cases_eq, eq-eqb, ne_eqb, or_right}
+use Rattle.std.proofs.Math.Bool.{or-false}
+use Rattle.std.proofs.lemmas.Bool.{cases_eq, eq-eqb, false_from_ne_true, ne_eqb, or_right}
 use Rattle.std.proofs.lemmas.Bool.Decides.{nat_tests}
 use Rattle.std.proofs.lemmas.List.{get_or_read, get_or-replicate}
 use Rattle.std.proofs.lemmas.List.Folds.{list_any_more, list_any_at, Any-from_list_any}
 use Rattle.card_set.specs.declared.card.Card.{Card}
 use Rattle.card_set.specs.Decks.{is_same_card, index_of}
-use Rattle.card_set.proofs.CardLaws.{test_fails}
 
 -- the table says of each index whether the card of that index is among these
 abbrev pub IsSeen : List Bool → List Card → Type 0
@@ -41,7 +41,7 @@ seen-more seen cards next card size within is was = λ index less. elim (cases_e
       get_or-set_other seen (index_of card) index true false differ
       ∙ (was index less ∙ sym (more index ∙ (ap (λ (b : Bool). list_any (λ card. index_of card == index)
       (take next cards) || b) (ne_eqb (index_of card) index apart)
-      ∙ or_none (list_any (λ card. index_of card == index) (take next cards)))))
+      ∙ or-false (list_any (λ card. index_of card == index) (take next cards)))))
 ]
   where
     more : (index : ℕ) → list_any (λ card. index_of card == index)
@@ -50,10 +50,6 @@ seen-more seen cards next card size within is was = λ index less. elim (cases_e
     more index = list_any_more (λ card. index_of card == index) cards next card within
         ∙ ap (λ (other : Card). list_any (λ card. index_of card == index) (take next cards) ||
         (index_of other == index)) (sym is)
-
-    or_none : (b : Bool) → (b || false) ≡ b
-    or_none true = refl
-    or_none false = refl
 
 -- a card that is in the table is among the cards
 pub seen-found : (seen : List Bool) (cards : List Card) (card : Card) → index_of card < 52 → IsSeen seen cards
@@ -74,7 +70,7 @@ pub seen-new : (seen : List Bool) (cards : List Card) (card : Card) → index_of
     → AllWithin (λ one. is_same_card one card ≡ false) cards 0 (length cards)
 seen-new seen cards card small was is = λ k d low within.
     let none : list_any (λ one. index_of one == index_of card) cards ≡ false = sym (was (index_of card) small) ∙ is in
-    test_fails (is_same_card (slice_index_or cards k d) card)
+    false_from_ne_true (is_same_card (slice_index_or cards k d) card)
     (λ passed. cc (
       none,
       list_any_at (λ one. index_of one == index_of card) cards k d within

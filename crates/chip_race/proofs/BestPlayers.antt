@@ -1,8 +1,9 @@
 -- Who wins a chip: the first players in the order of all single cards are those with the best cards.
-use Rattle.std.proofs.Common.{◌≡◌, ◌≢◌, ◌∙◌, refl, ap, sym, ℕ, zero, suc, ◌+◌, ◌<◌, ◌≤◌, true, false, List, [], ◌∷◌, ◌++◌, length, take, drop, get_or, arith}
-use Rattle.std.specs.Prelude.{◌&&◌, nat_lt, map, filter, sum_by, count_by, Option, Some, None}
+use Rattle.std.proofs.Common.{◌≡◌, ◌≢◌, ◌∙◌, refl, ap, sym, ℕ, zero, suc, ◌+◌, ◌<◌, ◌≤◌, true, false, List, [], ◌∷◌, ◌++◌, length, take, drop, get_or, zero-add, arith}
+use Rattle.std.specs.Prelude.{◌&&◌, nat_lt, map, sum_by, count_by, Option, Some, None}
+use Rattle.std.proofs.lemmas.Bool.{lt-ltb}
 use Rattle.std.proofs.lemmas.Bool.Decides.{nat_tests}
-use Rattle.std.proofs.lemmas.List.{get_or-take, length-take}
+use Rattle.std.proofs.lemmas.List.{get_or-take, length-map, length-take, map-append}
 use Rattle.std.proofs.Math.Seq.{take-add}
 use Rattle.std.proofs.lemmas.List.Sums.{sum_by-cons}
 use Rattle.card_set.specs.declared.card.Card.{Card}
@@ -11,7 +12,7 @@ use Rattle.chip_race.specs.Races.{odd_chips, SingleCard, cards_for, single_cards
 use Rattle.chip_race.specs.BestCards.{best_cards, is_ahead, is_among_first}
 use Rattle.chip_race.proofs.Scores.{strength, score, card_score, same_strength, strength-some, is_higher-strength, score-ordered, score-best_cards}
 use Rattle.chip_race.proofs.Counts.{count_from, count_from-same, count_by-count_from}
-use Rattle.chip_race.proofs.Order.{Apart, AllApart, Seated, Seated-ordered, Falling-ordered, comes_before, comes_before-score, among-first}
+use Rattle.chip_race.proofs.Order.{Apart, AllApart, Seated, Seated-ordered, Falling-ordered, comes_before, comes_before-score, filter-all, among-first}
 
 -- The cards that are dealt are the first cards of the deck.
 map-cards_for : (index : ℕ) (cards : List Card) → map (λ (single : SingleCard). single.card) (cards_for index cards)
@@ -19,18 +20,13 @@ map-cards_for : (index : ℕ) (cards : List Card) → map (λ (single : SingleCa
 map-cards_for index [] = refl
 map-cards_for index (card ∷ cards) = ap (λ rest. card ∷ rest) (map-cards_for index cards)
 
-map-append : (front behind : List SingleCard) → map (λ (single : SingleCard). single.card) (front ++ behind)
-    ≡ map (λ (single : SingleCard). single.card) front ++ map (λ (single : SingleCard). single.card) behind
-map-append [] behind = refl
-map-append (single ∷ front) behind = ap (λ rest. single.card ∷ rest) (map-append front behind)
-
 map-single_cards : (old new index : ℕ) (stacks : List ℕ) (cards : List Card)
     → map (λ (single : SingleCard). single.card) (single_cards old new index stacks cards)
     ≡ take (sum_by (odd_chips old new) stacks) cards
 unfolding single_cards
 map-single_cards old new index [] cards = refl
 map-single_cards old new index (stack ∷ stacks) cards =
-    map-append (cards_for index (take (odd_chips old new stack) cards))
+    map-append (λ (single : SingleCard). single.card) (cards_for index (take (odd_chips old new stack) cards))
     (single_cards old new (suc index) stacks (drop (odd_chips old new stack) cards))
     ∙ rw (
       map-cards_for index (take (odd_chips old new stack) cards),
@@ -60,10 +56,6 @@ AllApart-from (single ∷ singles) differ = (
   AllApart-from singles (λ i j d before within. differ (suc i) (suc j) d (omega arith) (omega arith)),
 )
 
-length-map : (singles : List SingleCard) → length (map (λ (single : SingleCard). single.card) singles) ≡ length singles
-length-map [] = refl
-length-map (single ∷ singles) = ap suc (length-map singles)
-
 -- No two single cards of a race have the same strength.
 AllApart-single_cards : (old new index : ℕ) (stacks : List ℕ) (cards : List Card) → IsDeck cards
     → AllApart (single_cards old new index stacks cards)
@@ -72,7 +64,7 @@ AllApart-single_cards old new index stacks cards deck =
     let dealt = map-single_cards old new index stacks cards in
     let size : length (take (sum_by (odd_chips old new) stacks) cards)
     ≡ length (single_cards old new index stacks cards) = ap length (sym dealt)
-    ∙ length-map (single_cards old new index stacks cards) in
+    ∙ length-map (single_cards old new index stacks cards) (λ (single : SingleCard). single.card) in
     let bound = within_take (sum_by (odd_chips old new) stacks) cards j (omega arith) in
     deck.distinct i j d before (omega (arith, bound.1))
     (sym (get_or-take (sum_by (odd_chips old new) stacks) cards i d (omega (arith, bound.0)))
@@ -102,10 +94,6 @@ Seated-single_cards old new index (stack ∷ stacks) cards seats =
     (Seated-cards_for index (take (odd_chips old new stack) cards) (omega arith))
     (Seated-single_cards old new (suc index) stacks (drop (odd_chips old new stack) cards) (omega arith))
 
-filter-all : (items : List ℕ) → filter (λ item. true) items ≡ items
-filter-all [] = refl
-filter-all (item ∷ items) = ap (λ rest. item ∷ rest) (filter-all items)
-
 -- A player wins a chip where he has a card and fewer players than there are chips have a stronger one.
 pub winners-score : (old new chips : ℕ) (stacks : List ℕ) (cards : List Card) (player : ℕ) → length stacks ≡ 10
     → IsDeck cards
@@ -131,9 +119,6 @@ winners-score old new chips stacks cards player seats deck =
     (score-ordered singles player)
     ∙ ap (λ n. nat_lt 0 (score singles player) && nat_lt n chips) counts
 
-from-zero : (k : ℕ) → k ≡ 0 + k
-from-zero k = omega arith
-
 is_ahead-score : (other : Option Card) (mine : Card) → is_ahead other mine ≡ nat_lt (strength mine) (card_score other)
 is_ahead-score None mine = none (strength mine)
   where
@@ -154,17 +139,14 @@ among_by_score : (best : List (Option Card)) (scores : ℕ → ℕ) (chips : ℕ
     ≡ (nat_lt 0 mine && nat_lt (count_from 0 10 (λ other. nat_lt mine (scores other))) chips)
 among_by_score best scores chips None mine seats are is = rw is refl
 among_by_score best scores chips (Some card) mine seats are is =
-    let some : nat_lt 0 (strength card) ≡ true = positive (strength card) (strength-some card) in
+    let some : nat_lt 0 (strength card) ≡ true = lt-ltb 0 (strength card) (strength-some card) in
     let counts : count_by (λ other. is_ahead other card) best
     ≡ count_from 0 10 (λ other. nat_lt (strength card) (scores other)) =
     count_by-count_from (λ other. is_ahead other card) best 0 (λ other. nat_lt (strength card) (scores other)) None
     (λ k within. is_ahead-score (get_or best k None) card ∙ ap (λ n. nat_lt (strength card) n)
-    (sym (are k (omega arith))) ∙ ap (λ n. nat_lt (strength card) (scores n)) (from-zero k))
+    (sym (are k (omega arith))) ∙ ap (λ n. nat_lt (strength card) (scores n)) (sym (zero-add k)))
     ∙ ap (λ n. count_from 0 n (λ other. nat_lt (strength card) (scores other))) seats in
     rw (is, some, counts) refl
-  where
-    positive : (n : ℕ) → 1 ≤ n → nat_lt 0 n ≡ true
-    positive n le = grind (arith, nat_tests)
 
 -- The players who are among the first by their best cards are those who win a chip.
 pub winners-best_cards : (old new chips : ℕ) (stacks : List ℕ) (cards : List Card) (player : ℕ) → length stacks ≡ 10
@@ -180,7 +162,7 @@ winners-best_cards old new chips stacks cards player seats deck within =
   where
     best_at : (k : ℕ) → k < length stacks → score (single_cards old new 0 stacks cards) k
         ≡ card_score (get_or (best_cards old new stacks cards) k None)
-    best_at k below = ap (score (single_cards old new 0 stacks cards)) (from-zero k)
+    best_at k below = ap (score (single_cards old new 0 stacks cards)) (sym (zero-add k))
         ∙ score-best_cards old new 0 stacks cards k below
 
 no-chips : (old new stack : ℕ) → 1 ≤ old → 1 ≤ new → stack ≡ 0 → odd_chips old new stack ≡ 0

@@ -1,11 +1,11 @@
 -- How many chips are won.
-use Rattle.std.proofs.Common.{◌≡◌, ◌≢◌, ◌∙◌, refl, ap, sym, ◌⊎◌, inl, inr, ℕ, zero, suc, ◌+◌, ◌-◌, ◌*◌, ◌/◌, ◌%◌, ◌<◌, ◌≤◌, min, max, Bool, true, false, List, [], ◌∷◌, length, take, drop, arith}
+use Rattle.std.proofs.Common.{◌≡◌, ◌∙◌, refl, ap, sym, inl, inr, ℕ, zero, suc, ◌+◌, ◌-◌, ◌*◌, ◌/◌, ◌%◌, ◌<◌, ◌≤◌, min, max, Bool, true, false, List, [], ◌∷◌, length, take, drop, arith}
 use Rattle.std.specs.Prelude.{◌==◌, ◌&&◌, not, if◌then◌else◌, nat_lt, filter, count_by}
-use Rattle.std.proofs.lemmas.Bool.{cases_Bool, and_parts, eqb-true}
-use Rattle.std.proofs.lemmas.Bool.Decides.{nat_tests}
+use Rattle.std.proofs.lemmas.Bool.{cases_Bool, and_parts, eq-eqb, eqb-true, ne_eqb}
 use Rattle.std.proofs.lemmas.List.{length-take, length-drop}
 use Rattle.std.proofs.lemmas.List.Sums.{sum_by-cons, sum_by-take-le}
-use Rattle.std.proofs.Math.Nat.{div-add-mod, mod-lt, dvd-mod_iff, div-le_of_le-mul, mul-le-mul_right}
+use Rattle.std.proofs.Math.Bool.{and-false}
+use Rattle.std.proofs.Math.Nat.{div-add-mod, eq-zero-or-pos, sub-le, zero-max, mod-lt, dvd-mod_iff, div-le_of_le-mul, mul-le-mul_right}
 use Rattle.std.proofs.lemmas.Nat.Gcd.{dvd_of_mod-eq-zero, mod-eq-zero_of_dvd}
 use Rattle.card_set.specs.declared.card.Card.{Card}
 use Rattle.chip_race.specs.Races.{odd_value, odd_chips, SingleCard, cards_for, single_cards, ordered, players_in_order, removed_value, awarded_chips, winners, are_whole}
@@ -14,32 +14,17 @@ use Rattle.chip_race.proofs.Best.{odd_chips-le}
 use Rattle.chip_race.proofs.BestPlayers.{Seated-single_cards}
 use Rattle.chip_race.proofs.Scores.{score, strength, strength-some, score-ordered, score-append, score-cards_for, score-cards_for_other, card_score}
 use Rattle.chip_race.proofs.Counts.{count_from, count_from-same, count_from-more, count_from-none}
-use Rattle.chip_race.proofs.Order.{filter-filter, Seated, Seated-ordered}
+use Rattle.chip_race.proofs.Order.{filter-all, filter-filter, max-some, Seated, Seated-ordered}
 
 left-out : (kept is_out : Bool) (top rest : ℕ) → (is_out ≡ true → kept ≡ false)
     → ((not is_out && kept) && nat_lt 0 rest) ≡ (kept && nat_lt 0 (max (if is_out then top else 0) rest))
 left-out kept true top rest out = rw (out refl) refl
-left-out true false top rest out = ap (nat_lt 0) (sym (max-zero rest))
-  where
-    max-zero : (n : ℕ) → max 0 n ≡ n
-    max-zero n = omega arith
+left-out true false top rest out = ap (nat_lt 0) (sym (zero-max rest))
 left-out false false top rest out = refl
 
 kept-on : (kept : Bool) (rest : ℕ) → (kept && nat_lt 0 (max 0 rest)) ≡ ((true && kept) && nat_lt 0 rest)
-kept-on true rest = ap (nat_lt 0) (max-zero rest)
-  where
-    max-zero : (n : ℕ) → max 0 n ≡ n
-    max-zero n = omega arith
+kept-on true rest = ap (nat_lt 0) (zero-max rest)
 kept-on false rest = refl
-
-some-first : (top rest : ℕ) → 1 ≤ top → nat_lt 0 (max top rest) ≡ true
-some-first top rest some = grind (arith, nat_tests)
-
-same-self : (n : ℕ) → (n == n) ≡ true
-same-self n = grind (arith, nat_tests)
-
-differ-test : (a b : ℕ) → a ≢ b → (a == b) ≡ false
-differ-test a b apart = grind (arith, nat_tests)
 
 -- Of the players who are kept, as many are in the order as have a card.
 count-players : (singles : List SingleCard) (keep : ℕ → Bool) → Seated singles
@@ -47,11 +32,7 @@ count-players : (singles : List SingleCard) (keep : ℕ → Bool) → Seated sin
     ≡ count_from 0 10 (λ player. keep player && nat_lt 0 (score singles player))
 unfolding players_in_order
 count-players [] keep seated =
-    sym (count_from-none 0 10 (λ player. keep player && nat_lt 0 0) (λ player. nothing (keep player)))
-  where
-    nothing : (kept : Bool) → (kept && nat_lt 0 0) ≡ false
-    nothing true = refl
-    nothing false = refl
+    sym (count_from-none 0 10 (λ player. keep player && nat_lt 0 0) (λ player. and-false (keep player)))
 count-players (single ∷ singles) keep seated =
     elim (cases_Bool (keep single.index)) [
       | inl kept ↦ rw kept (ap suc
@@ -77,11 +58,11 @@ count-players (single ∷ singles) keep seated =
         (λ player. keep player && nat_lt 0 (score (single ∷ singles) player))
         (λ player. (not (player == single.index) && keep player) && nat_lt 0 (score singles player))
         (omega arith) (let seat = seated.0 in omega (arith, seat))
-        (let own : (single.index == single.index) ≡ true = same-self single.index in
-        rw (kept, own) (some-first (strength single.card) (score singles single.index)
+        (let own : (single.index == single.index) ≡ true = eq-eqb single.index single.index refl in
+        rw (kept, own) (max-some (strength single.card) (score singles single.index)
         (strength-some single.card)))
-        (let own : (single.index == single.index) ≡ true = same-self single.index in rw own refl)
-        (λ player apart. let test : (player == single.index) ≡ false = differ-test player single.index apart in
+        (let own : (single.index == single.index) ≡ true = eq-eqb single.index single.index refl in rw own refl)
+        (λ player apart. let test : (player == single.index) ≡ false = ne_eqb player single.index apart in
         rw test (kept-on (keep player) (score singles player)))
 
     none_more : keep single.index ≡ false
@@ -125,7 +106,7 @@ value-step : (old new index stack : ℕ) (stacks : List ℕ) (cards : List Card)
     (if nat_lt 0 (score (single_cards old new index (stack ∷ stacks) cards) index) then 1 else 0)
 unfolding single_cards
 value-step old new index stack stacks cards chip unit multiple whole there =
-    elim (none_or_some (stack % new)) [
+    elim (eq-zero-or-pos (stack % new)) [
       | inl none ↦ zero-within (stack % new) _ none
       | inr some ↦
           let chips = odd-some old (stack % new) chip (odd-whole old new stack multiple whole) some in
@@ -139,15 +120,12 @@ value-step old new index stack stacks cards chip unit multiple whole there =
           (stack % new) new (omega (arith, own, best)) less)
     ]
   where
-    none_or_some : (n : ℕ) → (n ≡ 0) ⊎ (1 ≤ n)
-    none_or_some n = grind arith
-
     zero-within : (a b : ℕ) → a ≡ 0 → a ≤ b
     zero-within a b none = omega arith
 
     counted : (own rest odd unit : ℕ) → 1 ≤ own → odd < unit
         → odd ≤ (unit - 1) * (if nat_lt 0 (max own rest) then 1 else 0)
-    counted own rest odd unit some less = (let test : nat_lt 0 (max own rest) ≡ true = some-first own rest some in
+    counted own rest odd unit some less = (let test : nat_lt 0 (max own rest) ≡ true = max-some own rest some in
         rw test (omega arith))
 
 -- The odd values together are less than a chip for each player who has a card.
@@ -177,9 +155,6 @@ value-within old new index (stack ∷ stacks) cards chip unit most multiple whol
         → others ≤ unit * some → some ≡ all → whole ≤ unit * (own + all)
     together odd others whole unit own some all is first second same = rw (is, ← same) (omega (arith, first, second))
 
-    max-zero : (n : ℕ) → max 0 n ≡ n
-    max-zero n = omega arith
-
     later : (player : ℕ) → suc index ≤ player
         → score (single_cards old new (suc index) stacks (drop (odd_chips old new stack) cards)) player
         ≡ score (single_cards old new index (stack ∷ stacks) cards) player
@@ -188,11 +163,7 @@ value-within old new index (stack ∷ stacks) cards chip unit most multiple whol
         ∙ ap (λ n. max n (score (single_cards old new (suc index) stacks (drop (odd_chips old new stack) cards))
         player)) (score-cards_for_other index player (take (odd_chips old new stack) cards)
         (λ same. absurd (omega arith)))
-        ∙ max-zero (score (single_cards old new (suc index) stacks (drop (odd_chips old new stack) cards)) player))
-
-filter-all : (items : List ℕ) → filter (λ item. true) items ≡ items
-filter-all [] = refl
-filter-all (item ∷ items) = ap (λ rest. item ∷ rest) (filter-all items)
+        ∙ zero-max (score (single_cards old new (suc index) stacks (drop (odd_chips old new stack) cards)) player))
 
 -- There are as many winners as chips are awarded.
 pub length-winners : (stacks : List ℕ) (cards : List Card) (old new : ℕ) → length stacks ≡ 10 → 50 ≤ length cards
@@ -220,11 +191,8 @@ length-winners stacks cards old new seats enough chip unit most multiple whole =
     count-from_ordered list = count_from-same 0 10 (λ player. nat_lt 0 (score (ordered list) player))
         (λ player. nat_lt 0 (score list player)) (λ player low high. ap (nat_lt 0) (score-ordered list player))
 
-    smaller : (n : ℕ) → n - 1 ≤ n
-    smaller n = omega arith
-
     less : (removed unit count : ℕ) → 1 ≤ unit → removed ≤ (unit - 1) * count → removed ≤ unit * count
-    less removed unit count some within = (let more = mul-le-mul_right count (smaller unit) in
+    less removed unit count some within = (let more = mul-le-mul_right count (sub-le unit 1) in
         omega (arith, within, more))
 
     bound : (removed unit count : ℕ) → 1 ≤ unit → removed ≤ (unit - 1) * count → removed / unit ≤ count

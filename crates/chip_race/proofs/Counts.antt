@@ -1,5 +1,5 @@
 -- How many of the numbers from one on pass a test.
-use Rattle.std.proofs.Common.{◌≡◌, ◌≢◌, ◌∙◌, refl, ap, ℕ, zero, suc, ◌+◌, ◌<◌, ◌≤◌, Bool, true, false, List, [], ◌∷◌, length, get_or, arith, ◌⊎◌, inl, inr}
+use Rattle.std.proofs.Common.{◌≡◌, ◌≢◌, ◌∙◌, refl, ap, ℕ, zero, suc, ◌+◌, ◌<◌, ◌≤◌, Bool, true, false, List, [], ◌∷◌, length, get_or, eq-or-lt_of_le, arith, inl, inr}
 use Rattle.std.specs.Prelude.{if◌then◌else◌, count_by}
 use Rattle.std.proofs.lemmas.List.Sums.{sum_by-cons}
 
@@ -24,7 +24,7 @@ pub count_from-more : (first more extra : ℕ) (one other : ℕ → Bool) → fi
     → ((k : ℕ) → k ≢ extra → one k ≡ other k) → count_from first more one ≡ suc (count_from first more other)
 count_from-more first zero extra one other low high passed failed same = absurd (omega arith)
 count_from-more first (suc more) extra one other low high passed failed same =
-    elim (at_first first extra low) [
+    elim (eq-or-lt_of_le low) [
       | inl here ↦
           let first_yes : one first ≡ true = ap one here ∙ passed in
           let first_no : other first ≡ false = ap other here ∙ failed in
@@ -37,9 +37,6 @@ count_from-more first (suc more) extra one other low high passed failed same =
           count_from-more (suc first) more extra one other (omega arith) (omega arith) passed failed same in
           rw (first_same, rest) (omega arith)
     ]
-  where
-    at_first : (a b : ℕ) → a ≤ b → (a ≡ b) ⊎ (a < b)
-    at_first a b le = grind arith
 
 -- None passes.
 pub count_from-none : (first more : ℕ) (test : ℕ → Bool) → ((k : ℕ) → test k ≡ false) → count_from first more test ≡ 0

@@ -1,6 +1,7 @@
 -- What a player is given in a race, and his stack after it.
-use Rattle.std.proofs.Common.{◌≡◌, ◌∙◌, ap, ℕ, ◌+◌, ◌-◌, ◌*◌, ◌/◌, ◌%◌, ◌<◌, ◌≤◌, ◌⊎◌, inl, inr, Bool, List, true, false, arith}
+use Rattle.std.proofs.Common.{◌≡◌, ◌∙◌, ap, ℕ, ◌+◌, ◌-◌, ◌*◌, ◌/◌, ◌%◌, ◌<◌, ◌≤◌, ◌⊎◌, inl, inr, Bool, List, true, false, add-zero, arith}
 use Rattle.std.specs.Prelude.{sum, sum_by}
+use Rattle.std.proofs.lemmas.Bool.{cases_lt}
 use Rattle.std.proofs.lemmas.Bool.Decides.{nat_tests}
 use Rattle.std.proofs.lemmas.List.Sums.{sum_by-le-sum_by}
 use Rattle.std.proofs.Math.Nat.{zero-mod, mod-eq_of_lt, div-add-mod, mul-add-mod_self_left, add-mod_right}
@@ -71,11 +72,8 @@ given-few old new has_won stack unit most whole empty = elim (where_is 1 stack) 
       ]
 ]
   where
-    split : (a b : ℕ) → (a < b) ⊎ (b ≤ a)
-    split a b = grind arith
-
     multiple-le : (unit amount : ℕ) → amount % unit ≡ 0 → 1 ≤ amount → unit ≤ amount
-    multiple-le unit amount whole some = elim (split amount unit) [
+    multiple-le unit amount whole some = elim (cases_lt amount unit) [
       | inl less ↦ (let same = mod-eq_of_lt less in omega (arith, same))
       | inr enough ↦ enough
     ]
@@ -94,6 +92,3 @@ stack_after-whole new has_won stack unit = elim (given-one_or_none new has_won s
   | inr one ↦ ap (λ given. (stack - stack % new + given) % new) one ∙ add-mod_right (stack - stack % new) new
       ∙ whole-part new stack
 ]
-  where
-    add-zero : (n : ℕ) → n + 0 ≡ n
-    add-zero n = omega arith

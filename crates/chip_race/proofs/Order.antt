@@ -1,7 +1,9 @@
 -- The order of the players by their single cards: how many come before a player.
 use Rattle.std.proofs.Common.{◌≡◌, ◌≢◌, ◌∙◌, refl, ap, sym, inl, inr, ℕ, zero, suc, ◌<◌, ◌≤◌, max, Bool, true, false, List, [], ◌∷◌, take, arith}
 use Rattle.std.specs.Prelude.{◌==◌, ◌&&◌, ◌||◌, not, if◌then◌else◌, nat_lt, filter}
-use Rattle.std.proofs.lemmas.Bool.{cases_Bool, eqb-true}
+use Rattle.std.proofs.Math.Bool.{and-false}
+use Rattle.std.proofs.Math.Nat.{zero-max}
+use Rattle.std.proofs.lemmas.Bool.{cases_Bool, eq-eqb, eqb-true, ne_eqb}
 use Rattle.std.proofs.lemmas.Bool.Decides.{nat_tests}
 use Rattle.card_set.specs.declared.card.Card.{Card}
 use Rattle.chip_race.specs.Races.{SingleCard, is_higher, put_in_order, ordered, players_in_order, is_among}
@@ -94,9 +96,6 @@ Falling-ordered [] apart = tt
 Falling-ordered (single ∷ singles) apart = Falling-put_in_order single (ordered singles)
     (Apart-ordered single.card singles apart.0) (Falling-ordered singles apart.1)
 
-max-zero : (n : ℕ) → max 0 n ≡ n
-max-zero n = omega arith
-
 -- Whether one player's first card comes before another's.
 abbrev pub comes_before : List SingleCard → ℕ → ℕ → Bool
 comes_before [] one other = false
@@ -122,8 +121,17 @@ comes_before-score (single ∷ singles) falling one other =
     step true false top one_score other_score before below_one below_other is = grind (arith, nat_tests)
     step false true top one_score other_score before below_one below_other is = grind (arith, nat_tests)
     step false false top one_score other_score before below_one below_other is = is
-        ∙ sym (ap (λ n. nat_lt n (max 0 one_score)) (max-zero other_score) ∙ ap (λ n. nat_lt other_score n)
-        (max-zero one_score))
+        ∙ sym (ap (λ n. nat_lt n (max 0 one_score)) (zero-max other_score) ∙ ap (λ n. nat_lt other_score n)
+        (zero-max one_score))
+
+-- The greater of two numbers is not zero where the first is not.
+pub max-some : (a b : ℕ) → 1 ≤ a → nat_lt 0 (max a b) ≡ true
+max-some a b some = grind (arith, nat_tests)
+
+-- What always passes leaves nothing out.
+pub filter-all : (items : List ℕ) → filter (λ item. true) items ≡ items
+filter-all [] = refl
+filter-all (item ∷ items) = ap (λ rest. item ∷ rest) (filter-all items)
 
 -- What passes one test and then another passes both.
 pub filter-filter : (one other : ℕ → Bool) (items : List ℕ) → filter one (filter other items)
@@ -164,7 +172,8 @@ left-out player out keep before top rest chips left =
           (λ other. keep other && (other == out || before other))
           (λ other low high. point-left (keep other) (other == out) (before other)
           (λ is. ap keep (eqb-true other out is) ∙ left)) in
-          rw (differs, counts, max-zero rest) refl
+          let none : max 0 rest ≡ rest = zero-max rest in
+          rw (differs, counts, none) refl
     ]
 
 -- A player who is first takes one place.
@@ -180,35 +189,23 @@ first-in player first keep before top rest chips kept some seated =
           let own : keep player ≡ true = ap keep (eqb-true player first same) ∙ kept in
           let none : count_from 0 10 (λ other. keep other && false) ≡ 0 =
           count_from-none 0 10 (λ other. keep other && false) (λ other. and-false (keep other)) in
-          let wins : nat_lt 0 (max top rest) ≡ true = some-wins top rest some in
+          let wins : nat_lt 0 (max top rest) ≡ true = max-some top rest some in
           rw (same, own, none, wins) (zero-less chips)
       | inr differs ↦
           let counts : count_from 0 10 (λ other. keep other && (other == first || before other))
           ≡ suc (count_from 0 10 (λ other. (not (other == first) && keep other) && before other)) =
           count_from-more 0 10 first (λ other. keep other && (other == first || before other))
           (λ other. (not (other == first) && keep other) && before other) (omega arith) (omega arith)
-          (let own : (first == first) ≡ true = eqb-refl first in rw (kept, own) refl)
-          (let own : (first == first) ≡ true = eqb-refl first in rw own refl)
-          (λ other apart. let test : (other == first) ≡ false = differ-eqb other first apart in
+          (let own : (first == first) ≡ true = eq-eqb first first refl in rw (kept, own) refl)
+          (let own : (first == first) ≡ true = eq-eqb first first refl in rw own refl)
+          (λ other apart. let test : (other == first) ≡ false = ne_eqb other first apart in
           rw test (sym (point-kept (keep other) (before other)))) in
-          rw (differs, counts, max-zero rest) (one-less (keep player) (nat_lt 0 rest) _ chips)
+          let none : max 0 rest ≡ rest = zero-max rest in
+          rw (differs, counts, none) (one-less (keep player) (nat_lt 0 rest) _ chips)
     ]
   where
     zero-less : (n : ℕ) → true ≡ nat_lt 0 (suc n)
     zero-less n = grind (arith, nat_tests)
-
-    and-false : (b : Bool) → (b && false) ≡ false
-    and-false true = refl
-    and-false false = refl
-
-    some-wins : (a b : ℕ) → 1 ≤ a → nat_lt 0 (max a b) ≡ true
-    some-wins a b le = grind (arith, nat_tests)
-
-    eqb-refl : (n : ℕ) → (n == n) ≡ true
-    eqb-refl n = grind (arith, nat_tests)
-
-    differ-eqb : (a b : ℕ) → a ≢ b → (a == b) ≡ false
-    differ-eqb a b apart = grind (arith, nat_tests)
 
     same-less : (m n : ℕ) → nat_lt m n ≡ nat_lt (suc m) (suc n)
     same-less m n = grind (arith, nat_tests)

@@ -1,6 +1,7 @@
 -- How high the best card of a player is among some single cards, as a number.
 use Rattle.std.proofs.Common.{◌≡◌, ◌≢◌, ◌∙◌, refl, ap, sym, inl, inr, ℕ, zero, suc, ◌+◌, ◌*◌, ◌<◌, ◌≤◌, max, true, false, List, [], ◌∷◌, ◌++◌, length, take, drop, get_or, arith}
 use Rattle.std.specs.Prelude.{◌==◌, ◌&&◌, ◌||◌, if◌then◌else◌, nat_lt, fold, Option, Some, None}
+use Rattle.std.proofs.Math.Nat.{zero-max}
 use Rattle.std.proofs.lemmas.Bool.{cases_Bool}
 use Rattle.std.proofs.lemmas.Bool.Decides.{nat_tests}
 use Rattle.card_set.specs.declared.card.Card.{Card}
@@ -110,9 +111,6 @@ score-single_cards_below old new index player (stack ∷ stacks) cards below =
       score-single_cards_below old new (suc index) player stacks (drop (odd_chips old new stack) cards) (omega arith),
     ) refl
 
-max-zero : (n : ℕ) → max 0 n ≡ n
-max-zero n = omega arith
-
 -- The best cards of the players have their scores.
 pub score-best_cards : (old new index : ℕ) (stacks : List ℕ) (cards : List Card) (k : ℕ) → k < length stacks
     → score (single_cards old new index stacks cards) (index + k)
@@ -134,5 +132,5 @@ score-best_cards old new index (stack ∷ stacks) cards (suc k) within =
     (single_cards old new (suc index) stacks (drop (odd_chips old new stack) cards)) (index + suc k)
     ∙ rw (score-cards_for_other index (index + suc k) (take (odd_chips old new stack) cards) (omega arith))
     (ap (λ player. max 0 (score (single_cards old new (suc index) stacks (drop (odd_chips old new stack) cards))
-    player)) there ∙ max-zero _
+    player)) there ∙ zero-max _
     ∙ score-best_cards old new (suc index) stacks (drop (odd_chips old new stack) cards) k (omega arith))

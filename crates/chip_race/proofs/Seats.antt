@@ -2,8 +2,7 @@
 use Rattle.std.proofs.Common.{◌≡◌, ◌∙◌, ap, sym, refl, ℕ, zero, suc, ◌+◌, ◌-◌, ◌%◌, ◌<◌, ◌≤◌, true, List, [], ◌∷◌, ◌++◌, length, take, drop, get_or, set, arith, append_assoc, add-one, drop-cons}
 use Rattle.std.specs.Prelude.{sum, sum_by, ◌==◌}
 use Rattle.std.specs.List.{enumerate_from}
-use Rattle.std.proofs.lemmas.Bool.{and_from, and_parts, eqb-true}
-use Rattle.std.proofs.lemmas.Bool.Decides.{nat_tests}
+use Rattle.std.proofs.lemmas.Bool.{and_from, and_parts, eq-eqb, eqb-true}
 use Rattle.std.proofs.lemmas.List.{take_more_set}
 use Rattle.std.proofs.lemmas.List.Sums.{sum_by-cons}
 use Rattle.chip_race.specs.Races.{odd_value, given_value, is_among, stack_after, stacks_after, added_value, are_whole}
@@ -73,11 +72,9 @@ pub stacks_after-whole : (new : ℕ) (players : List ℕ) (first : ℕ) (stacks 
     → are_whole new (stacks_after new players first stacks) ≡ true
 stacks_after-whole new players first [] unit = refl
 stacks_after-whole new players first (stack ∷ stacks) unit =
-    and_from _ _ (none _ (stack_after-whole new (is_among players first) stack unit))
+    and_from _ _ (eq-eqb (stack_after new (is_among players first) stack % new) 0
+    (stack_after-whole new (is_among players first) stack unit))
     (stacks_after-whole new players (first + 1) stacks unit)
-  where
-    none : (n : ℕ) → n ≡ 0 → (n == 0) ≡ true
-    none n is = grind (arith, nat_tests)
 
 -- Each stack is a whole number of chips where all are.
 pub is_whole-at : (unit : ℕ) (stacks : List ℕ) (index : ℕ) → are_whole unit stacks ≡ true → index < length stacks

@@ -1,33 +1,33 @@
 -- A player's cards and the board are different cards.
-use Rattle.std.proofs.Common.{◌≡◌, ◌∙◌, ℕ, zero, suc, ◌+◌, ◌-◌, ◌*◌, ◌<◌, ◌≤◌, Bool, true, false, List, [], ◌∷◌, ◌++◌, length, map, refl, ap, sym, inl, inr, arith}
-use Rattle.std.specs.Prelude.{◌==◌, ◌&&◌, ◌||◌, filter, nat_le, nat_lt, not}
+use Rattle.std.proofs.Common.{◌≡◌, ℕ, zero, suc, ◌+◌, ◌*◌, ◌<◌, ◌≤◌, Bool, true, List, [], ◌∷◌, ◌++◌, length, map, refl, inl, inr, arith}
+use Rattle.std.specs.Prelude.{◌==◌, ◌||◌, filter, nat_lt, not}
 use Rattle.std.specs.List.{list_all, list_any}
-use Rattle.std.proofs.lemmas.Bool.{and_from, and_parts, cases_Bool, eqb-true, leb-true}
+use Rattle.std.proofs.lemmas.Bool.{agree_below, agree_below_at, and_from, and_parts, cases_Bool, eqb-true}
 use Rattle.std.proofs.lemmas.Bool.Decides.{nat_tests}
 use Rattle.rulebook.specs.Pairs.{are_rising}
 use Rattle.rulebook.specs.Seats.{clockwise_after}
 use Rattle.rulebook.proofs.Tests.{list_all-follows}
 use Rattle.button_blinds.specs.SeatSets.{AreSeatsOf, has_seat, seat_count}
-use Rattle.deal_order.specs.DealOrder.{board_card_place, count_up, dealt_in_order, hole_card_place, index_in, places_of_board, places_of_player}
-use Rattle.deal_order.proofs.Orders.{all_below, all_below-at, dealt-count}
+use Rattle.deal_order.specs.DealOrder.{count_up, dealt_in_order, index_in, places_of_board, places_of_player}
+use Rattle.deal_order.proofs.Orders.{always, dealt-count}
 
 -- A walk round a table comes to each of its seats.
-comes-checked : all_below (λ seats. all_below (λ button. all_below
-    (λ below. not (nat_lt below seats) || list_any (λ other. other == suc below) (clockwise_after seats button)) 10)
-    11) 11 ≡ true
-unfolding all_below
+comes-checked : agree_below (λ seats. agree_below (λ button. agree_below
+    (λ below. not (nat_lt below seats) || list_any (λ other. other == suc below) (clockwise_after seats button)) always
+    10) always 11) always 11 ≡ true
 comes-checked = refl
 
 -- A walk round a table comes to each of its seats.
 pub clockwise-comes : (seats button below : ℕ) → seats ≤ 10 → button ≤ seats → below < seats
     → list_any (λ other. other == suc below) (clockwise_after seats button) ≡ true
 clockwise-comes seats button below most at within =
-    let checked = all_below-at (λ k. not (nat_lt k seats) || list_any (λ other. other == suc k)
-    (clockwise_after seats button)) 10 below
-    (all_below-at (λ b. all_below (λ k. not (nat_lt k seats) || list_any (λ other. other == suc k)
-    (clockwise_after seats b)) 10) 11 button
-    (all_below-at (λ s. all_below (λ b. all_below
-    (λ k. not (nat_lt k s) || list_any (λ other. other == suc k) (clockwise_after s b)) 10) 11) 11 seats
+    let checked = agree_below_at (λ k. not (nat_lt k seats) || list_any (λ other. other == suc k)
+    (clockwise_after seats button)) always 10 below
+    (agree_below_at (λ b. agree_below (λ k. not (nat_lt k seats) || list_any (λ other. other == suc k)
+    (clockwise_after seats b)) always 10) always 11 button
+    (agree_below_at (λ s. agree_below (λ b. agree_below
+    (λ k. not (nat_lt k s) || list_any (λ other. other == suc k) (clockwise_after s b)) always 10) always 11) always 11
+    seats
     comes-checked (omega arith))
     (omega arith))
     (omega arith) in

@@ -1,14 +1,15 @@
 -- The order of the deal: who comes before whom, and how many there are.
 use Rattle.std.proofs.Common.{◌≡◌, ◌∙◌, ℕ, zero, suc, ◌+◌, ◌-◌, ◌<◌, ◌≤◌, Bool, true, false, List, [], ◌∷◌, ◌++◌, length, map, refl, ap, sym, inl, inr, arith}
-use Rattle.std.specs.Prelude.{◌==◌, ◌&&◌, not, filter, slice_index_or, cond}
+use Rattle.std.specs.Prelude.{◌==◌, not, filter, slice_index_or, cond}
 use Rattle.std.specs.List.{list_all}
-use Rattle.std.proofs.lemmas.Bool.{cases_Bool}
+use Rattle.std.proofs.lemmas.Bool.{and_parts, cases_Bool, agree_below, agree_below_at}
 use Rattle.std.proofs.lemmas.Bool.Decides.{nat_tests}
 use Rattle.std.proofs.lemmas.List.Sums.{sum_by-cons}
 use Rattle.rulebook.specs.Seats.{clockwise_after, seat_after, walk}
 use Rattle.rulebook.specs.Pairs.{are_distinct}
 use Rattle.rulebook.proofs.OccupiedSeats.{seat_after-below, seat_after-last}
 use Rattle.rulebook.proofs.Walks.{walk-next}
+use Rattle.rulebook.proofs.Tests.{list_all-kept}
 use Rattle.button_blinds.specs.SeatSets.{AreSeatsOf, has_seat, seat_count}
 use Rattle.deal_order.specs.DealOrder.{count_up, dealt_in_order, index_in}
 
@@ -41,61 +42,35 @@ pub index-over : (dealt : ℕ → Bool) (step : ℕ → ℕ) (steps taken next s
 index-over dealt step steps taken next seat over =
     let left : steps - taken ≡ 0 = omega arith in rw left
 
--- A test of all numbers below one.
-unfoldable pub all_below : (ℕ → Bool) → ℕ → Bool
-all_below test zero = true
-all_below test (suc n) = test n && all_below test n
-
-both_true : (one other : Bool) → (one && other) ≡ true → (one ≡ true) × (other ≡ true)
-both_true true true both = (refl, refl)
-both_true true false both = absurd cc
-both_true false other both = absurd cc
-
--- A test that all numbers below one pass each of them passes.
-pub all_below-at : (test : ℕ → Bool) (n k : ℕ) → all_below test n ≡ true → k < n → test k ≡ true
-unfolding all_below
-all_below-at test zero k all below = absurd (omega arith)
-all_below-at test (suc n) k all below =
-    let both = both_true (test n) (all_below test n) all in
-    elim (cases_Bool (k == n)) [
-      | inl is ↦ let same : k ≡ n = grind (arith, nat_tests) in rw same both.0
-      | inr other ↦ all_below-at test n k both.1 (grind (arith, nat_tests))
-    ]
+-- A test that each number passes.
+abbrev pub always : ℕ → Bool
+always k = true
 
 -- No seat comes twice in a walk round a table.
-distinct-checked : all_below
-    (λ seats. all_below (λ button. are_distinct (λ one other. one == other) (clockwise_after seats button)) 11) 11
-    ≡ true
-unfolding all_below
+distinct-checked : agree_below
+    (λ seats. agree_below (λ button. are_distinct (λ one other. one == other) (clockwise_after seats button)) always 11)
+    always 11 ≡ true
 distinct-checked = refl
 
 -- No seat comes twice in a walk round a table.
 clockwise-distinct : (seats button : ℕ) → seats ≤ 10 → button ≤ seats
     → are_distinct (λ one other. one == other) (clockwise_after seats button) ≡ true
 clockwise-distinct seats button most at =
-    all_below-at (λ b. are_distinct (λ one other. one == other) (clockwise_after seats b)) 11 button
-    (all_below-at (λ s. all_below (λ b. are_distinct (λ one other. one == other) (clockwise_after s b)) 11) 11 seats
+    agree_below_at (λ b. are_distinct (λ one other. one == other) (clockwise_after seats b)) always 11 button
+    (agree_below_at
+    (λ s. agree_below (λ b. are_distinct (λ one other. one == other) (clockwise_after s b)) always 11) always 11 seats
     distinct-checked (omega arith))
     (omega arith)
-
--- What all pass, those pass that another test keeps.
-kept-all : (test kept : ℕ → Bool) (seats : List ℕ) → list_all test seats ≡ true
-    → list_all test (filter kept seats) ≡ true
-kept-all test kept [] all = refl
-kept-all test kept (seat ∷ seats) all =
-    let both = both_true (test seat) (list_all test seats) all in
-    let later = kept-all test kept seats both.1 in
-    elim (cases_Bool (kept seat)) [ inl is ↦ rw (is, both.0, later) | inr empty ↦ rw empty later ]
 
 -- Of seats that are distinct, those are that a test keeps.
 kept-distinct : (kept : ℕ → Bool) (seats : List ℕ) → are_distinct (λ one other. one == other) seats ≡ true
     → are_distinct (λ one other. one == other) (filter kept seats) ≡ true
 kept-distinct kept [] distinct = refl
 kept-distinct kept (seat ∷ seats) distinct =
-    let both = both_true (list_all (λ other. not (seat == other)) seats)
+    let both = and_parts (list_all (λ other. not (seat == other)) seats)
     (are_distinct (λ one other. one == other) seats) distinct in
     let later = kept-distinct kept seats both.1 in
-    let apart = kept-all (λ other. not (seat == other)) kept seats both.0 in
+    let apart = list_all-kept (λ other. not (seat == other)) kept seats both.0 in
     elim (cases_Bool (kept seat)) [ inl is ↦ rw (is, apart, later) | inr empty ↦ rw empty later ]
 
 -- A place, from the number of the round's first place, for each seat of a list that comes after another seat.
@@ -103,7 +78,7 @@ later-places : (first : ℕ) (before : ℕ) (seats rest : List ℕ) → list_all
     → map (λ seat. first + index_in seat (before ∷ seats)) rest ≡ map (λ seat. first + 1 + index_in seat seats) rest
 later-places first before seats [] apart = refl
 later-places first before seats (seat ∷ rest) apart =
-    let both = both_true (not (before == seat)) (list_all (λ other. not (before == other)) rest) apart in
+    let both = and_parts (not (before == seat)) (list_all (λ other. not (before == other)) rest) apart in
     let other : (before == seat) ≡ false = grind (arith, nat_tests) in
     let here : first + (index_in seat seats + 1) ≡ first + 1 + index_in seat seats = omega arith in
     let later = later-places first before seats rest both.1 in
@@ -114,7 +89,7 @@ pub places-count_up : (first : ℕ) (seats : List ℕ) → are_distinct (λ one 
     → map (λ seat. first + index_in seat seats) seats ≡ count_up first (length seats)
 places-count_up first [] distinct = refl
 places-count_up first (seat ∷ seats) distinct =
-    let both = both_true (list_all (λ other. not (seat == other)) seats)
+    let both = and_parts (list_all (λ other. not (seat == other)) seats)
     (are_distinct (λ one other. one == other) seats) distinct in
     let same : (seat == seat) ≡ true = grind (arith, nat_tests) in
     let here : first + 0 ≡ first = omega arith in

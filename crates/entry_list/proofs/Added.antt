@@ -1,9 +1,9 @@
 -- A list that is longer by a name that was not in it.
-use Rattle.std.proofs.Common.{◌≡◌, ◌∙◌, refl, sym, ℕ, ◌≤◌, Bool, true, false, List, [], ◌∷◌, ◌++◌, length, length-append, arith, inl, inr}
-use Rattle.std.specs.Prelude.{not, ◌||◌}
+use Rattle.std.proofs.Common.{◌≡◌, ◌∙◌, refl, sym, ℕ, ◌≤◌, true, false, List, [], ◌∷◌, ◌++◌, length, length-append, arith, inl, inr}
+use Rattle.std.specs.Prelude.{not}
 use Rattle.std.specs.List.{list_all}
 use Rattle.std.specs.Str.{bytes_eq}
-use Rattle.std.proofs.lemmas.Bool.{and_from, cases_Bool}
+use Rattle.std.proofs.lemmas.Bool.{and_from, cases_Bool, or_parts}
 use Rattle.std.proofs.lemmas.List.{append-nil}
 use Rattle.std.proofs.lemmas.Slice.Eq.{bytes_eq-Decides}
 use Rattle.rulebook.proofs.Pairs.{is_pairwise-between}
@@ -20,16 +20,12 @@ other_way one other differ = elim (cases_Bool (bytes_eq other one)) [
   | inr differs ↦ rw differs refl
 ]
 
-neither : (one other : Bool) → (one || other) ≡ false → (one ≡ false) × (other ≡ false)
-neither true other none = absurd cc
-neither false other none = (refl, none)
-
 -- each name of a list differs from one that is not in it
 all_differ : (entries : List (List ℕ)) (name : List ℕ) → is_known entries name ≡ false
     → list_all (λ earlier. not (bytes_eq earlier name)) entries ≡ true
 all_differ [] name unknown = refl
 all_differ (first ∷ entries) name unknown =
-    let parts = neither (bytes_eq name first) (is_known entries name) unknown in
+    let parts = or_parts (bytes_eq name first) (is_known entries name) unknown in
     and_from _ _ (other_way name first parts.0) (all_differ entries name parts.1)
 
 -- A lawful list stays so once a name was added that was not in it, where there was room.

@@ -1,16 +1,15 @@
 -- The book once a hand has begun, and once one has ended, as its fields are written.
-use Rattle.std.proofs.Common.{◌≡◌, ◌∙◌, refl, sym, ap, ◌≤◌, ◌<◌, ℕ, zero, suc, ◌+◌, Bool, true, false, cond, List, [], ◌∷◌, ◌++◌, length, get_or, map}
+use Rattle.std.proofs.Common.{◌≡◌, ◌∙◌, refl, sym, ap, ◌≤◌, ◌<◌, ℕ, ◌+◌, Bool, true, false, cond, List, [], ◌∷◌, ◌++◌, length, get_or, map, arith}
 use Rattle.std.specs.Prelude.{not, nat_le, ◌&&◌, filter, slice_set, Option, Some, None}
-use Rattle.std.proofs.lemmas.Bool.{and_parts, and_from}
 use Rattle.std.specs.List.{list_all}
 use Rattle.std.proofs.lemmas.Bool.Decides.{nat_tests}
-use Rattle.std.proofs.Common.{arith}
+use Rattle.std.proofs.lemmas.List.{get_or_default}
 use Rattle.card_set.specs.declared.card.Card.{Card}
 use Rattle.card_set.specs.declared.card.CardRow.{CardRow}
 use Rattle.card_set.specs.declared.game.Game.{Game}
 use Rattle.level_plan.specs.declared.plan.Blind.{Blind}
 use Rattle.level_plan.specs.Items.{is_between}
-use Rattle.rulebook.proofs.Tests.{list_all-follows}
+use Rattle.rulebook.proofs.Tests.{list_all-follows, list_all-kept}
 use Rattle.button_blinds.specs.SeatSets.{has_seat}
 use Rattle.button_blinds.specs.declared.marks.NextMarks.{NextMarks}
 use Rattle.place_list.specs.declared.bust.Bust.{Bust}
@@ -93,24 +92,11 @@ seat_known : (tables seats at seat : ℕ) → seats ≤ 10
     → ((nat_le 1 at && nat_le at tables) && (nat_le 1 seat && nat_le seat seats)) ≡ true → is_between 1 10 seat ≡ true
 seat_known tables seats at seat most there = grind (arith, nat_tests)
 
--- What passes for all passes for those whom a test picks.
-picked_pass : (test keep : Seated → Bool) (players : List Seated) → list_all test players ≡ true
-    → list_all test (filter keep players) ≡ true
-picked_pass test keep [] all = refl
-picked_pass test keep (player ∷ players) all =
-    let parts = and_parts (test player) (list_all test players) all in
-    by_test (keep player) parts.0 (picked_pass test keep players parts.1)
-  where
-    by_test : (b : Bool) → test player ≡ true → list_all test (filter keep players) ≡ true
-        → list_all test (cond b (player ∷ filter keep players) (filter keep players)) ≡ true
-    by_test true one rest = and_from (test player) (list_all test (filter keep players)) one rest
-    by_test false one rest = rest
-
 -- All who sit at a table sit in a seat that a set of seats knows.
 pub lawful_seats : (seating : Seating) (table : ℕ) → IsSeating seating
     → list_all has_lawful_seat (players_at seating.players table) ≡ true
 lawful_seats seating table lawful =
-    picked_pass has_lawful_seat (sits_at table) seating.players
+    list_all-kept has_lawful_seat (sits_at table) seating.players
     (list_all-follows (sits_within seating.table_count seating.seat_count) has_lawful_seat seating.players
     (λ player there. seat_known seating.table_count seating.seat_count player.place.table player.place.seat
     lawful.most_seats there) lawful.within)
@@ -135,13 +121,6 @@ pub dealt_at : (table : ℕ) (waiting : List Bool) (players : List Seated)
     → dealt_of waiting (players_at players table) ≡ dealt_seats table waiting players
 dealt_at table waiting players =
     ap (map start_seat) (picked_twice (sits_at table) (λ player. not (has_seat waiting player.place.seat)) players)
-
--- What is there is there whatever stands for what is not.
-pub there_is : {A : Type 0} (items : List A) (index : ℕ) (one other : A) → index < length items
-    → get_or items index one ≡ get_or items index other
-there_is [] index one other within = absurd (omega arith)
-there_is (item ∷ items) zero one other within = refl
-there_is (item ∷ items) (suc index) one other within = there_is items index one other (omega arith)
 
 -- The players of a start that is out may be paid.
 pub payees_of : (start : HandStart) → IsLawfulStart start → ArePayees start.seats
@@ -180,7 +159,7 @@ pub taken_out : (out : List (Option HandStart)) (index table : ℕ) (slot taken 
     → start_at out table ≡ Some start
 taken_out out index table slot taken start within same slot_is taken_is is =
     ap (λ (table : ℕ). start_at out table) (sym same)
-    ∙ (there_is out index None slot within ∙ (sym slot_is ∙ (sym taken_is ∙ is)))
+    ∙ (get_or_default out index None slot within ∙ (sym slot_is ∙ (sym taken_is ∙ is)))
 
 -- Voids leave the number of tables.
 pub left_count : (book : BookState) (tables : ℕ) → (void_first book tables).seating.table_count

@@ -1,14 +1,11 @@
 -- Who is found by a number sits where they are found.
-use Rattle.std.proofs.Common.{◌≡◌, ◌∙◌, refl, sym, subst, ℕ, Bool, true, false, List, [], ◌∷◌, arith}
+use Rattle.std.proofs.Common.{◌≡◌, ◌∙◌, refl, sym, subst, ℕ, Bool, true, false, List, [], ◌∷◌}
 use Rattle.std.specs.Prelude.{Some, IsSome}
-use Rattle.std.proofs.lemmas.Bool.Decides.{nat_tests}
 use Rattle.std.proofs.lemmas.Option.{same_Some}
 use Rattle.seat_book.specs.declared.place.Place.{Place}
 use Rattle.seat_book.specs.declared.seated.Seated.{Seated}
 use Rattle.seat_book.specs.Players.{sits_in, is_numbered, player_at, place_of}
-
-sits_there : (player : Seated) → sits_in player.place player ≡ true
-sits_there player = grind (arith, nat_tests)
+use Rattle.tournament_rules.proofs.ByNumber.{sits_there}
 
 -- Somebody sits in the place of a number.
 pub sits_found : (players : List Seated) (number : ℕ) (place : Place) → place_of players number ≡ Some place

@@ -1,9 +1,9 @@
 -- Players who leave their seats and take other places.
-use Rattle.std.proofs.Common.{◌≡◌, ◌∙◌, refl, sym, ap, subst, ℕ, ◌<◌, ◌&&◌, Bool, true, false, cond, List, [], ◌∷◌, arith}
-use Rattle.std.specs.Prelude.{not, nat_lt, nat_le, find, filter, option_map, Option, Some, None, IfSome}
+use Rattle.std.proofs.Common.{◌≡◌, ◌∙◌, refl, sym, ap, subst, ℕ, ◌<◌, ◌&&◌, Bool, true, List, ◌∷◌, arith}
+use Rattle.std.specs.Prelude.{not, nat_le, find, option_map, Option, Some, None, IfSome}
 use Rattle.std.specs.List.{list_all}
 use Rattle.std.specs.Option.{option_map_or}
-use Rattle.std.proofs.lemmas.Bool.{and_parts}
+use Rattle.std.proofs.lemmas.Bool.{and_parts, ltb-true}
 use Rattle.std.proofs.lemmas.Bool.Decides.{nat_tests}
 use Rattle.std.proofs.lemmas.Option.{same_Some}
 use Rattle.rulebook.specs.Pairs.{are_distinct}
@@ -22,7 +22,7 @@ use Rattle.balance_rule.proofs.Movers.{found-place}
 use Rattle.tournament_rules.specs.Moving.{is_called, after_taking}
 use Rattle.tournament_rules.proofs.Breaks.{named-found, taking, still_free}
 use Rattle.tournament_rules.proofs.Balances.{mover}
-use Rattle.tournament_rules.proofs.Moved.{moved, all-moved}
+use Rattle.tournament_rules.proofs.Moved.{moved, all-moved, none_gone}
 use Rattle.floor_core.specs.Moves.{AreFree}
 use Rattle.tournament_rules.proofs.Stayed.{all_stay}
 
@@ -34,24 +34,11 @@ empty-lifted players number place empty =
     (all_stay (λ other. not (sits_in place other)) (is_numbered number) players
     (none-find (sits_in place) players empty))
 
--- Whom a filter takes away is none of the rest.
-none_left : {A : Type 0} (gone : A → Bool) (items : List A)
-    → list_all (λ item. not (gone item)) (filter (λ item. not (gone item)) items) ≡ true
-none_left gone [] = refl
-none_left gone (item ∷ items) = by_test (gone item) refl (none_left gone items)
-  where
-    by_test : (b : Bool) → gone item ≡ b
-        → list_all (λ item. not (gone item)) (filter (λ item. not (gone item)) items) ≡ true
-        → list_all (λ item. not (gone item)) (cond (not b) (item ∷ filter (λ item. not (gone item)) items)
-        (filter (λ item. not (gone item)) items)) ≡ true
-    by_test true is rest = rest
-    by_test false is rest = rw (is, rest) refl
-
 -- Who left sits nowhere.
 pub stands-lifted : (players : List Seated) (number : ℕ) → place_of (lifted number players) number ≡ None
 stands-lifted players number =
     ap (option_map (λ (seated : Seated). seated.place))
-    (find-none (is_numbered number) (lifted number players) (none_left (is_numbered number) players))
+    (find-none (is_numbered number) (lifted number players) (none_gone (is_numbered number) players))
 
 -- Who is found by a name at a table is found by his number.
 pub called-sits : (seating : Seating) (table : ℕ) (name : List ℕ) (found : Option Seated) → IsSeating seating
@@ -67,11 +54,8 @@ pub called-entry : (seating : Seating) (table : ℕ) (name : List ℕ) (found : 
     → IfSome found (λ player. player.player < MOST_ENTRIES)
 called-entry seating table name None lawful is = tt
 called-entry seating table name (Some player) lawful is =
-    below player.player (found-all (is_numbered player.player) is_entry seating.players player lawful.entries
-    (named-found seating.players table name player lawful.apart (sym is)))
-  where
-    below : (n : ℕ) → nat_lt n MOST_ENTRIES ≡ true → n < MOST_ENTRIES
-    below n less = grind (arith, nat_tests)
+    ltb-true player.player MOST_ENTRIES (found-all (is_numbered player.player) is_entry seating.players player
+    lawful.entries (named-found seating.players table name player lawful.apart (sym is)))
 
 -- Once the player of a name took the first of free places, the others are free.
 pub free-rest : (seating : Seating) (table : ℕ) (name : List ℕ) (place : Place) (places : List Place)

@@ -5,6 +5,7 @@ use Rattle.std.specs.List.{list_all}
 use Rattle.std.proofs.lemmas.Bool.{and_parts}
 use Rattle.std.proofs.lemmas.Bool.Decides.{nat_tests}
 use Rattle.rulebook.specs.Checks.{first_that_holds}
+use Rattle.rulebook.proofs.Tests.{some_there}
 use Rattle.card_set.specs.declared.card.Card.{Card}
 use Rattle.card_set.specs.declared.card.CardRow.{CardRow}
 use Rattle.chip_race.specs.declared.race_result.RaceResult.{RaceResult}
@@ -22,7 +23,6 @@ use Rattle.tournament_rules.specs.Effects.{with_table, raced}
 use Rattle.tournament_rules.specs.Players.{with_rest}
 use Rattle.tournament_rules.specs.Racing.{stacks_at, unit_after, race_at, restacked, raced_off}
 use Rattle.tournament_rules.specs.Valid.{IsValid}
-use Rattle.tournament_rules.proofs.Passed.{some_there}
 use Rattle.tournament_rules.proofs.Races.{CanRace, can_race}
 
 -- Nobody sits in a seat that the tables do not have.

@@ -1,13 +1,14 @@
 -- The book once two tables are balanced, and once a table broke.
-use Rattle.std.proofs.Common.{◌≡◌, ◌∙◌, refl, ap, ℕ, ◌+◌, ◌≤◌, ◌==◌, Bool, true, cond, List, [], ◌∷◌, arith}
+use Rattle.std.proofs.Common.{◌≡◌, ◌∙◌, refl, ap, ℕ, ◌+◌, ◌≤◌, Bool, true, cond, List, [], ◌∷◌, arith}
 use Rattle.std.specs.Prelude.{count_by, Some, None}
-use Rattle.std.proofs.lemmas.Bool.{and_from, eq-eqb}
+use Rattle.std.proofs.lemmas.Bool.{and_from}
 use Rattle.rulebook.specs.Checks.{first_that_holds}
 use Rattle.rulebook.specs.Pairs.{are_distinct}
+use Rattle.rulebook.proofs.Tests.{count_by-cons}
 use Rattle.seat_book.specs.declared.place.Place.{Place}
 use Rattle.seat_book.specs.declared.seated.Seated.{Seated}
 use Rattle.seat_book.specs.Seatings.{Seating}
-use Rattle.seat_book.proofs.Passing.{count_by-cons}
+use Rattle.seat_book.proofs.PlaceOrder.{same_place-itself}
 use Rattle.balance_rule.specs.declared.balance.Move.{Move}
 use Rattle.balance_rule.specs.Balance.{balance_move, after_move}
 use Rattle.balance_rule.specs.Filling.{is_same_place}
@@ -52,10 +53,6 @@ broken_state book table number places names bare seats same bare_is after =
     ap (λ (s : Seating). record book { seating = s; accepted = book.accepted + 1 })
     (after ∙ (ap (after_all number names places) bare_is
     ∙ ap (λ (n : ℕ). after_all n names places (with_table book.seating n forgotten)) same))
-
-same_place-itself : (place : Place) → is_same_place place place ≡ true
-same_place-itself place = and_from (place.table == place.table) (place.seat == place.seat)
-    (eq-eqb place.table place.table refl) (eq-eqb place.seat place.seat refl)
 
 -- Where each place comes once at most, no two are one.
 apart_once : (places : List Place) → ((place : Place) → count_by (is_same_place place) places ≤ 1)

@@ -1,20 +1,13 @@
 -- What is left of the hands once the tournament is stopped.
-use Rattle.std.proofs.Common.{◌≡◌, ◌∙◌, refl, sym, ap, ℕ, suc, List, [], ◌∷◌, length, map, arith}
-use Rattle.std.specs.Prelude.{replicate, slice_index_or, Option, None}
+use Rattle.std.proofs.Common.{◌≡◌, ◌∙◌, refl, sym, ap, ℕ, List, length, map, arith}
+use Rattle.std.specs.Prelude.{replicate, Option, None}
 use Rattle.table_engine.specs.Hands.{HandTerms}
 use Rattle.tournament_rules.specs.Books.{BookState}
 use Rattle.tournament_rules.specs.Effects.{stopped_book}
 use Rattle.tournament_rules.specs.Valid.{IsValid}
 use Rattle.tournament_rules.specs.Apart.{start_of}
 use Rattle.tournament_rules.proofs.Ends.{left-void_first, valid_stopped, none_out-stopped}
-use Rattle.tournament_rules.proofs.Layers.{hands_length, map_empty}
-
--- Where nothing is found at any table, all slots are empty.
-all_empty : {A : Type 0} (slots : List (Option A)) → ((table : ℕ) → slice_index_or slots table None ≡ None) → slots
-    ≡ replicate (length slots) None
-all_empty [] none = refl
-all_empty (slot ∷ slots) none = let first : slot ≡ None =
-    none 0 in rw (first, ← all_empty slots (λ table. none (suc table))) refl
+use Rattle.tournament_rules.proofs.Layers.{all_empty, hands_length, map_empty}
 
 -- A stop leaves no hand out, and each table keeps its slot.
 pub stopped_hands : (book : BookState) (hands : List (Option HandTerms)) → IsValid book → map start_of hands ≡ book.out

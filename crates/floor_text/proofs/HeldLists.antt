@@ -1,9 +1,9 @@
 -- Parts of the buffer in which bytes wait.
-use Rattle.std.proofs.Common.{◌≡◌, ℕ, zero, suc, Bool, ◌+◌, ◌-◌, ◌<◌, ◌≤◌, true, false, cond, List, [], ◌∷◌, ◌++◌, length, get_or, take, drop, Option, Some, None, MatchOption, refl, sym, ap, ◌∙◌, subst, inl, inr, arith, length-take, length-drop}
+use Rattle.std.proofs.Common.{◌≡◌, ℕ, zero, suc, Bool, ◌+◌, ◌-◌, ◌<◌, ◌≤◌, false, cond, List, [], ◌∷◌, ◌++◌, length, get_or, take, drop, Option, Some, None, MatchOption, refl, sym, ap, ◌∙◌, subst, inl, inr, arith, length-take, length-drop}
 use Rattle.std.specs.Prelude.{not, slice_range, position, min, nat_lt}
 use Rattle.std.specs.List.{list_any, position_or_len, copy_within}
 use Rattle.std.proofs.Math.Seq.{take-add}
-use Rattle.std.proofs.lemmas.Bool.{cases_Bool, cases_lt, cases_eq}
+use Rattle.std.proofs.lemmas.Bool.{cases_lt, cases_eq, false_from_ne_true}
 use Rattle.std.proofs.lemmas.Bool.Decides.{nat_tests}
 use Rattle.std.proofs.lemmas.List.{drop-drop, drop-take, take-take, take_all, length-take-le, take_at}
 use Rattle.std.proofs.lemmas.List.Edits.{take-paste, length-between}
@@ -46,9 +46,6 @@ position_within at len within = grind (arith, nat_tests)
 position_past : (at len : ℕ) → len ≤ at → cond (nat_lt at len) (Some at) None ≡ None
 position_past at len past = grind (arith, nat_tests)
 
-is_another : (byte b : ℕ) → ¬ (is_byte byte b ≡ true) → is_byte byte b ≡ false
-is_another byte b passes = elim (cases_Bool (is_byte byte b)) [ inl found ↦ absurd (passes found) | inr other ↦ other ]
-
 -- The first index that holds a byte is the first that passes the test for it.
 pub first_byte_is_position : (byte : ℕ) (bytes : List ℕ) (r : Option ℕ) → IsFirstByte (is_byte byte) bytes r
     → r ≡ position (is_byte byte) bytes
@@ -56,13 +53,15 @@ first_byte_is_position byte bytes None nowhere =
     let test : ℕ → Bool = is_byte byte in
     let all : position_or_len test bytes ≡ length bytes =
     position_or_len_is test bytes (length bytes) 0 (omega arith)
-    (λ k before. is_another byte (get_or bytes k 0) (nowhere k (omega arith) before)) (λ past. absurd (omega arith)) in
+    (λ k before. false_from_ne_true (is_byte byte (get_or bytes k 0)) (nowhere k (omega arith) before))
+    (λ past. absurd (omega arith)) in
     sym (position_past (position_or_len test bytes) (length bytes) (omega (arith, all)))
 first_byte_is_position byte bytes (Some at) found =
     let test : ℕ → Bool = is_byte byte in
     let first : position_or_len test bytes ≡ at =
     position_or_len_is test bytes at 0 (omega (arith, found.0.high))
-    (λ k before. is_another byte (get_or bytes k 0) (found.0.before k (omega arith) before)) (λ within. found.1) in
+    (λ k before. false_from_ne_true (is_byte byte (get_or bytes k 0)) (found.0.before k (omega arith) before))
+    (λ within. found.1) in
     let high : position_or_len test bytes < length bytes = omega (arith, first, found.0.high) in
     sym (position_within (position_or_len test bytes) (length bytes) high ∙ ap Some first)
 

@@ -2,15 +2,12 @@
 use Rattle.std.proofs.Common.{◌≡◌, ℕ, ◌<◌, ◌≤◌, Bool, true, false, cond, leb, ◌&&◌, List, take, Some, None, refl, sym, ap, ◌∙◌, arith}
 use Rattle.std.specs.Fmt.{decimal}
 use Rattle.std.specs.Str.Parse.{digits_value}
+use Rattle.std.proofs.lemmas.Bool.{and_parts}
 use Rattle.std.proofs.lemmas.Bool.Decides.{nat_tests}
 use Rattle.std.proofs.lemmas.Option.{cond_some}
 use Rattle.std.proofs.lemmas.Str.Parse.{digits_value-take-le}
 use Rattle.floor_text.specs.Numbers.{IsLineNumber, is_spelled, number_of}
 use Rattle.floor_text.proofs.SpelledNumbers.{decimal_of_spelled, spelled_from_decimal, value_of_spelling}
-
-and_parts : (a b : Bool) → (a && b) ≡ true → (a ≡ true) × (b ≡ true)
-and_parts true b h = (refl, h)
-and_parts false b h = absurd cc
 
 pub number_found : (bytes : List ℕ) (n : ℕ) → number_of bytes ≡ Some n → IsLineNumber n × (bytes ≡ decimal n)
 unfolding number_of

@@ -5,7 +5,7 @@ use Rattle.std.specs.List.{flat_map}
 use Rattle.std.proofs.lemmas.List.{take_more, take_all}
 use Rattle.std.proofs.lemmas.Grind.{flat_map-append}
 use Rattle.card_set.specs.declared.card.Card.{Card}
-use Rattle.card_choices.proofs.ListOrder.{max_assoc}
+use Rattle.card_choices.proofs.ListOrder.{max_assoc, max_upper}
 use Rattle.hand_rank.specs.Values.{five_card_value}
 use Rattle.hand_rank.specs.BestHigh.{greater, greatest, best_high}
 
@@ -13,11 +13,7 @@ use Rattle.hand_rank.specs.BestHigh.{greater, greatest, best_high}
 pub best_high-append : (some others : List (List Card))
     → best_high (some ++ others) ≡ greater (best_high some) (best_high others)
 unfolding best_high
-best_high-append [] others = sym (from_none (greatest (map five_card_value others)))
-  where
-    from_none : (value : List ℕ) → greater [] value ≡ value
-    from_none [] = refl
-    from_none (x ∷ xs) = refl
+best_high-append [] others = sym (max_upper [] (greatest (map five_card_value others)) tt)
 best_high-append (cards ∷ some) others =
     ap (greater (five_card_value cards)) (best_high-append some others)
     ∙ sym (max_assoc (five_card_value cards) (best_high some) (best_high others))

@@ -1,9 +1,11 @@
 -- How often ranks occur among cards, and among those of a suit.
-use Rattle.std.proofs.Common.{◌≡◌, ℕ, zero, suc, ◌+◌, ◌<◌, ◌≤◌, ◌⊎◌, inr, Bool, true, false, ◌&&◌, ◌||◌, cond, eqb, List, [], ◌∷◌, ◌++◌, length, refl, sym, ap, ap₂, ◌∙◌, subst, zero-le, eqb-true, eq-eqb, append_assoc, append-nil, arith}
+use Rattle.std.proofs.Common.{◌≡◌, ℕ, zero, suc, ◌+◌, ◌<◌, ◌≤◌, ◌⊎◌, inr, Bool, true, false, ◌&&◌, cond, eqb, List, [], ◌∷◌, ◌++◌, length, refl, sym, ap, ap₂, ◌∙◌, subst, zero-add, zero-le, eqb-true, eq-eqb, append_assoc, append-nil, arith}
 use Rattle.std.specs.Prelude.{filter}
 use Rattle.std.specs.List.{list_all, list_any}
+use Rattle.std.proofs.lemmas.Bool.{and_parts, or_parts}
 use Rattle.std.proofs.lemmas.Bool.Decides.{nat_tests}
 use Rattle.std.proofs.lemmas.List.Elements.{filter-append}
+use Rattle.std.proofs.lemmas.List.Sums.{sum_by-append}
 use Rattle.card_set.specs.declared.card.Card.{Card}
 use Rattle.card_set.specs.Decks.{is_same_card, repeats_a_card}
 use Rattle.card_set.proofs.DeckLaws.{repeats_none-from_AllPairs}
@@ -110,6 +112,11 @@ pub count_of_suit-cons : (suit r : ℕ) (card : Card) (cards : List Card)
     ≡ cond (eqb card.suit suit && eqb card.rank r) 1 0 + count_of_suit cards suit r
 count_of_suit-cons suit r card cards = count_by-cons (λ (c : Card). eqb c.suit suit && eqb c.rank r) card cards
 
+-- how often a suit has a rank among some cards and others
+pub suit-joined : (cards more : List Card) (suit r : ℕ)
+    → count_of_suit (cards ++ more) suit r ≡ count_of_suit cards suit r + count_of_suit more suit r
+suit-joined cards more suit r = sum_by-append (λ (c : Card). cond (eqb c.suit suit && eqb c.rank r) 1 0) cards more
+
 -- the cards of a rank are of four suits
 pub by-suits : (cards : List Card) (r : ℕ)
     → count_of_rank cards r
@@ -136,16 +143,12 @@ not-again : (card : Card) (cards : List Card) (suit r : ℕ) → card.suit ≡ s
     → list_any (is_same_card card) cards ≡ false → count_of_suit cards suit r ≡ 0
 not-again card [] suit r of_suit of_rank none = refl
 not-again card (other ∷ cards) suit r of_suit of_rank none =
-    let parts = or_none (is_same_card card other) (list_any (is_same_card card) cards) none in
+    let parts = or_parts (is_same_card card other) (list_any (is_same_card card) cards) none in
     let later = not-again card cards suit r of_suit of_rank parts.1 in
     count_of_suit-cons suit r other cards
     ∙ ap₂ (λ x y. cond x 1 0 + y) (differs card.rank card.suit other.rank other.suit suit r of_suit of_rank parts.0)
     later
   where
-    or_none : (a b : Bool) → (a || b) ≡ false → (a ≡ false) × (b ≡ false)
-    or_none true b h = absurd cc
-    or_none false b h = (refl, h)
-
     differs : (rank suit_of other other_suit suit r : ℕ) → suit_of ≡ suit → rank ≡ r
         → (eqb rank other && eqb suit_of other_suit) ≡ false → (eqb other_suit suit && eqb other r) ≡ false
     differs rank suit_of other other_suit suit r of_suit of_rank not_same = grind (arith, nat_tests)
@@ -153,7 +156,7 @@ not-again card (other ∷ cards) suit r of_suit of_rank none =
 pub suit-once : (cards : List Card) (suit r : ℕ) → repeats_a_card cards ≡ false → count_of_suit cards suit r ≤ 1
 suit-once [] suit r none = zero-le
 suit-once (card ∷ cards) suit r none =
-    let parts = or_none (list_any (is_same_card card) cards) (repeats_a_card cards) none in
+    let parts = or_parts (list_any (is_same_card card) cards) (repeats_a_card cards) none in
     let later = suit-once cards suit r parts.1 in
     let all = count_of_suit-cons suit r card cards in
     elim (eqb card.suit suit && eqb card.rank r) as (λ b. (eqb card.suit suit && eqb card.rank r) ≡ b
@@ -168,10 +171,6 @@ suit-once (card ∷ cards) suit r none =
           ∙ ap (λ b. cond b 1 0 + count_of_suit cards suit r) other in
           omega arith
     ] refl
-  where
-    or_none : (a b : Bool) → (a || b) ≡ false → (a ≡ false) × (b ≡ false)
-    or_none true b h = absurd cc
-    or_none false b h = (refl, h)
 
 pub distinct-once : (cards : List Card) → AreDistinct cards → AreOnce cards
 distinct-once cards apart suit r = suit-once cards suit r (repeats_none-from_AllPairs cards apart)
@@ -200,15 +199,8 @@ suited-rank suit (card ∷ cards) r =
           ∙ sym (all ∙ ap (λ b. cond (b && eqb card.rank r) 1 0 + count_of_suit cards suit r) is)
       | false ↦ λ is. later
           ∙ sym (all ∙ ap (λ b. cond (b && eqb card.rank r) 1 0 + count_of_suit cards suit r) is
-          ∙ none (count_of_suit cards suit r))
+          ∙ zero-add (count_of_suit cards suit r))
     ] refl
-  where
-    none : (n : ℕ) → 0 + n ≡ n
-    none n = omega arith
-
-and_parts : (a b : Bool) → (a && b) ≡ true → (a ≡ true) × (b ≡ true)
-and_parts true b h = (refl, h)
-and_parts false b h = absurd cc
 
 -- where all cards have a suit, it has all ranks
 pub all-suited : (suit : ℕ) (cards : List Card) (r : ℕ) → list_all (λ (card : Card). eqb card.suit suit) cards ≡ true

@@ -1,5 +1,5 @@
 -- The value of a hand under changes of its cards' order and suits.
-use Rattle.std.proofs.Common.{◌≡◌, ℕ, ◌+◌, Bool, true, false, ◌&&◌, cond, eqb, List, [], ◌∷◌, ◌++◌, refl, sym, ap, ap₂, ◌∙◌, arith, append_assoc, eqb-true, eq-eqb}
+use Rattle.std.proofs.Common.{◌≡◌, ℕ, ◌+◌, true, false, ◌&&◌, cond, eqb, List, [], ◌∷◌, ◌++◌, refl, sym, ap, ap₂, ◌∙◌, arith, append_assoc, eqb-true, eq-eqb}
 use Rattle.std.specs.Prelude.{map, filter}
 use Rattle.std.specs.List.{list_all}
 use Rattle.std.proofs.lemmas.Bool.Decides.{nat_tests}
@@ -7,8 +7,8 @@ use Rattle.std.proofs.lemmas.List.Sums.{sum_by-append, sum_by-cons}
 use Rattle.card_set.specs.declared.card.Card.{Card}
 use Rattle.card_choices.specs.Changes.{AreRenamed, IsOneToOne}
 use Rattle.card_choices.specs.Choices.{choices, holdem_choices, omaha_choices}
-use Rattle.card_choices.proofs.Combined.{combined, IsCombining, AllowsExchange, choices-exchange, choices-renamed, renamed-append, omaha-exchange_hole, omaha-exchange_board, omaha-renamed}
-use Rattle.card_choices.proofs.ListOrder.{upto_both, max_assoc, max-within, max-above_left, max-above_right}
+use Rattle.card_choices.proofs.Combined.{combined, IsCombining, AllowsExchange, list_all-exchange, choices-exchange, choices-renamed, renamed-append, omaha-exchange_hole, omaha-exchange_board, omaha-renamed}
+use Rattle.card_choices.proofs.ListOrder.{upto_both, max_assoc, max_upper, max-within, max-above_left, max-above_right}
 use Rattle.hand_rank.specs.Values.{ranks_down, count_of_rank, ranks_that_occur, distinct_ranks, category_of, run_top, are_of_one_suit, value_by, five_card_value}
 use Rattle.hand_rank.specs.BestHigh.{greater, best_high}
 use Rattle.hand_rank.proofs.CountLaws.{count_of_rank-cons}
@@ -20,12 +20,8 @@ greater-combining = record {
   comm = λ a b. upto_both (greater a b) (greater b a)
       (max-within a b (greater b a) (max-above_right b a) (max-above_left b a))
       (max-within b a (greater a b) (max-above_right a b) (max-above_left a b));
-  start = from_none;
+  start = λ value. max_upper [] value tt;
 }
-  where
-    from_none : (value : List ℕ) → greater [] value ≡ value
-    from_none [] = refl
-    from_none (x ∷ xs) = refl
 
 pub best_high-combined : (hands : List (List Card)) → best_high hands ≡ combined greater [] five_card_value hands
 unfolding best_high
@@ -64,16 +60,6 @@ count-exchange r front a b back =
   where
     turned : (x y z : ℕ) → x + (y + z) ≡ y + (x + z)
     turned x y z = omega arith
-
-and-turned : (x y z : Bool) → (x && (y && z)) ≡ (y && (x && z))
-and-turned true true z = refl
-and-turned true false z = refl
-and-turned false true z = refl
-and-turned false false z = refl
-
-list_all-exchange : {A : Type 0} (test : A → Bool) → AllowsExchange (list_all test)
-list_all-exchange test [] a b back = and-turned (test a) (test b) (list_all test back)
-list_all-exchange test (x ∷ front) a b back = ap (λ y. test x && y) (list_all-exchange test front a b back)
 
 one_suit-exchange : AllowsExchange are_of_one_suit
 one_suit-exchange [] a b back =

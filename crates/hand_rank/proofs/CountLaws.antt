@@ -1,8 +1,8 @@
 -- How often ranks occur among some cards.
-use Rattle.std.proofs.Common.{◌≡◌, ℕ, zero, suc, ◌&&◌, ltb, ◌+◌, ◌-◌, ◌<◌, ◌≤◌, Bool, true, false, cond, eqb, List, [], ◌∷◌, ◌++◌, length, take, drop, get_or, refl, sym, ap, ap₂, ◌∙◌, arith, length-append, append_assoc, append-nil}
+use Rattle.std.proofs.Common.{◌≡◌, ℕ, zero, suc, ltb, ◌+◌, ◌-◌, ◌<◌, ◌≤◌, Bool, true, false, cond, eqb, List, [], ◌∷◌, ◌++◌, length, take, drop, get_or, refl, sym, ap, ap₂, ◌∙◌, arith, length-append, append_assoc, append-nil}
 use Rattle.std.specs.Prelude.{Option, map, filter, count_by, sum_by}
 use Rattle.std.specs.List.{list_all}
-use Rattle.std.proofs.lemmas.Bool.{ltb-true}
+use Rattle.std.proofs.lemmas.Bool.{and_parts, ltb-true}
 use Rattle.std.proofs.lemmas.Bool.Decides.{nat_tests}
 use Rattle.std.proofs.lemmas.List.{drop_all, take_all, map-append}
 use Rattle.std.proofs.lemmas.List.Sums.{sum_by-cons, length-filter}
@@ -135,16 +135,13 @@ value-by cards ranks counts category are_ranks are_counts is =
 pub rank-in_table : (i : ℕ) → i < length ranks_down → get_or ranks_down i 0 < 15
 rank-in_table i within = below ranks_down refl i within
   where
-    both : (a b : Bool) → (a && b) ≡ true → (a ≡ true) × (b ≡ true)
-    both true b h = (refl, h)
-    both false b h = absurd cc
-
     below : (items : List ℕ) → list_all (λ rank. ltb rank 15) items ≡ true → (i : ℕ) → i < length items
         → get_or items i 0 < 15
     below [] all i within = absurd (omega arith)
-    below (rank ∷ items) all zero within = ltb-true rank 15 (both (ltb rank 15) (list_all (λ r. ltb r 15) items) all).0
-    below (rank ∷ items) all (suc i) within = below items (both (ltb rank 15) (list_all (λ r. ltb r 15) items) all).1 i
-        (omega arith)
+    below (rank ∷ items) all zero within =
+        ltb-true rank 15 (and_parts (ltb rank 15) (list_all (λ r. ltb r 15) items) all).0
+    below (rank ∷ items) all (suc i) within =
+        below items (and_parts (ltb rank 15) (list_all (λ r. ltb r 15) items) all).1 i (omega arith)
 
 -- one more rank beside how often it occurs
 pub beside-more : (cards : List Card) (ranks times : List ℕ) (rank often : ℕ) → times ≡ map (count_of_rank cards) ranks

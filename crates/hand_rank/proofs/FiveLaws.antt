@@ -89,10 +89,6 @@ lengths cards often is = record {
   one = let all = often-parts cards 1 in let same = ap (λ o. occurs o 1) is in omega arith;
 }
 
-pub no_ranks : (ranks : List ℕ) → length ranks ≡ 0 → ranks ≡ []
-no_ranks [] is = refl
-no_ranks (rank ∷ ranks) is = absurd (omega arith)
-
 -- the one rank of a set of one
 pub falling-one : (n top : ℕ) → top < n → falling (λ r. eqb r top) n ≡ top ∷ []
 unfolding falling

@@ -1,7 +1,8 @@
 -- The hands of a pair of hole cards with three cards of a board.
-use Rattle.std.proofs.Common.{◌≡◌, ℕ, zero, suc, ◌+◌, ◌-◌, ◌<◌, ◌≤◌, inl, Bool, true, false, ◌&&◌, eqb, leb, ltb, cond, List, [], ◌∷◌, ◌++◌, length, Some, None, refl, sym, ap, ◌∙◌, subst, zero-le, le_trans, le_of_eq, eqb-true, leb-true, length-append, arith}
+use Rattle.std.proofs.Common.{◌≡◌, ℕ, zero, suc, ◌+◌, ◌-◌, ◌<◌, ◌≤◌, inl, Bool, true, false, ◌&&◌, eqb, leb, ltb, cond, List, [], ◌∷◌, ◌++◌, length, Some, None, refl, sym, ap, ◌∙◌, subst, zero-add, zero-le, le_trans, le_of_eq, eqb-true, eq-eqb, leb-true, length-append, arith}
 use Rattle.std.specs.Prelude.{Option, map}
 use Rattle.std.proofs.lemmas.Bool.Decides.{nat_tests}
+use Rattle.std.proofs.lemmas.Option.{same_Some}
 use Rattle.card_set.specs.declared.card.Card.{Card}
 use Rattle.card_choices.proofs.Combined.{combined}
 use Rattle.card_choices.proofs.ListOrder.{Upto, upto_through, upto_both, max_upper, max-above_left}
@@ -20,7 +21,7 @@ use Rattle.hand_rank.proofs.Needs.{times, length-times, occurs-times}
 use Rattle.hand_rank.proofs.OmahaLaws.{choice-joined, choice-once, itself}
 use Rattle.hand_rank.proofs.PartLaws.{count-joined}
 use Rattle.hand_rank.proofs.Sections.{total, total-same}
-use Rattle.hand_rank.proofs.ShownValues.{AreShown}
+use Rattle.hand_rank.proofs.ShownValues.{AreShown, head}
 
 -- five cards that two hole cards and some three of a board are
 pub record IsHandOf (hole board five : List Card) : Type 0 where
@@ -91,11 +92,8 @@ occurs-listed often (suc n) r =
           rw (not_yet, now, is) (omega arith)
       | false ↦ λ apart.
           let alike : ltb r n ≡ ltb r (suc n) = grind (arith, nat_tests) in
-          rw alike (zero_more (cond (ltb r (suc n)) (often r) 0))
+          rw alike (zero-add (cond (ltb r (suc n)) (often r) 0))
     ]) refl
-  where
-    zero_more : (m : ℕ) → 0 + m ≡ m
-    zero_more m = omega arith
 
 -- what is nowhere more and comes to as much is the same
 pub total-least : (a b : ℕ → ℕ) (n : ℕ) → ((r : ℕ) → r < n → a r ≤ b r) → total a n ≤ total b n
@@ -248,11 +246,8 @@ some-above hole board three is count =
 in-number : (number : ℕ) (five : List Card) (ranks : List ℕ) → five_card_value five ≡ number ∷ ranks
     → value_in number five ≡ five_card_value five
 in-number number five ranks is =
-    ap (λ v. cond (has_number number v) v []) is ∙ same (number ∷ ranks) (itself_number number) ∙ sym is
+    ap (λ v. cond (has_number number v) v []) is ∙ same (number ∷ ranks) (eq-eqb number number refl) ∙ sym is
   where
-    itself_number : (n : ℕ) → eqb n n ≡ true
-    itself_number n = grind (arith, nat_tests)
-
     same : (v : List ℕ) → eqb number number ≡ true → cond (eqb number number) v [] ≡ v
     same v is = rw is refl
 
@@ -326,12 +321,9 @@ some-best number shown hole board category sized reach bound = record {
   under = max_upper (shown_value shown) (best_high (hands hole board))
       (upto_through (shown_value shown) (five_card_value (hole ++ reach.three)) (best_high (hands hole board)) reach.up
       (some-above hole board reach.three reach.choice reach.count));
-  sized = λ other is. subst (λ s. IsSized s) (same other is) sized;
-  category = λ other is. subst (λ (s : Shown). category_number s.category ≡ number) (same other is) category;
+  sized = λ other is. subst (λ s. IsSized s) (same_Some shown other is) sized;
+  category = λ other is. subst (λ (s : Shown). category_number s.category ≡ number) (same_Some shown other is) category;
 }
-  where
-    same : (other : Shown) → Some shown ≡ Some other → shown ≡ other
-    same other is = cc
 
 -- no hand is of a category from a number on
 pub record NoneFrom (number : ℕ) (hole board : List Card) : Type 0 where
@@ -350,9 +342,6 @@ none-beyond hole board = record {
       let same : n ≡ five.number = head (sym at ∙ five.is) in
       absurd (omega arith)));
 }
-  where
-    head : {x y : ℕ} {xs ys : List ℕ} → x ∷ xs ≡ y ∷ ys → x ≡ y
-    head is = cc
 
 -- and none from the next lower number on, where none is of that category either
 pub none-more : (number : ℕ) (best : Option Shown) (hole board : List Card) → NoneFrom (suc number) hole board

@@ -1,5 +1,5 @@
 -- A pair of hole cards with a board, as it is made.
-use Rattle.std.proofs.Common.{◌≡◌, ℕ, ◌+◌, true, ◌&&◌, ◌||◌, eqb, leb, cond, List, [], ◌∷◌, Some, refl, sym, ap, ◌∙◌, subst, lit≤, arith}
+use Rattle.std.proofs.Common.{◌≡◌, ℕ, ◌+◌, true, ◌&&◌, ◌||◌, eqb, leb, cond, List, [], ◌∷◌, Some, refl, sym, ap, ◌∙◌, subst, add-zero, lit≤, arith}
 use Rattle.std.specs.Prelude.{filter}
 use Rattle.std.proofs.lemmas.Bool.Decides.{nat_tests}
 use Rattle.card_set.specs.declared.card.Card.{Card}
@@ -40,7 +40,4 @@ suited-ranks of_board more bits one other cards same are with_one with_other =
 
 -- how often ranks occur in one card
 pub one-count : (card : Card) (r : ℕ) → count_of_rank (card ∷ []) r ≡ cond (eqb card.rank r) 1 0
-one-count card r = count_of_rank-cons card [] r ∙ plain (cond (eqb card.rank r) 1 0)
-  where
-    plain : (n : ℕ) → n + 0 ≡ n
-    plain n = omega arith
+one-count card r = count_of_rank-cons card [] r ∙ add-zero (cond (eqb card.rank r) 1 0)

@@ -1,6 +1,7 @@
 -- The ranks that may occur most often, category by category.
 use Rattle.std.proofs.Common.{◌≡◌, ℕ, suc, ◌+◌, ◌<◌, ◌≤◌, inl, inr, Bool, true, false, ◌&&◌, not, eqb, leb, List, [], ◌∷◌, ◌++◌, length, Some, None, refl, sym, ap, ◌∙◌, subst, le_trans, eqb-true, leb-true, le-leb, arith}
 use Rattle.std.specs.Prelude.{Option}
+use Rattle.std.proofs.lemmas.Bool.{and_from, and_parts}
 use Rattle.std.proofs.lemmas.Bool.Decides.{nat_tests}
 use Rattle.card_set.specs.declared.card.Card.{Card}
 use Rattle.hand_rank.specs.declared.held.Held.{Held}
@@ -18,7 +19,7 @@ use Rattle.hand_rank.proofs.LedLaws.{MayLead, IsForm, few-hole, led-best, led-no
 use Rattle.hand_rank.proofs.PickLaws.{highest-is, highest-none}
 use Rattle.hand_rank.proofs.Sections.{falling-none, falling-leads, falling-same}
 use Rattle.hand_rank.proofs.ShapeLaws.{IsLed, rank-within}
-use Rattle.hand_rank.proofs.SoManyLaws.{bit, falling-fewer, falling-but_one, some-rank}
+use Rattle.hand_rank.proofs.SoManyLaws.{bit, but_one-itself, but_one-other, falling-fewer, falling-but_one, some-rank}
 
 -- how many ranks the hole cards have beside one
 abbrev beside_one : Held → ℕ → ℕ
@@ -81,16 +82,6 @@ leaders-best number k j c bits rank held hole board shown from form is leaders t
     (leaders.may rank at.below at.passes)
     (λ five ranks this led. let below = led.below in at.above led.rank (omega arith) (leaders.all five ranks this led))
 
--- both hold where their conjunction does
-pub and_parts : (a b : Bool) → (a && b) ≡ true → (a ≡ true) × (b ≡ true)
-and_parts true b is = (refl, is)
-and_parts false b is = absurd cc
-
--- and it holds where both do
-pub and_both : (a b : Bool) → a ≡ true → b ≡ true → (a && b) ≡ true
-and_both true b one other = other
-and_both false b one other = absurd cc
-
 next-differs : (r : ℕ) → r ≡ suc r → ⊥
 next-differs r is = omega arith
 
@@ -104,19 +95,11 @@ pub beside-few : (held : Held) (hole board : List Card) (rank : ℕ) → IsHeld 
 beside-few held hole board rank is below some =
     let p = has_rank held.pair.once.bits in
     let q : ℕ → Bool = λ r. p r && not (eqb r rank) in
-    let change = falling-but_one p q rank 16 below (λ r apart. kept (p r) r apart) in
+    let change = falling-but_one p q rank 16 below (λ r apart. but_one-other (p r) r rank apart) in
     let few = few-hole held.pair.once.bits hole is.two is.pair.of_once in
     let a : bit (p rank) ≡ 1 = ap bit (is.pair.of_once.at rank below ∙ le-leb 1 (count_of_rank hole rank) some) in
-    let b : bit (q rank) ≡ 0 = ap bit (itself (p rank)) in
+    let b : bit (q rank) ≡ 0 = ap bit (but_one-itself (p rank) rank) in
     omega (arith, change, few, a, b)
-  where
-    kept : (b : Bool) (r : ℕ) → (r ≡ rank → ⊥) → (b && not (eqb r rank)) ≡ b
-    kept true r apart = grind (arith, nat_tests)
-    kept false r apart = refl
-
-    itself : (b : Bool) → (b && not (eqb rank rank)) ≡ false
-    itself true = grind (arith, nat_tests)
-    itself false = refl
 
 beside-all : (held : Held) (hole board : List Card) (rank : ℕ) → IsHeld held hole board → beside_one held rank ≤ 2
 beside-all held hole board rank is =
@@ -201,7 +184,7 @@ leaders-four held hole board bits is are = record {
       let often = led.often in
       let up = hand.most led.rank in
       let few = from-board hole board five led.rank hand in
-      are led.rank ∙ and_both (has_rank held.all.four.bits led.rank) (has_rank held.pair.once.bits led.rank)
+      are led.rank ∙ and_from (has_rank held.all.four.bits led.rank) (has_rank held.pair.once.bits led.rank)
       (is.all.of_four.at led.rank (omega arith) ∙ le-leb 4 (count_of_rank (hole ++ board) led.rank) (omega arith))
       (is.pair.of_once.at led.rank (omega arith) ∙ le-leb 1 (count_of_rank hole led.rank) (omega arith));
 }
@@ -257,7 +240,7 @@ leaders-alike held hole board bits of_all rank k c is two more has alike are = r
         | inr once ↦ absurd (omega arith)
       ] in
       let at : count_of_rank hole led.rank ≡ 2 = ap (count_of_rank hole) (sym same) ∙ twice in
-      are led.rank ∙ and_both (has_rank of_all led.rank) (has_rank held.pair.twice.bits led.rank)
+      are led.rank ∙ and_from (has_rank of_all led.rank) (has_rank held.pair.twice.bits led.rank)
       (has.at led.rank (omega arith) ∙ le-leb k (count_of_rank (hole ++ board) led.rank) (omega arith))
       (is.pair.of_twice.at led.rank (omega arith) ∙ le-leb 2 (count_of_rank hole led.rank) (omega arith));
 }
@@ -309,7 +292,7 @@ leaders-full held hole board bits is apart are = record {
       let times = other.1 in
       let both = hand.fewer led.rank other.0 (λ same. let at = ap (count_of_rank five) same in absurd (omega arith)) in
       let few = apart other.0 in
-      are led.rank ∙ and_both (has_rank held.all.thrice.bits led.rank) (has_rank held.pair.once.bits led.rank)
+      are led.rank ∙ and_from (has_rank held.all.thrice.bits led.rank) (has_rank held.pair.once.bits led.rank)
       (is.all.of_thrice.at led.rank (omega arith) ∙ le-leb 3 (count_of_rank (hole ++ board) led.rank) (omega arith))
       (is.pair.of_once.at led.rank (omega arith) ∙ le-leb 1 (count_of_rank hole led.rank) (omega arith));
 }

@@ -1,6 +1,7 @@
 -- The best hand in which one rank occurs most often: four of a kind, a full house, three of a kind and one pair.
 use Rattle.std.proofs.Common.{◌≡◌, ℕ, zero, suc, ◌+◌, ◌*◌, ◌<◌, ◌≤◌, ◌⊎◌, inl, inr, Bool, true, false, ◌&&◌, not, eqb, leb, cond, List, [], ◌∷◌, ◌++◌, length, Some, None, refl, sym, ap, ap₂, ◌∙◌, subst, zero-le, le_refl, eqb-true, leb-true, le-leb, lit≤, arith}
 use Rattle.std.specs.Prelude.{Option}
+use Rattle.std.proofs.lemmas.Bool.{eqb-false}
 use Rattle.std.proofs.lemmas.Bool.Decides.{nat_tests}
 use Rattle.card_set.specs.declared.card.Card.{Card}
 use Rattle.card_choices.proofs.ListOrder.{Upto}
@@ -20,7 +21,7 @@ use Rattle.hand_rank.proofs.PickLaws.{Has, Falls, without-other}
 use Rattle.hand_rank.proofs.Sections.{total, total-same, total-without, IsShape}
 use Rattle.hand_rank.proofs.ShapeLaws.{IsLed, led-four, led-full, led-three, led-one}
 use Rattle.hand_rank.proofs.ShownValues.{AreShown, number_of, shown-above}
-use Rattle.hand_rank.proofs.SoManyLaws.{bit, either_way, falling-fewer, falling-but_one, both-are}
+use Rattle.hand_rank.proofs.SoManyLaws.{bit, either_way, falling-fewer, falling-but_one, both-are, both-from, but_one-itself, but_one-other}
 
 -- a number so many times
 abbrev pub rep : ℕ → ℕ → List ℕ
@@ -89,9 +90,6 @@ beside-15 hole board j c rank others some are =
     let least = are.within 15 (omega arith) is in absurd (omega arith)) (λ is. is)
 
 -- what a test tells apart differs
-pub differ : (r x : ℕ) → eqb r x ≡ false → r ≡ x → ⊥
-differ r x apart e = let bad : eqb r x ≡ true = grind (arith, nat_tests) in absurd cc
-
 -- some three cards of the board make this
 led-reached : (hole board : List Card) (k j c rank : ℕ) (others : ℕ → Bool) → length hole ≡ 2 → length board ≡ 5
     → 1 ≤ j → k + c * j ≡ 5 → MayLead hole board k j rank → AreBeside hole board j c rank others
@@ -132,8 +130,8 @@ led-reached hole board k j c rank others two five some sum lead are =
                     → count_of_rank hole r ≤ cond (others r) j 0) [
                       | true ↦ λ some.
                           let has = are.among r (grind (arith, nat_tests)) (leb-true 1 (count_of_rank hole r) some)
-                          (differ r rank apart) in
-                          rw has (lead.rest r (differ r rank apart))
+                          (eqb-false r rank apart) in
+                          rw has (lead.rest r (eqb-false r rank apart))
                       | false ↦ λ nothing. let zero_times : count_of_rank hole r ≡ 0 = grind (arith, nat_tests) in
                           subst (λ n. n ≤ cond (others r) j 0) (sym zero_times) zero-le
                     ] refl
@@ -253,21 +251,16 @@ asked : (held : Held) (hole board : List Card) (most from : RankSet) (j c rank :
     → AreSoMany others (λ r. has_rank from.bits r && not (has_rank most.bits r))
     (λ r. has_rank held.pair.once.bits r && not (has_rank most.bits r)) c
 asked held hole board most from j c rank others is is_most is_from are = record {
-  within = λ r below has. both (has_rank from.bits r) (has_rank most.bits r)
+  within = λ r below has. both-from (has_rank from.bits r) (has_rank most.bits r)
       (is_from.at r below ∙ le-leb j (count_of_rank (hole ++ board) r) (are.within r below has))
       (is_most r ∙ either_way (eqb r rank) (eqb r rank ≡ false)
       (λ same. let is_not = ap others (eqb-true r rank same) ∙ are.apart in absurd cc) (λ differs. differs));
   among = λ r below has.
       let parts = both-are (has_rank held.pair.once.bits r) (has_rank most.bits r) has in
       are.among r below (leb-true 1 (count_of_rank hole r) (sym (is.pair.of_once.at r below) ∙ parts.0))
-      (differ r rank (sym (is_most r) ∙ parts.1));
+      (eqb-false r rank (sym (is_most r) ∙ parts.1));
   many = are.many;
 }
-  where
-    both : (a b : Bool) → a ≡ true → b ≡ false → (a && not b) ≡ true
-    both true false p q = refl
-    both true true p q = absurd cc
-    both false b p q = absurd cc
 
 -- and what is had of those that are found
 found-beside : (held : Held) (hole board : List Card) (most from : RankSet) (j c rank : ℕ) (others : ℕ → Bool)
@@ -284,17 +277,12 @@ found-beside held hole board most from j c rank others is below is_most is_from 
       let itself : eqb rank rank ≡ true = grind (arith, nat_tests) in
       let bad : has_rank most.bits rank ≡ true = is_most rank ∙ itself in
       let is_not = parts.1 in absurd cc) (λ is_not. is_not);
-  among = λ r under has differs. are.among r under (both (has_rank held.pair.once.bits r) (has_rank most.bits r)
+  among = λ r under has differs. are.among r under (both-from (has_rank held.pair.once.bits r) (has_rank most.bits r)
       (is.pair.of_once.at r under ∙ le-leb 1 (count_of_rank hole r) has)
       (is_most r ∙ either_way (eqb r rank) (eqb r rank ≡ false) (λ same. absurd (differs (eqb-true r rank same)))
       (λ apart. apart)));
   many = are.many;
 }
-  where
-    both : (a b : Bool) → a ≡ true → b ≡ false → (a && not b) ≡ true
-    both true false p q = refl
-    both true true p q = absurd cc
-    both false b p q = absurd cc
 
 -- the best hand in which a rank occurs most often, where no hand has a higher one
 pub led-best : (number k j c : ℕ) (held : Held) (hole board : List Card) (shown : Shown) (from : RankSet) (rank : ℕ)
@@ -427,14 +415,6 @@ led-none number k j c held hole board most from rank found best form is below is
       | false ↦ λ is_not. grind (arith, nat_tests)
     ] refl
 
-    kept : (b : Bool) (r : ℕ) → (r ≡ rank → ⊥) → (b && not (eqb r rank)) ≡ b
-    kept true r apart = grind (arith, nat_tests)
-    kept false r apart = refl
-
-    itself : (b : Bool) → (b && not (eqb rank rank)) ≡ false
-    itself true = grind (arith, nat_tests)
-    itself false = refl
-
     bit-few : (b : Bool) → bit b ≤ 1
     bit-few true = lit≤ tt
     bit-few false = lit≤ tt
@@ -478,8 +458,8 @@ led-none number k j c held hole board most from rank found best form is below is
         (λ r apart. alike led.rank r (count r) form.some (led.only r) apart) in
         let not_there : bit (p led.rank) ≡ 0 = ap bit beside.apart in
         let there : bit (q led.rank) ≡ 1 = ap bit (le-leb 1 (count led.rank) (omega arith)) in
-        let second = falling-but_one q w rank 16 below (λ r apart. kept (q r) r apart) in
-        let gone : bit (w rank) ≡ 0 = ap bit (itself (q rank)) in
+        let second = falling-but_one q w rank 16 below (λ r apart. but_one-other (q r) r rank apart) in
+        let gone : bit (w rank) ≡ 0 = ap bit (but_one-itself (q rank) rank) in
         let small = bit-few (q rank) in
         let fewer = falling-fewer w (λ r. has_rank from.bits r && not (has_rank most.bits r)) 16 (λ r under has.
         let parts = both-are (q r) (eqb r rank) has in

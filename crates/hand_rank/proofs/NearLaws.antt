@@ -1,6 +1,7 @@
 -- Runs that have two ranks in them.
-use Rattle.std.proofs.Common.{◌≡◌, ℕ, ◌+◌, ◌-◌, ◌<◌, ◌≤◌, ◌⊎◌, inl, inr, Bool, true, false, ◌&&◌, ◌||◌, not, eqb, leb, cond, List, [], ◌∷◌, length, Some, None, refl, sym, ap, ap₂, ◌∙◌, subst, eqb-true, leb-true, le-leb, lit≤, arith}
+use Rattle.std.proofs.Common.{◌≡◌, ℕ, ◌+◌, ◌-◌, ◌<◌, ◌≤◌, ◌⊎◌, inl, inr, Bool, true, false, ◌&&◌, ◌||◌, not, eqb, leb, cond, List, [], ◌∷◌, length, Some, None, refl, sym, ap, ap₂, ◌∙◌, subst, eqb-true, eq-eqb, leb-true, le-leb, lit≤, arith}
 use Rattle.std.specs.Prelude.{Option}
+use Rattle.std.proofs.lemmas.Bool.{and_left}
 use Rattle.std.proofs.lemmas.Bool.Decides.{nat_tests}
 use Rattle.card_set.specs.declared.card.Card.{Card}
 use Rattle.hand_rank.specs.Held.{IsHighestRunWith}
@@ -13,20 +14,16 @@ use Rattle.hand_rank.proofs.CountLaws.{count_of_rank-cons}
 use Rattle.hand_rank.proofs.Needs.{Among, has-only, has-once}
 use Rattle.hand_rank.proofs.PickLaws.{Has, without-other, highest-is, highest-none}
 use Rattle.hand_rank.proofs.RunLaws.{occurring, run_parts, run_from, run-found, run-is}
-use Rattle.hand_rank.proofs.RunTable.{all_below, holds_below}
+use Rattle.card_set.proofs.Computed.{all_below, holds_below}
 use Rattle.hand_rank.proofs.Sections.{total}
 use Rattle.hand_rank.proofs.ShapeLaws.{rank-within}
 use Rattle.hand_rank.proofs.SoManyLaws.{both-are}
 
 held_at : (p : ℕ → Bool) (step r : ℕ) → step ≡ r → 2 ≤ r → holds_step p step ≡ true → p r ≡ true
 held_at p step r is high holds =
-    last (p r) (eqb r 1 && p 14) (off (eqb r 1) (p 14) (grind (arith, nat_tests)))
+    last (p r) (eqb r 1 && p 14) (and_left (eqb r 1) (p 14) (grind (arith, nat_tests)))
     (subst (λ s. holds_step p s ≡ true) is holds)
   where
-    off : (a b : Bool) → a ≡ false → (a && b) ≡ false
-    off false b is = refl
-    off true b is = absurd cc
-
     last : (a b : Bool) → b ≡ false → (a || b) ≡ true → a ≡ true
     last true b not_b is = refl
     last false b not_b is = absurd cc
@@ -206,19 +203,18 @@ none-two (x ∷ y ∷ []) bits fewer high two has apart without none =
     ∙ highest-none (has_rank fewer) 16 r none below) in
     let at_x = first x.rank in
     let at_y = first y.rank in
-    let is_x : 1 ≤ count_of_rank (x ∷ y ∷ []) x.rank = rw (at_x, same x.rank) (omega arith) in
-    let is_y : 1 ≤ count_of_rank (x ∷ y ∷ []) y.rank = rw (at_y, second y.rank, same y.rank) (omega arith) in
+    let same_x : eqb x.rank x.rank ≡ true = eq-eqb x.rank x.rank refl in
+    let same_y : eqb y.rank y.rank ≡ true = eq-eqb y.rank y.rank refl in
+    let is_x : 1 ≤ count_of_rank (x ∷ y ∷ []) x.rank = rw (at_x, same_x) (omega arith) in
+    let is_y : 1 ≤ count_of_rank (x ∷ y ∷ []) y.rank = rw (at_y, second y.rank, same_y) (omega arith) in
     let one = gone x.rank (omega arith) is_x in
     let other = gone y.rank (omega arith) is_y in
     let alike : eqb y.rank x.rank ≡ true = grind (arith, nat_tests) in
     let few = apart x.rank in
     let at = at_x ∙ ap (λ n. cond (eqb x.rank x.rank) 1 0 + n) (second x.rank) in
-    let all : count_of_rank (x ∷ y ∷ []) x.rank ≡ 1 + (1 + 0) = at ∙ rw (same x.rank, alike) refl in
+    let all : count_of_rank (x ∷ y ∷ []) x.rank ≡ 1 + (1 + 0) = at ∙ rw (same_x, alike) refl in
     omega arith
   where
-    same : (r : ℕ) → eqb r r ≡ true
-    same r = grind (arith, nat_tests)
-
     either : (b : Bool) → (true && not b) ≡ false → b ≡ true
     either true is = refl
     either false is = absurd cc

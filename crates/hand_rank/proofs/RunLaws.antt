@@ -1,32 +1,13 @@
 -- Runs of five ranks among ranks that occur.
-use Rattle.std.proofs.Common.{◌≡◌, ℕ, ◌-◌, ◌<◌, ◌≤◌, ◌⊎◌, inl, inr, Bool, true, false, ◌&&◌, ◌||◌, cond, eqb, leb, List, [], ◌∷◌, Some, None, refl, sym, ap, ◌∙◌, subst, eqb-true, eq-eqb, leb-true, le-leb, arith}
+use Rattle.std.proofs.Common.{◌≡◌, ℕ, ◌-◌, ◌<◌, ◌≤◌, ◌⊎◌, inl, inr, Bool, true, false, ◌&&◌, cond, eqb, leb, List, [], ◌∷◌, Some, None, refl, sym, ap, ◌∙◌, subst, eqb-true, eq-eqb, leb-true, le-leb, arith}
 use Rattle.std.specs.Cmp.Lexicographic.{pointwise}
+use Rattle.std.proofs.lemmas.Bool.{and_from, and_parts, or_cases, or_left, or_right}
 use Rattle.std.proofs.lemmas.Bool.Decides.{nat_tests}
 use Rattle.hand_rank.specs.Picks.{highest_below, without, picked}
 use Rattle.hand_rank.specs.Runs.{holds_step, is_run, highest_run}
 use Rattle.hand_rank.specs.Values.{run_top}
 use Rattle.hand_rank.proofs.PickLaws.{IsHighest, highest-is, highest-none, Has, without-other, without-less, without-some, picked-begins}
 use Rattle.hand_rank.proofs.Needs.{Among}
-
-and_parts : (a b : Bool) → (a && b) ≡ true → (a ≡ true) × (b ≡ true)
-and_parts true b h = (refl, h)
-and_parts false b h = absurd cc
-
-and_both : (a b : Bool) → a ≡ true → b ≡ true → (a && b) ≡ true
-and_both true b one other = other
-and_both false b one other = absurd cc
-
-or_cases : (a b : Bool) → (a || b) ≡ true → (a ≡ true) ⊎ (b ≡ true)
-or_cases true b h = inl refl
-or_cases false b h = inr h
-
-or_left : (a b : Bool) → a ≡ true → (a || b) ≡ true
-or_left true b h = refl
-or_left false b h = absurd cc
-
-or_right : (a b : Bool) → b ≡ true → (a || b) ≡ true
-or_right true b h = refl
-or_right false b h = h
 
 -- a test passes wherever another does
 abbrev pub Implies : (ℕ → Bool) → (ℕ → Bool) → Type 0
@@ -38,7 +19,7 @@ holds_step-more p q more step h =
       | inl here ↦ or_left (q step) (eqb step 1 && q 14) (more step here)
       | inr ace ↦
           let parts = and_parts (eqb step 1) (p 14) ace in
-          or_right (q step) (eqb step 1 && q 14) (and_both (eqb step 1) (q 14) parts.0 (more 14 parts.1))
+          or_right (q step) (eqb step 1 && q 14) (and_from (eqb step 1) (q 14) parts.0 (more 14 parts.1))
     ]
 
 pub run_parts : (p : ℕ → Bool) (t : ℕ) → is_run p t ≡ true
@@ -56,7 +37,7 @@ pub run_from : (p : ℕ → Bool) (t : ℕ) → holds_step p t ≡ true → hold
     ≡ true
     → holds_step p (t - 3) ≡ true → holds_step p (t - 4) ≡ true → is_run p t ≡ true
 run_from p t a b c d e =
-    and_both _ _ (and_both _ _ (and_both _ _ (and_both _ _ a b) c) d) e
+    and_from _ _ (and_from _ _ (and_from _ _ (and_from _ _ a b) c) d) e
 
 pub is_run-more : (p q : ℕ → Bool) (t : ℕ) → Implies p q → is_run p t ≡ true → is_run q t ≡ true
 is_run-more p q t more is =
@@ -71,7 +52,7 @@ pub run-found : (p : ℕ → Bool) (t : ℕ) → 5 ≤ t → t < 15 → is_run p
 unfolding highest_run
 run-found p t low high is =
     let test : ℕ → Bool = λ top. leb 5 top && is_run p top in
-    let passes : test t ≡ true = and_both (leb 5 t) (is_run p t) (le-leb 5 t low) is in
+    let passes : test t ≡ true = and_from (leb 5 t) (is_run p t) (le-leb 5 t low) is in
     elim (highest_below test 15) as (λ o. highest_below test 15 ≡ o → (top : ℕ) × (o ≡ Some top) × (t ≤ top)) [
       | None ↦ λ none. let fails = highest-none test 15 t none high in absurd cc
       | Some top ↦ λ some. let found = highest-is test 15 top some in (top, refl, found.above t high passes)

@@ -1,47 +1,17 @@
 -- The highest run from bits, computed over all sets of ranks.
-use Rattle.std.proofs.Common.{◌≡◌, ℕ, zero, suc, ◌-◌, ◌*◌, ◌/◌, ◌%◌, ◌^◌, ◌<◌, ◌≤◌, ◌⊎◌, inl, inr, Bool, true, false, ◌&&◌, not, eqb, leb, cond, List, [], ◌∷◌, Some, None, refl, sym, ap, ◌∙◌, eqb-true, leb-true, arith}
+use Rattle.std.proofs.Common.{◌≡◌, ℕ, ◌-◌, ◌*◌, ◌/◌, ◌%◌, ◌^◌, ◌<◌, ◌≤◌, ◌⊎◌, inl, inr, Bool, true, false, eqb, leb, cond, List, [], ◌∷◌, Some, None, refl, sym, ap, ◌∙◌, leb-true, arith}
 use Rattle.std.specs.Prelude.{Option, bit_and, bit_or}
 use Rattle.std.specs.Int.Count.{count_leading_zeros}
 use Rattle.std.proofs.lemmas.Nat.{and_le_r, or_lt}
 use Rattle.std.proofs.lemmas.Nat.Bits.{bit_at_above}
+use Rattle.std.proofs.lemmas.Bool.{agree_below, agree_below_at}
 use Rattle.std.proofs.lemmas.Bool.Decides.{nat_tests}
 use Rattle.std.specs.List.{slice_index_or}
+use Rattle.card_set.proofs.Computed.{all_below, are_same, holds_below, same-is}
 use Rattle.hand_rank.specs.Runs.{highest_run, is_near}
 use Rattle.hand_rank.specs.Sets.{has_rank, HasRanks}
 use Rattle.hand_rank.proofs.RunLaws.{run-same, occurring}
 use Rattle.hand_rank.proofs.SetLaws.{top-within}
-
-and_parts : (a b : Bool) → (a && b) ≡ true → (a ≡ true) × (b ≡ true)
-and_parts true b h = (refl, h)
-and_parts false b h = absurd cc
-
--- a test that holds at each number below a bound
-unfoldable pub all_below : (ℕ → Bool) → ℕ → Bool
-all_below p zero = true
-all_below p (suc n) = p n && all_below p n
-
-pub holds_below : (p : ℕ → Bool) (n k : ℕ) → all_below p n ≡ true → k < n → p k ≡ true
-unfolding all_below
-holds_below p zero k h below = absurd (omega arith)
-holds_below p (suc n) k h below =
-    let both = and_parts (p n) (all_below p n) h in
-    elim (eqb k n) as (λ b. eqb k n ≡ b → p k ≡ true) [
-      | true ↦ λ same. ap p (eqb-true k n same) ∙ both.0
-      | false ↦ λ other. let less : k < n = grind (arith, nat_tests) in holds_below p n k both.1 less
-    ] refl
-
-same_top : Option ℕ → Option ℕ → Bool
-same_top None None = true
-same_top None (Some top) = false
-same_top (Some top) None = false
-same_top (Some top) (Some other) = eqb top other
-
-same_top-is : (one other : Option ℕ) → same_top one other ≡ true → one ≡ other
-unfolding same_top
-same_top-is None None is = refl
-same_top-is None (Some top) is = absurd cc
-same_top-is (Some top) None is = absurd cc
-same_top-is (Some top) (Some other) is = ap (λ t. Some t) (eqb-true top other is)
 
 unfoldable pub steps_of : ℕ → ℕ
 steps_of bits = bit_or bits (bit_and (bits / 8192) 2)
@@ -56,17 +26,17 @@ run_by_bits bits = let runs = runs_of (steps_of bits) in
     cond (eqb runs 0) None (Some (19 - count_leading_zeros 16 runs))
 
 run_test : ℕ → Bool
-unfolding run_by_bits same_top
-run_test k = same_top (run_by_bits (4 * k)) (highest_run (has_rank (4 * k)))
+unfolding run_by_bits are_same
+run_test k = are_same (run_by_bits (4 * k)) (highest_run (has_rank (4 * k)))
 
 all_runs : all_below run_test 8192 ≡ true
-unfolding all_below run_test run_by_bits same_top highest_run steps_of runs_of count_leading_zeros
+unfolding all_below run_test run_by_bits are_same highest_run steps_of runs_of count_leading_zeros
 all_runs = refl
 
 run_by_bits-is : (bits k : ℕ) → bits ≡ 4 * k → k < 8192 → run_by_bits bits ≡ highest_run (has_rank bits)
 unfolding run_test
 run_by_bits-is bits k same below =
-    rw same (same_top-is _ _ (holds_below run_test 8192 k all_runs below))
+    rw same (same-is _ _ (holds_below run_test 8192 k all_runs below))
 
 -- a set with no rank below 2 and none from 15 on
 bits_of_ranks : (bits : ℕ) → bits < 2 ^ 16 → has_rank bits 0 ≡ false → has_rank bits 1 ≡ false
@@ -132,27 +102,16 @@ abbrev near_table : List ℕ
 near_table = 0 ∷ 0 ∷ 16508 ∷ 16636 ∷ 16892 ∷ 17404 ∷ 2044 ∷ 4088 ∷ 8176 ∷ 16352 ∷ 32704 ∷ 32640 ∷ 32512 ∷ 32256
     ∷ 31804 ∷ 0 ∷ []
 
-same_bool : Bool → Bool → Bool
-same_bool true b = b
-same_bool false b = not b
-
-same_bool-is : (a b : Bool) → same_bool a b ≡ true → a ≡ b
-unfolding same_bool
-same_bool-is true true is = refl
-same_bool-is true false is = absurd cc
-same_bool-is false true is = absurd cc
-same_bool-is false false is = refl
-
 near_test : ℕ → Bool
-near_test rank = all_below (λ r. same_bool (has_rank (slice_index_or near_table rank 0) r) (is_near rank r)) 16
+near_test rank = agree_below (has_rank (slice_index_or near_table rank 0)) (is_near rank) 16
 
 all_near : all_below near_test 16 ≡ true
-unfolding all_below near_test same_bool is_near
+unfolding all_below near_test is_near
 all_near = refl
 
 -- the table has at each rank those that are near it
 pub near-ranks : (rank r : ℕ) → rank < 16 → r < 16 → has_rank (slice_index_or near_table rank 0) r ≡ is_near rank r
 unfolding near_test
 near-ranks rank r below under =
-    same_bool-is _ _ (holds_below (λ r. same_bool (has_rank (slice_index_or near_table rank 0) r) (is_near rank r)) 16 r
-    (holds_below near_test 16 rank all_near below) under)
+    agree_below_at (has_rank (slice_index_or near_table rank 0)) (is_near rank) 16 r
+    (holds_below near_test 16 rank all_near below) under

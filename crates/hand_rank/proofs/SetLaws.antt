@@ -3,6 +3,7 @@ use Rattle.std.proofs.Common.{◌≡◌, ℕ, zero, suc, ◌+◌, ◌-◌, ◌*�
 use Rattle.std.specs.Prelude.{Option, option_map, bit_and, bit_or, count_ones}
 use Rattle.std.specs.Int.{bit_not, w16}
 use Rattle.std.specs.Int.Count.{count_leading_zeros, ones_step, ones-le}
+use Rattle.std.proofs.Math.Bool.{and-false, and-true, or-false, or-true}
 use Rattle.std.proofs.Math.Pow.{pow_mono}
 use Rattle.std.proofs.lemmas.Nat.{leading_top}
 use Rattle.std.proofs.lemmas.Nat.Bits.{bit_at_lowest, bit_at-suc, bit_at_and, bit_at_or, bit_at_set_same, bit_at_set_other, bit_at_clear_same, bit_at_clear_other, bit_at_above, bit_at-lt, bit_at-zero}
@@ -28,31 +29,15 @@ has_rank_and a b r =
     let other = bit_at-lt b r in
     grind (arith, nat_tests)
 
-or_true : (a : Bool) → (a || true) ≡ true
-or_true true = refl
-or_true false = refl
-
-or_false : (a : Bool) → (a || false) ≡ a
-or_false true = refl
-or_false false = refl
-
-and_true : (a : Bool) → (a && true) ≡ a
-and_true true = refl
-and_true false = refl
-
-and_false : (a : Bool) → (a && false) ≡ false
-and_false true = refl
-and_false false = refl
-
 pub has_rank_with : (mask rank r : ℕ) → rank < 16
     → has_rank (bit_or mask (1 * 2 ^ rank % 2 ^ 16)) r ≡ (has_rank mask r || eqb r rank)
 has_rank_with mask rank r within =
     elim (eqb r rank) as (λ b. eqb r rank ≡ b
     → has_rank (bit_or mask (1 * 2 ^ rank % 2 ^ 16)) r ≡ (has_rank mask r || b)) [
       | true ↦ λ same. rw (eqb-true r rank same, bit_at_set_same w16 mask rank within)
-          (sym (or_true (has_rank mask rank)))
+          (sym (or-true (has_rank mask rank)))
       | false ↦ λ other. rw (bit_at_set_other w16 mask rank within r (grind (arith, nat_tests)))
-          (sym (or_false (has_rank mask r)))
+          (sym (or-false (has_rank mask r)))
     ] refl
 
 pub has_rank_without : (mask rank r : ℕ) → rank < 16 → r < 16
@@ -61,9 +46,9 @@ has_rank_without mask rank r within inside =
     elim (eqb r rank) as (λ b. eqb r rank ≡ b
     → has_rank (bit_and mask (bit_not w16 (1 * 2 ^ rank % 2 ^ 16))) r ≡ (has_rank mask r && not b)) [
       | true ↦ λ same. rw (eqb-true r rank same, bit_at_clear_same w16 mask rank within)
-          (sym (and_false (has_rank mask rank)))
+          (sym (and-false (has_rank mask rank)))
       | false ↦ λ other. rw (bit_at_clear_other w16 mask rank within r inside (grind (arith, nat_tests)))
-          (sym (and_true (has_rank mask r)))
+          (sym (and-true (has_rank mask r)))
     ] refl
 
 -- the index of the highest bit

@@ -2,26 +2,22 @@
 use Rattle.std.proofs.Common.{◌≡◌, ℕ, ◌<◌, ◌≤◌, ◌⊎◌, inl, inr, Bool, true, false, ◌&&◌, not, eqb, leb, cond, List, [], ◌∷◌, ◌++◌, length, Some, None, refl, sym, ap, ap₂, ◌∙◌, eqb-true, leb-true, append-nil, arith}
 use Rattle.std.specs.Prelude.{Option}
 use Rattle.std.proofs.lemmas.Bool.Decides.{nat_tests}
+use Rattle.std.proofs.lemmas.List.{nil_from_length}
 use Rattle.card_set.specs.declared.card.Card.{Card}
 use Rattle.hand_rank.specs.Shown.{falling}
 use Rattle.hand_rank.specs.Values.{count_of_rank, distinct_ranks, run_top, are_of_one_suit, value_of_distinct, five_card_value}
 use Rattle.hand_rank.proofs.CardCounts.{other-rank}
-use Rattle.hand_rank.proofs.FiveLaws.{exactly, distinct-exactly, lengths, no_ranks}
+use Rattle.hand_rank.proofs.FiveLaws.{exactly, distinct-exactly, lengths}
 use Rattle.hand_rank.proofs.MadeLaws.{ones}
 use Rattle.hand_rank.proofs.Sections.{falling-none, falling-leads}
-use Rattle.hand_rank.proofs.ShownValues.{often_of, AreShown, shown-shape, shown-value}
+use Rattle.hand_rank.proofs.ShownValues.{often_of, AreShown, head, tail, shown-shape, shown-value}
+use Rattle.hand_rank.proofs.SoManyLaws.{both-are, both-from, but_one-itself, but_one-other}
 
 -- how often the ranks of a category occur
 abbrev pub shape_at : ℕ → List ℕ
 shape_at n =
     cond (eqb n 7) (4 ∷ 1 ∷ []) (cond (eqb n 6) (3 ∷ 2 ∷ []) (cond (eqb n 3) (3 ∷ 1 ∷ 1 ∷ [])
     (cond (eqb n 2) (2 ∷ 2 ∷ 1 ∷ []) (cond (eqb n 1) (2 ∷ 1 ∷ 1 ∷ 1 ∷ []) ones))))
-
-head : {x y : ℕ} {xs ys : List ℕ} → x ∷ xs ≡ y ∷ ys → x ≡ y
-head is = cc
-
-tail : {x y : ℕ} {xs ys : List ℕ} → x ∷ xs ≡ y ∷ ys → xs ≡ ys
-tail is = cc
 
 -- the number of the category tells how often ranks occur
 pub of-number : (five : List Card) (n : ℕ) (ranks : List ℕ) → AreShown five → five_card_value five ≡ n ∷ ranks
@@ -78,18 +74,10 @@ only-one : (test : ℕ → Bool) (n rank r : ℕ) → falling test n ≡ rank �
 only-one test n rank r is within passes =
     let leads = falling-leads test n rank [] is in
     let none = falling-none (λ s. test s && not (eqb s rank)) n r
-    (leads.others (λ s. test s && not (eqb s rank)) (λ s below apart. other (test s) s apart) (itself (test rank)))
-    within in
+    (leads.others (λ s. test s && not (eqb s rank)) (λ s below apart. but_one-other (test s) s rank apart)
+    (but_one-itself (test rank) rank)) within in
     last (test r) passes none
   where
-    other : (b : Bool) (s : ℕ) → (s ≡ rank → ⊥) → (b && not (eqb s rank)) ≡ b
-    other true s apart = grind (arith, nat_tests)
-    other false s apart = refl
-
-    itself : (b : Bool) → (b && not (eqb rank rank)) ≡ false
-    itself true = grind (arith, nat_tests)
-    itself false = refl
-
     last : (a : Bool) → a ≡ true → (a && not (eqb r rank)) ≡ false → r ≡ rank
     last true is none = grind (arith, nat_tests)
     last false is none = absurd cc
@@ -126,7 +114,7 @@ led five k j c ranks are one many either =
     (elim (exactly five k) as (λ most. exactly five k ≡ most → length most ≡ 1 → IsLed five k j c ranks) [
       | [] ↦ λ none few. absurd (omega arith)
       | rank ∷ more ↦ λ is few.
-          let alone : exactly five k ≡ rank ∷ [] = is ∙ ap (λ rs. rank ∷ rs) (no_ranks more (omega arith)) in
+          let alone : exactly five k ≡ rank ∷ [] = is ∙ ap (λ rs. rank ∷ rs) (nil_from_length more (omega arith)) in
           let leads = falling-leads (λ r. eqb (count_of_rank five r) k) 15 rank [] alone in
           record {
             rank = rank;
@@ -152,8 +140,8 @@ pub led-four : (five : List Card) (ranks : List ℕ) → AreShown five → five_
     → IsLed five 4 1 1 ranks
 led-four five ranks shown is =
     let at = lengths five (4 ∷ 1 ∷ []) (of-number five 7 ranks shown is) in
-    let no_three = no_ranks (exactly five 3) at.three in
-    let no_two = no_ranks (exactly five 2) at.two in
+    let no_three = nil_from_length (exactly five 3) at.three in
+    let no_two = nil_from_length (exactly five 2) at.two in
     led five 4 1 1 ranks (sym (four-ranks five ranks shown is) ∙ distinct-exactly five
     ∙ ap₂ (λ b c. exactly five 4 ++ (b ++ (c ++ (exactly five 1 ++ [])))) no_three no_two
     ∙ ap (λ d. exactly five 4 ++ d) (append-nil (exactly five 1))) at.four at.one (λ r within some.
@@ -170,8 +158,8 @@ pub led-full : (five : List Card) (ranks : List ℕ) → AreShown five → five_
     → IsLed five 3 2 1 ranks
 led-full five ranks shown is =
     let at = lengths five (3 ∷ 2 ∷ []) (of-number five 6 ranks shown is) in
-    let no_four = no_ranks (exactly five 4) at.four in
-    let no_one = no_ranks (exactly five 1) at.one in
+    let no_four = nil_from_length (exactly five 4) at.four in
+    let no_one = nil_from_length (exactly five 1) at.one in
     led five 3 2 1 ranks (sym (full-ranks five ranks shown is) ∙ distinct-exactly five
     ∙ ap₂ (λ a d. a ++ (exactly five 3 ++ (exactly five 2 ++ (d ++ [])))) no_four no_one
     ∙ ap (λ c. exactly five 3 ++ c) (append-nil (exactly five 2))) at.three at.two (λ r within some.
@@ -188,8 +176,8 @@ pub led-three : (five : List Card) (ranks : List ℕ) → AreShown five → five
     → IsLed five 3 1 2 ranks
 led-three five ranks shown is =
     let at = lengths five (3 ∷ 1 ∷ 1 ∷ []) (of-number five 3 ranks shown is) in
-    let no_four = no_ranks (exactly five 4) at.four in
-    let no_two = no_ranks (exactly five 2) at.two in
+    let no_four = nil_from_length (exactly five 4) at.four in
+    let no_two = nil_from_length (exactly five 2) at.two in
     led five 3 1 2 ranks (sym (three-ranks five ranks shown is) ∙ distinct-exactly five
     ∙ ap₂ (λ a c. a ++ (exactly five 3 ++ (c ++ (exactly five 1 ++ [])))) no_four no_two
     ∙ ap (λ d. exactly five 3 ++ d) (append-nil (exactly five 1))) at.three at.one (λ r within some.
@@ -206,8 +194,8 @@ pub led-one : (five : List Card) (ranks : List ℕ) → AreShown five → five_c
     → IsLed five 2 1 3 ranks
 led-one five ranks shown is =
     let at = lengths five (2 ∷ 1 ∷ 1 ∷ 1 ∷ []) (of-number five 1 ranks shown is) in
-    let no_four = no_ranks (exactly five 4) at.four in
-    let no_three = no_ranks (exactly five 3) at.three in
+    let no_four = nil_from_length (exactly five 4) at.four in
+    let no_three = nil_from_length (exactly five 3) at.three in
     led five 2 1 3 ranks (sym (one-ranks five ranks shown is) ∙ distinct-exactly five
     ∙ ap₂ (λ a b. a ++ (b ++ (exactly five 2 ++ (exactly five 1 ++ [])))) no_four no_three
     ∙ ap (λ d. exactly five 2 ++ d) (append-nil (exactly five 1))) at.two at.one (λ r within some.
@@ -243,9 +231,9 @@ are-two : (test : ℕ → Bool) (n a b : ℕ) → falling test n ≡ a ∷ b ∷
 are-two test n a b is =
     let leads = falling-leads test n a (b ∷ []) is in
     let rest : ℕ → Bool = λ s. test s && not (eqb s a) in
-    let others = leads.others rest (λ s below apart. other (test s) s apart) (itself (test a)) in
+    let others = leads.others rest (λ s below apart. but_one-other (test s) s a apart) (but_one-itself (test a) a) in
     let behind = falling-leads rest n b [] others in
-    let parts = both (test b) (eqb b a) behind.first.passes in
+    let parts = both-are (test b) (eqb b a) behind.first.passes in
     let apart : eqb b a ≡ false = parts.1 in
     let up = leads.first.above b behind.first.below parts.0 in
     record {
@@ -255,35 +243,17 @@ are-two test n a b is =
       second = parts.0;
       only = λ r within passes. elim (eqb r a) as (λ t. eqb r a ≡ t → (r ≡ a) ⊎ (r ≡ b)) [
         | true ↦ λ same. inl (eqb-true r a same)
-        | false ↦ λ differs. inr (only-one rest n b r others within (passing (test r) (eqb r a) passes differs))
+        | false ↦ λ differs. inr (only-one rest n b r others within (both-from (test r) (eqb r a) passes differs))
       ] refl;
     }
-  where
-    other : (t : Bool) (s : ℕ) → (s ≡ a → ⊥) → (t && not (eqb s a)) ≡ t
-    other true s apart = grind (arith, nat_tests)
-    other false s apart = refl
-
-    itself : (t : Bool) → (t && not (eqb a a)) ≡ false
-    itself true = grind (arith, nat_tests)
-    itself false = refl
-
-    both : (x y : Bool) → (x && not y) ≡ true → (x ≡ true) × (y ≡ false)
-    both true false is = (refl, refl)
-    both true true is = absurd cc
-    both false y is = absurd cc
-
-    passing : (x y : Bool) → x ≡ true → y ≡ false → (x && not y) ≡ true
-    passing true false is is_not = refl
-    passing true true is is_not = absurd cc
-    passing false y is is_not = absurd cc
 
 -- in two pair there are two
 pub two-pair : (five : List Card) (ranks : List ℕ) → AreShown five → five_card_value five ≡ 2 ∷ ranks
     → AreTwoPair five ranks
 two-pair five ranks shown is =
     let at = lengths five (2 ∷ 2 ∷ 1 ∷ []) (of-number five 2 ranks shown is) in
-    let no_four = no_ranks (exactly five 4) at.four in
-    let no_three = no_ranks (exactly five 3) at.three in
+    let no_four = nil_from_length (exactly five 4) at.four in
+    let no_three = nil_from_length (exactly five 3) at.three in
     let are : ranks ≡ exactly five 2 ++ exactly five 1 = sym (two-ranks five ranks shown is) ∙ distinct-exactly five
     ∙ ap₂ (λ a b. a ++ (b ++ (exactly five 2 ++ (exactly five 1 ++ [])))) no_four no_three
     ∙ ap (λ d. exactly five 2 ++ d) (append-nil (exactly five 1)) in

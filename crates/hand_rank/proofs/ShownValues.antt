@@ -14,6 +14,14 @@ use Rattle.hand_rank.proofs.CardCounts.{other-rank, distinct_ranks-sections, tot
 use Rattle.hand_rank.proofs.CountLaws.{value-by}
 use Rattle.hand_rank.proofs.RunLaws.{AreFive, picked-five}
 
+-- lists that are the same begin with the same number
+pub head : {x y : ℕ} {xs ys : List ℕ} → x ∷ xs ≡ y ∷ ys → x ≡ y
+head is = cc
+
+-- and go on with the same numbers
+pub tail : {x y : ℕ} {xs ys : List ℕ} → x ∷ xs ≡ y ∷ ys → xs ≡ ys
+tail is = cc
+
 -- how often the distinct ranks occur, in their order
 abbrev pub often_of : List Card → List ℕ
 often_of cards = map (count_of_rank cards) (distinct_ranks cards)

@@ -1,11 +1,12 @@
 -- The best hands of five distinct ranks: flushes, straights and high cards.
-use Rattle.std.proofs.Common.{◌≡◌, ℕ, ◌+◌, ◌<◌, ◌≤◌, inl, inr, Bool, true, false, ◌&&◌, not, eqb, leb, cond, List, [], ◌∷◌, ◌++◌, length, Some, None, refl, sym, ap, ap₂, ◌∙◌, subst, zero-le, le_refl, eqb-true, leb-true, le-leb, lit≤, length-append, append-nil, arith}
+use Rattle.std.proofs.Common.{◌≡◌, ℕ, ◌<◌, ◌≤◌, inl, inr, Bool, true, false, ◌&&◌, not, eqb, leb, cond, List, [], ◌∷◌, ◌++◌, length, Some, None, refl, sym, ap, ap₂, ◌∙◌, subst, zero-le, le_refl, eqb-true, eq-eqb, leb-true, le-leb, lit≤, length-append, append-nil, arith}
 use Rattle.std.specs.Prelude.{Option, filter}
 use Rattle.std.specs.List.{list_all}
+use Rattle.std.proofs.lemmas.Bool.{and_from, and_parts}
 use Rattle.std.proofs.lemmas.Bool.Decides.{nat_tests}
 use Rattle.std.proofs.lemmas.Nat.Bits.{bit_at-zero}
+use Rattle.std.proofs.lemmas.List.{nil_from_length}
 use Rattle.std.proofs.lemmas.List.Folds.{list_all-append}
-use Rattle.std.proofs.lemmas.List.Sums.{sum_by-append}
 use Rattle.card_set.specs.declared.card.Card.{Card}
 use Rattle.card_choices.proofs.ListOrder.{Upto}
 use Rattle.hand_rank.specs.declared.held.Held.{Held}
@@ -17,9 +18,9 @@ use Rattle.hand_rank.specs.Sets.{has_rank, HasRanks}
 use Rattle.hand_rank.specs.Shown.{falling, ranks_of, shown_value, most_of, suit_of}
 use Rattle.hand_rank.specs.SoMany.{AreSoMany, IsGreatestWith}
 use Rattle.hand_rank.specs.Values.{category_number, count_of_rank, distinct_ranks, run_top, are_of_one_suit, value_of_distinct, five_card_value}
-use Rattle.hand_rank.proofs.CardCounts.{other-rank, total-cards, suited-rank, all-suited, one_suit-all, all-one_suit}
+use Rattle.hand_rank.proofs.CardCounts.{other-rank, total-cards, suit-joined, suited-rank, all-suited, one_suit-all, all-one_suit}
 use Rattle.hand_rank.proofs.Chosen.{IsChoice, choice-filter}
-use Rattle.hand_rank.proofs.FiveLaws.{exactly, distinct-exactly, lengths, no_ranks}
+use Rattle.hand_rank.proofs.FiveLaws.{exactly, distinct-exactly, lengths}
 use Rattle.hand_rank.proofs.HandLaws.{IsHandOf, is-hand, IsReached, hand-with, total-least, upto-of, no-best, some-best}
 use Rattle.hand_rank.proofs.LedLaws.{rep, has-falling, total-passing, falling-15}
 use Rattle.hand_rank.proofs.MadeLaws.{ones}
@@ -27,7 +28,7 @@ use Rattle.hand_rank.proofs.PartLaws.{count-joined}
 use Rattle.hand_rank.proofs.PickLaws.{Has, picked-greatest}
 use Rattle.hand_rank.proofs.Sections.{total-same, falling-none, falling-empty}
 use Rattle.hand_rank.proofs.ShapeLaws.{of-number, rank-within}
-use Rattle.hand_rank.proofs.ShownValues.{often_of, AreShown, shown-picked, shown-once, shown-value, distinct-above}
+use Rattle.hand_rank.proofs.ShownValues.{often_of, AreShown, head, tail, shown-picked, shown-once, shown-value, distinct-above}
 use Rattle.hand_rank.proofs.SoManyLaws.{either_way, falling-fewer, greatest-same}
 
 -- once each rank that passes a test
@@ -88,10 +89,6 @@ singles-reached hole board p two enough are there =
           ] refl
         ] refl
 
-suit-joined : (cards more : List Card) (suit r : ℕ)
-    → count_of_suit (cards ++ more) suit r ≡ count_of_suit cards suit r + count_of_suit more suit r
-suit-joined cards more suit r = sum_by-append (λ (c : Card). cond (eqb c.suit suit && eqb c.rank r) 1 0) cards more
-
 -- some three cards of a suit make them
 pub record AreSuited (hole board : List Card) (suit : ℕ) (p : ℕ → Bool) : Type 0 where
   pub three : List Card
@@ -130,14 +127,10 @@ suited-reached hole board suit p two of_suit are there =
       counts = reached.counts;
       one = all-one_suit suit (hole ++ reached.three)
           (list_all-append (λ (card : Card). eqb card.suit suit) hole reached.three
-          ∙ both (list_all (λ (card : Card). eqb card.suit suit) hole)
+          ∙ and_from (list_all (λ (card : Card). eqb card.suit suit) hole)
           (list_all (λ (card : Card). eqb card.suit suit) reached.three) of_suit chosen.1);
     }
   where
-    both : (a b : Bool) → a ≡ true → b ≡ true → (a && b) ≡ true
-    both true b one other = other
-    both false b one other = absurd cc
-
     each : (r : ℕ) → r < 15
         → ((r : ℕ) → r < 15 → p r ≡ true
         → 1 ≤ count_of_rank (hole ++ filter (λ (card : Card). eqb card.suit suit) board) r)
@@ -190,9 +183,9 @@ pub is-single : (five : List Card) (number : ℕ) (ranks : List ℕ) → AreShow
     → five_card_value five ≡ number ∷ ranks → IsSingle five number ranks
 is-single five number ranks shown often is =
     let at = lengths five ones often in
-    let no_four = no_ranks (exactly five 4) at.four in
-    let no_three = no_ranks (exactly five 3) at.three in
-    let no_two = no_ranks (exactly five 2) at.two in
+    let no_four = nil_from_length (exactly five 4) at.four in
+    let no_three = nil_from_length (exactly five 3) at.three in
+    let no_two = nil_from_length (exactly five 2) at.two in
     record {
       often = often;
       once = λ r.
@@ -216,12 +209,6 @@ is-single five number ranks shown often is =
   where
     too_many : (n : ℕ) → 2 ≤ n → n ≤ 4 → eqb n 4 ≡ false → eqb n 3 ≡ false → eqb n 2 ≡ false → ⊥
     too_many n least few a b c = grind (arith, nat_tests)
-
-head : {x y : ℕ} {xs ys : List ℕ} → x ∷ xs ≡ y ∷ ys → x ≡ y
-head is = cc
-
-tail : {x y : ℕ} {xs ys : List ℕ} → x ∷ xs ≡ y ∷ ys → xs ≡ ys
-tail is = cc
 
 -- what the value of five distinct ranks tells
 pub record Tells (top : Option ℕ) (one : Bool) (all ranks : List ℕ) (number : ℕ) : Type 0 where
@@ -427,27 +414,20 @@ suit-all (card ∷ cards) suit is =
       | true ↦ λ all found.
           let same : card.suit ≡ suit = cc in
           subst (λ s. list_all (λ (other : Card). eqb other.suit s) (card ∷ cards) ≡ true) same
-          (itself card.suit (list_all (λ (other : Card). eqb other.suit card.suit) cards) all)
+          (and_from (eqb card.suit card.suit) (list_all (λ (other : Card). eqb other.suit card.suit) cards)
+          (eq-eqb card.suit card.suit refl) all)
       | false ↦ λ fails found. absurd (let bad : None ≡ Some suit = found in cc)
     ]) refl is
-  where
-    itself : (s : ℕ) (b : Bool) → b ≡ true → (eqb s s && b) ≡ true
-    itself s true is = grind (arith, nat_tests)
-    itself s false is = absurd cc
 
 all-suit : (hole : List Card) (suit : ℕ) → 1 ≤ length hole
     → list_all (λ (card : Card). eqb card.suit suit) hole ≡ true → suit_of hole ≡ Some suit
 all-suit [] suit some all = absurd (omega arith)
 all-suit (card ∷ cards) suit some all =
-    let parts = and_two (eqb card.suit suit) (list_all (λ (other : Card). eqb other.suit suit) cards) all in
+    let parts = and_parts (eqb card.suit suit) (list_all (λ (other : Card). eqb other.suit suit) cards) all in
     let same : card.suit ≡ suit = eqb-true card.suit suit parts.0 in
     let others : list_all (λ (other : Card). eqb other.suit card.suit) cards ≡ true =
     subst (λ s. list_all (λ (other : Card). eqb other.suit s) cards ≡ true) (sym same) parts.1 in
     ap (λ b. cond b (Some card.suit) None) others ∙ ap (λ s. Some s) same
-  where
-    and_two : (a b : Bool) → (a && b) ≡ true → (a ≡ true) × (b ≡ true)
-    and_two true b is = (refl, is)
-    and_two false b is = absurd cc
 
 -- a hand of one suit has ranks of the suit of the hole cards
 pub hand-suited : (hole board three : List Card) (r : ℕ) → length hole ≡ 2 → IsHandOf hole board (hole ++ three)
@@ -455,17 +435,13 @@ pub hand-suited : (hole board three : List Card) (r : ℕ) → length hole ≡ 2
     → count_of_rank (hole ++ three) r ≤ count_of_some_suit (suit_of hole) (hole ++ board) r
 hand-suited hole board three r two hand one =
     let suit = one_suit-all (hole ++ three) one in
-    let both = and_two (list_all (λ (card : Card). eqb card.suit suit.0) hole)
+    let both = and_parts (list_all (λ (card : Card). eqb card.suit suit.0) hole)
     (list_all (λ (card : Card). eqb card.suit suit.0) three)
     (sym (list_all-append (λ (card : Card). eqb card.suit suit.0) hole three) ∙ suit.2) in
-    let of_hole = all-suit hole suit.0 (omega arith) both in
+    let of_hole = all-suit hole suit.0 (omega arith) both.0 in
     subst (λ s. count_of_rank (hole ++ three) r ≤ count_of_some_suit s (hole ++ board) r) (sym of_hole)
     (subst (λ n. n ≤ count_of_suit (hole ++ board) suit.0 r) (all-suited suit.0 (hole ++ three) r suit.2)
     (hand.suits suit.0 r))
-  where
-    and_two : (a b : Bool) → (a && b) ≡ true → a ≡ true
-    and_two true b is = refl
-    and_two false b is = absurd cc
 
 -- hole cards of one suit have two ranks
 suited-apart : (hole board : List Card) (suit r : ℕ) → AreOnce (hole ++ board)

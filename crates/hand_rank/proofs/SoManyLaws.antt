@@ -2,6 +2,7 @@
 use Rattle.std.proofs.Common.{◌≡◌, ℕ, zero, suc, ◌+◌, ◌<◌, ◌≤◌, inr, Bool, true, false, ◌&&◌, ◌||◌, not, eqb, cond, List, [], ◌∷◌, length, Some, None, refl, sym, ap, ap₂, ◌∙◌, subst, eqb-true, zero-le, le_refl, arith}
 use Rattle.std.specs.Prelude.{Option}
 use Rattle.std.proofs.lemmas.Bool.Decides.{nat_tests}
+use Rattle.std.proofs.lemmas.Option.{same_Some}
 use Rattle.card_choices.proofs.ListOrder.{Upto, max_upper}
 use Rattle.hand_rank.specs.declared.rank_set.RankSet.{RankSet}
 use Rattle.hand_rank.specs.BestHigh.{greater}
@@ -104,6 +105,34 @@ falling-upto s c (suc n) lower few =
           ] refl
     ]) refl few
 
+-- a rank that is among some and not among others
+pub both-are : (a b : Bool) → (a && not b) ≡ true → (a ≡ true) × (b ≡ false)
+both-are true false is = (refl, refl)
+both-are true true is = absurd cc
+both-are false b is = absurd cc
+
+-- and the other way round
+pub both-from : (a b : Bool) → a ≡ true → b ≡ false → (a && not b) ≡ true
+both-from true false p q = refl
+both-from true true p q = absurd cc
+both-from false b p q = absurd cc
+
+-- a rank that is among some, where none is among them and not among others, is among the others
+pub none-left : (a b : Bool) → (a && not b) ≡ false → a ≡ true → b ≡ true
+none-left true true fails is = refl
+none-left true false fails is = absurd cc
+none-left false b fails is = absurd cc
+
+-- without a rank the others are as they were
+pub but_one-other : (b : Bool) (r rank : ℕ) → (r ≡ rank → ⊥) → (b && not (eqb r rank)) ≡ b
+but_one-other true r rank apart = grind (arith, nat_tests)
+but_one-other false r rank apart = refl
+
+-- and the rank itself is not there
+pub but_one-itself : (b : Bool) (rank : ℕ) → (b && not (eqb rank rank)) ≡ false
+but_one-itself true rank = grind (arith, nat_tests)
+but_one-itself false rank = refl
+
 -- some ranks that have been taken, each higher than those that are still free
 pub record AreTaken (from forced taken free : ℕ → Bool) (count : ℕ) : Type 0 where
   pub within : (r : ℕ) → r < 16 → taken r ≡ true → from r ≡ true
@@ -131,12 +160,12 @@ taken-more from forced taken free more fewer count rank so_far top without with 
   within = λ r below is. either_way (taken r) (from r ≡ true) (so_far.within r below)
       (λ not_yet. let same = eqb-true r rank (one (taken r) (eqb r rank) (sym (with r) ∙ is) not_yet) in
       subst (λ s. from s ≡ true) (sym same)
-      (both (from rank) (taken rank) (sym (so_far.left rank top.below) ∙ top.passes)).0);
+      (both-are (from rank) (taken rank) (sym (so_far.left rank top.below) ∙ top.passes)).0);
   among = λ r below is. with r ∙ ap (λ b. b || eqb r rank) (so_far.among r below is);
   left = λ r below. without r below ∙ ap (λ b. b && not (eqb r rank)) (so_far.left r below)
       ∙ and_not (from r) (taken r) (eqb r rank) ∙ ap (λ b. from r && not b) (sym (with r));
   above = λ r q below under is has has_not.
-      let free_r = two (free r) (eqb r rank) (sym (without r below) ∙ is) in
+      let free_r = both-are (free r) (eqb r rank) (sym (without r below) ∙ is) in
       either_way (taken q) (r < q) (λ before. so_far.above r q below under free_r.0 before has_not)
       (λ not_yet.
       let same = eqb-true q rank (one (taken q) (eqb q rank) (sym (with q) ∙ has) not_yet) in
@@ -144,7 +173,7 @@ taken-more from forced taken free more fewer count rank so_far top without with 
       let apart = free_r.1 in
       grind (arith, nat_tests));
   many =
-      let not_yet = (both (from rank) (taken rank) (sym (so_far.left rank top.below) ∙ top.passes)).1 in
+      let not_yet = (both-are (from rank) (taken rank) (sym (so_far.left rank top.below) ∙ top.passes)).1 in
       let now : more rank ≡ true = with rank ∙ itself (taken rank) rank in
       let all = falling-but_one taken more rank 16 top.below
       (λ r apart. with r ∙ other (taken r) r rank apart) in
@@ -157,14 +186,6 @@ taken-more from forced taken free more fewer count rank so_far top without with 
     one : (a b : Bool) → (a || b) ≡ true → a ≡ false → b ≡ true
     one true b is not_a = absurd cc
     one false b is not_a = is
-
-    two : (a b : Bool) → (a && not b) ≡ true → (a ≡ true) × (b ≡ false)
-    two true true is = absurd cc
-    two true false is = (refl, refl)
-    two false b is = absurd cc
-
-    both : (a b : Bool) → (a && not b) ≡ true → (a ≡ true) × (b ≡ false)
-    both a b is = two a b is
 
     and_not : (a b c : Bool) → ((a && not b) && not c) ≡ (a && not (b || c))
     and_not true true c = refl
@@ -182,34 +203,27 @@ taken-more from forced taken free more fewer count rank so_far top without with 
 pub taken-all : (from forced taken free : ℕ → Bool) (count : ℕ) → AreTaken from forced taken free count
     → ((r : ℕ) → r < 16 → free r ≡ false) → length (falling from 16) ≤ length (falling forced 16) + count
 taken-all from forced taken free count so_far none =
-    let fewer = falling-fewer from taken 16 (λ r below is. last (from r) (taken r)
+    let fewer = falling-fewer from taken 16 (λ r below is. none-left (from r) (taken r)
     (sym (so_far.left r below) ∙ none r below) is) in
     let all = so_far.many in
     omega (arith, fewer, all)
-  where
-    last : (a b : Bool) → (a && not b) ≡ false → a ≡ true → b ≡ true
-    last true true fails is = refl
-    last true false fails is = absurd cc
-    last false b fails is = absurd cc
 
 -- when so many are taken, they are the greatest
 pub taken-greatest : (set : RankSet) (from forced free : ℕ → Bool) (count more : ℕ)
     → AreTaken from forced (has_rank set.bits) free more → length (falling forced 16) + more ≡ count
     → IsGreatestWith (Some set) from forced count
 taken-greatest set from forced free count more taken sum = record {
-  are = λ other is. subst (λ (s : RankSet). AreSoMany (has_rank s.bits) from forced count) (same set other is) (record {
-    within = taken.within;
-    among = taken.among;
-    many = taken.many ∙ sum;
-  });
+  are = λ other is. subst (λ (s : RankSet). AreSoMany (has_rank s.bits) from forced count) (same_Some set other is)
+      (record {
+        within = taken.within;
+        among = taken.among;
+        many = taken.many ∙ sum;
+      });
   greatest = λ other ranks is are. subst (λ (s : RankSet). max_is (falling ranks 16) (falling (has_rank s.bits) 16))
-      (same set other is) (upper ranks are);
+      (same_Some set other is) (upper ranks are);
   some = λ inside low high. (set, refl);
 }
   where
-    same : (one other : RankSet) → Some one ≡ Some other → one ≡ other
-    same one other is = cc
-
     max_is : List ℕ → List ℕ → Type 0
     max_is xs ys = greater xs ys ≡ ys
 
@@ -244,12 +258,6 @@ some-rank bits some =
       | rank ∷ ranks ↦ λ are few. let leads = falling-leads (has_rank bits) 16 rank ranks are in
           (rank, leads.first.below, leads.first.passes)
     ]) refl some
-
--- a rank that is among some and not among others
-pub both-are : (a b : Bool) → (a && not b) ≡ true → (a ≡ true) × (b ≡ false)
-both-are true false is = (refl, refl)
-both-are true true is = absurd cc
-both-are false b is = absurd cc
 
 -- the same of tests that are alike
 pub greatest-same : (result : Option RankSet) (from as_from forced as_forced : ℕ → Bool) (count : ℕ)

@@ -2,6 +2,7 @@
 use Rattle.std.proofs.Common.{◌≡◌, ℕ, ◌-◌, ◌<◌, ◌≤◌, ◌⊎◌, inl, inr, Bool, true, false, ◌||◌, not, eqb, leb, List, [], ◌∷◌, ◌++◌, length, Some, None, refl, sym, ap, ◌∙◌, subst, eqb-true, leb-true, le-leb, lit≤, arith}
 use Rattle.std.specs.Prelude.{Option}
 use Rattle.std.proofs.lemmas.Bool.Decides.{nat_tests}
+use Rattle.std.proofs.lemmas.Option.{same_Some}
 use Rattle.card_set.specs.declared.card.Card.{Card}
 use Rattle.card_choices.proofs.ListOrder.{Upto}
 use Rattle.hand_rank.specs.declared.held.Held.{Held}
@@ -19,7 +20,7 @@ use Rattle.hand_rank.proofs.MadeLaws.{ones, shown-run}
 use Rattle.hand_rank.proofs.NearLaws.{run-in, in-run, in_run, in_run-below}
 use Rattle.hand_rank.proofs.Needs.{Among, has-only}
 use Rattle.hand_rank.proofs.RunLaws.{occurring, is_run-more, run-found, run-ranks}
-use Rattle.hand_rank.proofs.RunTable.{all_below, holds_below}
+use Rattle.card_set.proofs.Computed.{all_below, holds_below}
 use Rattle.hand_rank.proofs.ShapeLaws.{of-number, rank-within}
 use Rattle.hand_rank.proofs.ShownValues.{occurs-from_two}
 use Rattle.hand_rank.proofs.SingleLaws.{single_count, single-is, AreFive, singles-reached, suited-reached, AreSingle, are-single, single-value, IsSingle, is-single, tells, suit-all, hand-suited}
@@ -161,14 +162,11 @@ straight-best held hole board shown top result is category most others highest f
     (distinct_ranks (hole ++ three)) ranks 4 one.value).straight refl in
     let with = highest.others told.0
     (hand-runs hole board (hole ++ three) 4 ranks count told.0 this one told.1 this.most) in
-    let same : with.0 ≡ top = inside (sym with.1 ∙ found) in
+    let same : with.0 ≡ top = same_Some with.0 top (sym with.1 ∙ found) in
     subst (λ v. Upto (4 ∷ ranks) v) (sym value)
     (subst (λ rs. Upto (4 ∷ rs) (4 ∷ top ∷ [])) (sym told.2)
     (subst (λ t. Upto (4 ∷ told.0 ∷ []) (4 ∷ t ∷ [])) same (upto-one 4 told.0 with.0 with.2))))
   where
-    inside : {x y : ℕ} → Some x ≡ Some y → x ≡ y
-    inside at = cc
-
     above : (one : Bool) (high : ℕ) (ranks : List ℕ) → top ≤ high
         → Upto (4 ∷ top ∷ []) (value_of_distinct (Some high) one ranks)
     above true high ranks up = inl (lit≤ tt)
@@ -236,14 +234,11 @@ straight_flush-best held hole board shown top result is category most others hig
     let with = highest.others told.1.0
     (hand-runs hole board (hole ++ three) 8 ranks (count_of_some_suit (suit_of hole) (hole ++ board)) told.1.0 this one
     told.1.1 (λ r. hand-suited hole board three r is.two this told.0)) in
-    let same : with.0 ≡ top = inside (sym with.1 ∙ found) in
+    let same : with.0 ≡ top = same_Some with.0 top (sym with.1 ∙ found) in
     subst (λ v. Upto (8 ∷ ranks) v) (sym value)
     (subst (λ rs. Upto (8 ∷ rs) (8 ∷ top ∷ [])) (sym told.1.2)
     (subst (λ t. Upto (8 ∷ told.1.0 ∷ []) (8 ∷ t ∷ [])) same (upto-one 8 told.1.0 with.0 with.2))))
   where
-    inside : {x y : ℕ} → Some x ≡ Some y → x ≡ y
-    inside at = cc
-
     some_suit : (suit : Option ℕ) → suit_of hole ≡ suit → (s : ℕ) × (suit_of hole ≡ Some s)
     some_suit (Some s) at = (s, at)
     some_suit None at =

@@ -1,9 +1,8 @@
 -- The ranks of each suit, and how often ranks occur.
-use Rattle.std.proofs.Common.{◌≡◌, ℕ, ◌+◌, ◌<◌, ◌≤◌, ◌⊎◌, Bool, true, false, ◌&&◌, ◌||◌, eqb, leb, cond, List, [], ◌∷◌, ◌++◌, length, take, set, get_or, get_or-set_same, get_or-set_other, Some, None, refl, lit≤, sym, ap, ◌∙◌, eqb-true, arith}
+use Rattle.std.proofs.Common.{◌≡◌, ℕ, ◌+◌, ◌<◌, ◌≤◌, ◌⊎◌, Bool, true, false, ◌&&◌, ◌||◌, eqb, leb, cond, List, [], ◌∷◌, ◌++◌, length, take, set, get_or, get_or-set_same, get_or-set_other, Some, None, refl, add-zero, lit≤, sym, ap, ◌∙◌, eqb-true, arith}
 use Rattle.std.specs.Prelude.{Option, filter}
 use Rattle.std.proofs.lemmas.Bool.Decides.{nat_tests}
 use Rattle.std.proofs.lemmas.List.{take_more}
-use Rattle.std.proofs.lemmas.List.Sums.{sum_by-append}
 use Rattle.card_set.specs.declared.card.Card.{Card}
 use Rattle.card_choices.proofs.ListOrder.{max_assoc, max_lower}
 use Rattle.hand_rank.specs.declared.rank_set.RankSet.{RankSet}
@@ -11,7 +10,7 @@ use Rattle.hand_rank.specs.BestHigh.{greater}
 use Rattle.hand_rank.specs.Made.{first_made, count_of_suit, value_of_suit, value_of_ranks, value_made, AreOnce}
 use Rattle.hand_rank.specs.Sets.{has_rank, HasRanks, IsTallyOf, AreSuitsOf}
 use Rattle.hand_rank.specs.Values.{count_of_rank}
-use Rattle.hand_rank.proofs.CardCounts.{other-rank, by-suits, suited-rank, count_of_suit-cons}
+use Rattle.hand_rank.proofs.CardCounts.{other-rank, by-suits, suit-joined, suited-rank, count_of_suit-cons}
 use Rattle.hand_rank.proofs.ChangeLaws.{greater-combining}
 
 -- the first of some values, where there is one
@@ -34,10 +33,6 @@ suit-has sets cards suit other are within = record {
       ∙ other-rank (filter (λ (card : Card). eqb card.suit suit) cards) r out;
 }
 
-count-joined : (cards more : List Card) (suit r : ℕ)
-    → count_of_suit (cards ++ more) suit r ≡ count_of_suit cards suit r + count_of_suit more suit r
-count-joined cards more suit r = sum_by-append (λ (c : Card). cond (eqb c.suit suit && eqb c.rank r) 1 0) cards more
-
 -- one more card
 pub suits-more : (sets : List RankSet) (cards : List Card) (i : ℕ) (card : Card) (more default : RankSet)
     → length sets ≡ 4 → i < length cards → card ≡ get_or cards i card
@@ -48,7 +43,7 @@ suits-more sets cards i card more default four within at has are suit r other be
     ∙ ap (λ c. take i cards ++ c ∷ []) (sym at) in
     let all : count_of_suit (take (i + 1) cards) suit r ≡ count_of_suit (take i cards) suit r + cond
     (eqb card.suit suit && eqb card.rank r) 1 0 =
-    ap (λ cs. count_of_suit cs suit r) whole ∙ count-joined (take i cards) (card ∷ []) suit r
+    ap (λ cs. count_of_suit cs suit r) whole ∙ suit-joined (take i cards) (card ∷ []) suit r
     ∙ ap (λ n. count_of_suit (take i cards) suit r + n) (only card suit r) in
     elim (eqb card.suit suit) as (λ b. eqb card.suit suit ≡ b
     → has_rank (get_or (set sets card.suit more) suit other).bits r
@@ -71,7 +66,7 @@ suits-more sets cards i card more default four within at has are suit r other be
           get_or-set_other sets card.suit suit more other differ in
           ap (λ (s : RankSet). has_rank s.bits r) here ∙ are suit r other below
           ∙ ap (leb 1) (sym (all ∙ ap (λ b. count_of_suit (take i cards) suit r + cond (b && eqb card.rank r) 1 0) apart
-          ∙ no_more (count_of_suit (take i cards) suit r)))
+          ∙ add-zero (count_of_suit (take i cards) suit r)))
     ] refl
   where
     only : (card : Card) (suit r : ℕ)
@@ -80,9 +75,6 @@ suits-more sets cards i card more default four within at has are suit r other be
 
     added : (n r rank : ℕ) → (leb 1 n || eqb r rank) ≡ leb 1 (n + cond (true && eqb rank r) 1 0)
     added n r rank = grind (arith, nat_tests)
-
-    no_more : (n : ℕ) → n + 0 ≡ n
-    no_more n = omega arith
 
 -- how often a rank occurs, by the suits that have it
 pub tally-is : (once twice thrice four : ℕ) (cards : List Card) (a b c d : ℕ → Bool)

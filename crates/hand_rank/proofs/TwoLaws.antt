@@ -1,6 +1,7 @@
 -- The best two pair.
 use Rattle.std.proofs.Common.{◌≡◌, ℕ, zero, suc, ◌+◌, ◌<◌, ◌≤◌, ◌⊎◌, inl, inr, Bool, true, false, ◌&&◌, ◌||◌, not, eqb, leb, cond, List, [], ◌∷◌, ◌++◌, length, Some, None, refl, sym, ap, ap₂, ◌∙◌, subst, zero-le, le_refl, le_trans, eqb-true, leb-true, le-leb, lit≤, arith}
 use Rattle.std.specs.Prelude.{Option}
+use Rattle.std.proofs.lemmas.Bool.{and_from, and_parts, eqb-false, ne_eqb}
 use Rattle.std.proofs.lemmas.Bool.Decides.{nat_tests}
 use Rattle.card_set.specs.declared.card.Card.{Card}
 use Rattle.card_choices.proofs.ListOrder.{Upto}
@@ -16,8 +17,8 @@ use Rattle.hand_rank.specs.Values.{category_number, count_of_rank, five_card_val
 use Rattle.hand_rank.proofs.CardCounts.{other-rank}
 use Rattle.hand_rank.proofs.FiveLaws.{exactly, falling-one}
 use Rattle.hand_rank.proofs.HandLaws.{IsHandOf, is-hand, IsReached, hand-with, two-ranks, upto-of, no-best, some-best}
-use Rattle.hand_rank.proofs.LeaderLaws.{few-times, beside-few, and_parts, and_both}
-use Rattle.hand_rank.proofs.LedLaws.{rep, has-falling, total-passing, falling-15, differ}
+use Rattle.hand_rank.proofs.LeaderLaws.{few-times, beside-few}
+use Rattle.hand_rank.proofs.LedLaws.{rep, has-falling, total-passing, falling-15}
 use Rattle.hand_rank.proofs.PartLaws.{count-joined}
 use Rattle.hand_rank.proofs.PickLaws.{highest-is, highest-none, Has, Falls, without-other}
 use Rattle.hand_rank.proofs.Sections.{total-same, total-without, falling-none, falling-leads, falling-same}
@@ -114,8 +115,8 @@ two-reached hole board first second others two five may are =
                             | true ↦ λ some.
                                 let has = are.among r (grind (arith, nat_tests))
                                 (leb-true 1 (count_of_rank hole r) some)
-                                (differ r first not_first) (differ r second not_second) in
-                                rw has (once r (differ r first not_first) (differ r second not_second))
+                                (eqb-false r first not_first) (eqb-false r second not_second) in
+                                rw has (once r (eqb-false r first not_first) (eqb-false r second not_second))
                             | false ↦ λ nothing. let zero_times : count_of_rank hole r ≡ 0 = grind (arith, nat_tests) in
                                 subst (λ n. n ≤ cond (others r) 1 0) (sym zero_times) zero-le
                           ] refl
@@ -157,10 +158,6 @@ neither true false true is = absurd cc
 neither true true c is = absurd cc
 neither false b c is = absurd cc
 
-apart-from : (r x : ℕ) → (r ≡ x → ⊥) → eqb r x ≡ false
-apart-from r x differs = either_way (eqb r x) (eqb r x ≡ false) (λ same. absurd (differs (eqb-true r x same)))
-    (λ is. is)
-
 -- what is asked of the rank beside two pairs, as tests on a set of the two
 abbrev from_test : Held → ℕ → ℕ → ℕ → Bool
 from_test held first second r = has_rank held.all.once.bits r && not (eqb r first || eqb r second)
@@ -187,8 +184,8 @@ found-beside held hole board first second others is one two are = record {
       let itself : eqb second second ≡ true = grind (arith, nat_tests) in
       let is_not = parts.2 in absurd cc) (λ is_not. is_not);
   among = λ r under has differs apart. are.among r under (both_not (has_rank held.pair.once.bits r) (eqb r first)
-      (eqb r second) (is.pair.of_once.at r under ∙ le-leb 1 (count_of_rank hole r) has) (apart-from r first differs)
-      (apart-from r second apart));
+      (eqb r second) (is.pair.of_once.at r under ∙ le-leb 1 (count_of_rank hole r) has) (ne_eqb r first differs)
+      (ne_eqb r second apart));
   many = are.many;
 }
 
@@ -198,12 +195,12 @@ asked : (held : Held) (hole board : List Card) (first second : ℕ) (others : �
 asked held hole board first second others is are = record {
   within = λ r below has. both_not (has_rank held.all.once.bits r) (eqb r first) (eqb r second)
       (is.all.of_once.at r below ∙ le-leb 1 (count_of_rank (hole ++ board) r) (are.within r below has))
-      (apart-from r first (λ same. let is_not = ap others same ∙ are.not_first in absurd cc))
-      (apart-from r second (λ same. let is_not = ap others same ∙ are.not_second in absurd cc));
+      (ne_eqb r first (λ same. let is_not = ap others same ∙ are.not_first in absurd cc))
+      (ne_eqb r second (λ same. let is_not = ap others same ∙ are.not_second in absurd cc));
   among = λ r below has.
       let parts = neither (has_rank held.pair.once.bits r) (eqb r first) (eqb r second) has in
       are.among r below (leb-true 1 (count_of_rank hole r) (sym (is.pair.of_once.at r below) ∙ parts.0))
-      (differ r first parts.1) (differ r second parts.2);
+      (eqb-false r first parts.1) (eqb-false r second parts.2);
   many = are.many;
 }
 
@@ -267,7 +264,7 @@ two-best held hole board shown first second is category of_most greatest may hig
     subst (λ m. 1 ≤ m) (sym (without-other second r (without first count) not_second
     ∙ without-other first r count not_first ∙ reached.counts r ∙ there r within not_first not_second has))
     (le_refl 1)))) in
-    let second_kept : without first count second ≡ 2 = without-other first second count (differ second first apart)
+    let second_kept : without first count second ≡ 2 = without-other first second count (eqb-false second first apart)
     ∙ at_second in
     let have : Has (2 ∷ 2 ∷ 1 ∷ []) (first ∷ second ∷ ranks_of shown.others.bits) count = (
       below,
@@ -311,8 +308,8 @@ two-best held hole board shown first second is category of_most greatest may hig
         → two_count first second (has_rank shown.others.bits) r ≡ 1
     there r within not_first not_second has =
         let low : leb 15 r ≡ false = grind (arith, nat_tests) in
-        let one = apart-from r first not_first in
-        let other = apart-from r second not_second in
+        let one = ne_eqb r first not_first in
+        let other = ne_eqb r second not_second in
         rw (low, one, other, has) refl
 
     on : (a b : ℕ) (xs ys : List ℕ) → Upto (a ∷ b ∷ []) (first ∷ second ∷ []) → (a ≡ first → b ≡ second → Upto xs ys)
@@ -392,7 +389,7 @@ twice-second held hole board five ranks is hand two =
     is.all.of_twice.at two.second (omega arith) ∙ le-leb 2 (count_of_rank (hole ++ board) two.second) (omega arith)
 
 not_is : (r x : ℕ) → (r ≡ x → ⊥) → not (eqb r x) ≡ true
-not_is r x differs = ap not (apart-from r x differs)
+not_is r x differs = ap not (ne_eqb r x differs)
 
 -- the hole cards have one of the two
 held-two : (hole board five : List Card) (ranks : List ℕ) → IsHandOf hole board five → (two : AreTwoPair five ranks)
@@ -417,14 +414,14 @@ seconds-same held hole board five ranks bits first is hand two seconds same =
     let at = ap (count_of_rank hole) same in
     either_way (has_rank held.pair.once.bits first) (has_rank bits two.second ≡ true)
     (λ of_pair. seconds.of_pair of_pair two.second (omega arith)
-    ∙ and_both (has_rank held.all.twice.bits two.second) (not (eqb two.second first)) twice apart)
+    ∙ and_from (has_rank held.all.twice.bits two.second) (not (eqb two.second first)) twice apart)
     (λ of_board.
     let none : leb 1 (count_of_rank hole first) ≡ false = sym (is.pair.of_once.at first (omega arith)) ∙ of_board in
     let nothing : count_of_rank hole first ≡ 0 = grind (arith, nat_tests) in
     seconds.of_board of_board two.second (omega arith)
-    ∙ and_both (has_rank held.all.twice.bits two.second && not (eqb two.second first))
+    ∙ and_from (has_rank held.all.twice.bits two.second && not (eqb two.second first))
     (has_rank held.pair.once.bits two.second)
-    (and_both (has_rank held.all.twice.bits two.second) (not (eqb two.second first)) twice apart)
+    (and_from (has_rank held.all.twice.bits two.second) (not (eqb two.second first)) twice apart)
     (is.pair.of_once.at two.second (omega arith) ∙ le-leb 1 (count_of_rank hole two.second) (omega arith)))
 
 -- and where a hand has two pair, there is one of them
@@ -444,14 +441,14 @@ seconds-some held hole board five ranks bits first is hand two seconds high up =
         seconds-same held hole board five ranks bits first is hand two seconds (eqb-true two.first first same),
       )
       | false ↦ λ differs.
-          let apart_first = not_is two.first first (differ two.first first differs) in
+          let apart_first = not_is two.first first (eqb-false two.first first differs) in
           let apart_second = not_is two.second first (λ at. absurd (omega arith)) in
           either_way (has_rank held.pair.once.bits first) ((r : ℕ) × (r < 16) × (has_rank bits r ≡ true))
           (λ of_pair. (
             two.first,
             omega arith,
             seconds.of_pair of_pair two.first (omega arith)
-                ∙ and_both (has_rank held.all.twice.bits two.first) (not (eqb two.first first)) twice_first apart_first,
+                ∙ and_from (has_rank held.all.twice.bits two.first) (not (eqb two.first first)) twice_first apart_first,
           ))
           (λ of_board. elim (leb 1 (count_of_rank hole two.first)) as (λ b. leb 1 (count_of_rank hole two.first) ≡ b
           → (r : ℕ) × (r < 16) × (has_rank bits r ≡ true)) [
@@ -459,9 +456,9 @@ seconds-some held hole board five ranks bits first is hand two seconds high up =
               two.first,
               omega arith,
               seconds.of_board of_board two.first (omega arith)
-                  ∙ and_both (has_rank held.all.twice.bits two.first && not (eqb two.first first))
+                  ∙ and_from (has_rank held.all.twice.bits two.first && not (eqb two.first first))
                   (has_rank held.pair.once.bits two.first)
-                  (and_both (has_rank held.all.twice.bits two.first) (not (eqb two.first first)) twice_first
+                  (and_from (has_rank held.all.twice.bits two.first) (not (eqb two.first first)) twice_first
                   apart_first)
                   (is.pair.of_once.at two.first (omega arith) ∙ some),
             )
@@ -470,9 +467,9 @@ seconds-some held hole board five ranks bits first is hand two seconds high up =
                   two.second,
                   omega arith,
                   seconds.of_board of_board two.second (omega arith)
-                      ∙ and_both (has_rank held.all.twice.bits two.second && not (eqb two.second first))
+                      ∙ and_from (has_rank held.all.twice.bits two.second && not (eqb two.second first))
                       (has_rank held.pair.once.bits two.second)
-                      (and_both (has_rank held.all.twice.bits two.second) (not (eqb two.second first)) twice_second
+                      (and_from (has_rank held.all.twice.bits two.second) (not (eqb two.second first)) twice_second
                       apart_second)
                       (is.pair.of_once.at two.second (omega arith)
                       ∙ le-leb 1 (count_of_rank hole two.second) (omega arith)),
@@ -615,7 +612,7 @@ no-third held hole board first second found best is may greatest none is_none =
         let parts = and_parts (has_rank held.pair.once.bits r) (not (eqb r first || eqb r second)) has in
         let some = leb-true 1 (count_of_rank hole r) (sym (is.pair.of_once.at r under) ∙ parts.0) in
         let sum = count-joined hole board r in
-        and_both (has_rank held.all.once.bits r) (not (eqb r first || eqb r second))
+        and_from (has_rank held.all.once.bits r) (not (eqb r first || eqb r second))
         (is.all.of_once.at r under ∙ le-leb 1 (count_of_rank (hole ++ board) r) (omega arith)) parts.1
 
     less_first : (a b c : Bool) → (a && not (b || c)) ≡ true → (a && not b) ≡ true

@@ -1,5 +1,7 @@
 -- What the last state says, once a seat has taken in all passes.
 use Rattle.std.proofs.Common.{◌≡◌, ◌≢◌, ◌⊎◌, ℕ, suc, ◌<◌, ◌≤◌, false, List, [], ◌∷◌, map, length, refl, sym, ap, ◌∙◌, subst, ⊎_elim, arith, Option, Some, All, Any}
+use Rattle.std.proofs.lemmas.Bool.{false_from_ne_true}
+use Rattle.std.proofs.lemmas.List.{nil_from_length}
 use mathlib.Core.Logic.{dite}
 use mathlib.Core.Option.{some, some-injective}
 use mathlib.Core.List.{IsPrefix}
@@ -17,7 +19,6 @@ use Rattle.history_lock.specs.Passes.{pass_number, seen, own, share_of}
 use Rattle.history_lock.specs.Rule.{IsKept}
 use Rattle.history_lock.proofs.Lists.{each_map, all_of_each, two_le_sum_by}
 use Rattle.history_lock.proofs.Frames.{shares_of, same_view}
-use Rattle.history_lock.proofs.Tickets.{false_unless}
 
 module _ {A B : Type 0} (f : A → B) where
   each_of_map : (P : B → Type 0) (xs : List A) → Each P (map f xs) → Each (λ x. P (f x)) xs
@@ -32,10 +33,6 @@ module _ {A B : Type 0} (f : A → B) where
   any_of_map P (x ∷ xs) p =
       ⊎_elim (λ h. (0, x, omega arith, refl, h)) (λ h. let t = any_of_map P xs h in
       (suc t.0, t.1, let lt = t.2 in omega arith, t.3, t.4)) p
-
-empty_list : {A : Type 0} (l : List A) → length l ≤ 0 → l ≡ []
-empty_list [] le = refl
-empty_list (x ∷ xs) le = absurd (omega arith)
 
 module _ {Val E : Type 0} (history : Val → List E) (caller_of : E → ℕ) (n : ℕ) where
   abbrev St : Type 0
@@ -56,10 +53,10 @@ module _ {Val E : Type 0} (history : Val → List E) (caller_of : E → ℕ) (n 
       let s : St = f.0 in let r = f.1.0 in let at = f.1.1 in
       let none_left : (j : ℕ) (a : View E) → j ≢ id → HasView s.views j a → a.shares ≡ [] = λ j a ne h.
       let two = two_le_sum_by shares_of s.views id j v a (λ e. ne (sym e)) at h in
-      empty_list a.shares (omega (arith, r.numbers.once)) in
+      nil_from_length a.shares (omega (arith, r.numbers.once)) in
       let quiet : (j : ℕ) (a : View E) → HasView s.views j a → a.served ≡ false = λ j a h. dite (ℕ_discrete j id)
       (λ e. ap (λ (z : View E). z.served) (same_view s.views id a v (subst (λ k. HasView s.views k a) e h) at) ∙ out)
-      (λ ne. false_unless a.served (λ is. let t = r.served.ticket j a h is in let i =
+      (λ ne. false_from_ne_true a.served (λ is. let t = r.served.ticket j a h is in let i =
       r.spent j a h (none_left j a ne h) in absurd (cc (t, i)))) in
       let home = r.slot.home quiet in
       let Own : Share E → Type 0 = λ z. (z.number < n) × (r.keeper z.number ≡ id)

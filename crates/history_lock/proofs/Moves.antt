@@ -1,5 +1,6 @@
 -- Each step of a pass keeps the rule.
 use Rattle.std.proofs.Common.{◌≡◌, ◌≢◌, ◌⊎◌, ◌==◌, ℕ, ◌+◌, ◌%◌, ◌^◌, ◌<◌, ◌≤◌, Bool, true, false, List, [], ◌∷◌, ◌++◌, length, drop, set, get_or, refl, sym, ap, ◌∙◌, subst, inl, inr, arith, Option, Some, None, MatchBool}
+use Rattle.std.proofs.lemmas.Bool.{false_from_ne_true}
 use Rattle.std.proofs.lemmas.Bool.Decides.{nat_tests}
 use mathlib.Core.Logic.{dite}
 use mathlib.Core.Option.{none, some}
@@ -19,7 +20,7 @@ use Rattle.history_lock.specs.Steps.{drew, looked, IsFound, served_view, share_l
 use Rattle.history_lock.proofs.Lists.{within, each_set, each_append, each_map}
 use Rattle.history_lock.proofs.Prefixes.{prefix_self, prefix_length, drop_append, entries_by_grown, entries_by_kept}
 use Rattle.history_lock.proofs.Frames.{same_view, tickets_stay, served_stays, spent_stays, seen_grows, numbers_stay}
-use Rattle.history_lock.proofs.Tickets.{false_unless, waiting_lt, tickets_drawn, tickets_spent, slot_stays}
+use Rattle.history_lock.proofs.Tickets.{waiting_lt, tickets_drawn, tickets_spent, slot_stays}
 
 module _ {Val E : Type 0} (history : Val → List E) (caller_of : E → ℕ) (n : ℕ) where
   abbrev St : Type 0
@@ -98,7 +99,7 @@ module _ {Val E : Type 0} (history : Val → List E) (caller_of : E → ℕ) (n 
   -- where a view has the ticket that is served and is not served yet, no view is served
   none_served : (s : St) (r : Rule s) (id : ℕ) (v : View E) → HasView s.views id v → v.ticket ≡ Some r.serving
       → v.served ≡ false → (j : ℕ) (a : View E) → HasView s.views j a → a.served ≡ false
-  none_served s r id v at has out j a h = false_unless a.served (λ is.
+  none_served s r id v at has out j a h = false_from_ne_true a.served (λ is.
       let here : j ≡ id = r.tickets.differ j id a v r.serving h at (r.served.ticket j a h is) has in
       let same : a ≡ v = same_view s.views id a v (subst (λ k. HasView s.views k a) here h) at in
       absurd (cc (is, out, same)))
@@ -255,7 +256,7 @@ module _ {Val E : Type 0} (history : Val → List E) (caller_of : E → ℕ) (n 
       let mine = owned s r id v x at has in
       let quiet : (j : ℕ) (a : View E) → HasView (set s.views id w) j a
       → a.served ≡ false = each_set (λ (j : ℕ) (a : View E). a.served ≡ false) s.views id w refl
-      (λ j a ne h. false_unless a.served (λ is'. ne (r.served.one j id a v h at is' inside))) in (
+      (λ j a ne h. false_from_ne_true a.served (λ is'. ne (r.served.one j id a v h at is' inside))) in (
         w,
         gives,
         tt,

@@ -13,10 +13,6 @@ use Rattle.history_lock.specs.Rule.{TicketsAreInRange, OneIsServed, SlotIsRight,
 use Rattle.history_lock.proofs.Lists.{each_set, at_push, sum_by_lt}
 use Rattle.history_lock.proofs.Frames.{has_ticket, shares_of, same_view, waiting-set}
 
-pub false_unless : (b : Bool) → (b ≡ true → ⊥) → b ≡ false
-false_unless true never = absurd (never refl)
-false_unless false never = refl
-
 -- one more after a remainder
 pub mod-step : (a : ℕ) → (a % 2 ^ 64 + 1) % 2 ^ 64 ≡ (a + 1) % 2 ^ 64
 mod-step a = omega arith

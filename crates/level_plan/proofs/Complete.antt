@@ -1,7 +1,7 @@
 -- A draft in which nothing is wrong at the end has each item, and these make a right plan.
 use Rattle.std.proofs.Common.{◌≡◌, ℕ, refl, subst, sym, true, false, length, Option, Some, None, arith}
 use Rattle.std.specs.Prelude.{Bool, ◌==◌, ◌%◌, not, nat_lt, IsSome, is_none, unwrap_or, if◌then◌else◌}
-use Rattle.std.proofs.lemmas.Bool.{and_from}
+use Rattle.std.proofs.lemmas.Bool.{and_from, not-false}
 use Rattle.std.proofs.lemmas.Bool.Decides.{nat_tests}
 use Rattle.level_plan.specs.declared.line.PlanItem.{PlanItem}
 use Rattle.level_plan.specs.Items.{is_between}
@@ -63,10 +63,6 @@ is_level : (late levels : ℕ) → is_between 1 40 late ≡ true → nat_lt leve
     → is_between 1 levels late ≡ true
 is_level late levels between few = grind (arith, nat_tests)
 
-holds_of : (b : Bool) → not b ≡ false → b ≡ true
-holds_of true none = refl
-holds_of false none = cc
-
 -- the items of a plan are those of the draft
 pub record IsPlanOf (draft : Draft) (plan : PlanTerms) : Type 0 where
   pub game : draft.game ≡ Some plan.game
@@ -92,4 +88,4 @@ right draft plan is all of =
     (and_from _ _ (rw of.blinds is.level_count)
     (and_from _ _ (rw of.blinds is.levels)
     (and_from _ _ (lawful draft.shares plan.shares _ of.shares is.shares)
-    (holds_of _ whole))))))))
+    (not-false _ whole))))))))

@@ -7,7 +7,7 @@ use Rattle.std.proofs.lemmas.List.{map-append}
 use Rattle.card_set.specs.declared.card.Card.{Card}
 use Rattle.card_choices.specs.Changes.{AreRenamed}
 use Rattle.card_choices.specs.Choices.{omaha_choices}
-use Rattle.card_choices.proofs.Combined.{combined, IsCombining, AllowsExchange, omaha-exchange_hole, omaha-exchange_board, omaha-renamed}
+use Rattle.card_choices.proofs.Combined.{combined, IsCombining, AllowsExchange, list_all-exchange, omaha-exchange_hole, omaha-exchange_board, omaha-renamed}
 use Rattle.card_choices.proofs.ListOrder.{upto_both, min-within, min-below_left, min-below_right}
 use Rattle.low_rank.specs.Lows.{low_rank, are_different, low_ranks_down, in_falling_order, low_value, better_low, best_low_of}
 use Rattle.low_rank.proofs.LowLaws.{better_assoc}
@@ -30,21 +30,11 @@ unfolding best_low_of
 best_low_of-combined [] = refl
 best_low_of-combined (cards ∷ hands) = ap (better_low (low_value cards)) (best_low_of-combined hands)
 
-and-turned : (x y z : Bool) → (x && (y && z)) ≡ (y && (x && z))
-and-turned true true z = refl
-and-turned true false z = refl
-and-turned false true z = refl
-and-turned false false z = refl
-
 or-turned : (x y z : Bool) → (x || (y || z)) ≡ (y || (x || z))
 or-turned true true z = refl
 or-turned true false z = refl
 or-turned false true z = refl
 or-turned false false z = refl
-
-list_all-exchange : (test : ℕ → Bool) → AllowsExchange (list_all test)
-list_all-exchange test [] a b back = and-turned (test a) (test b) (list_all test back)
-list_all-exchange test (x ∷ front) a b back = ap (λ y. test x && y) (list_all-exchange test front a b back)
 
 list_any-exchange : (test : ℕ → Bool) → AllowsExchange (list_any test)
 list_any-exchange test [] a b back = or-turned (test a) (test b) (list_any test back)
@@ -88,8 +78,8 @@ low_value-of cards = refl
 
 value_of-exchange : AllowsExchange value_of
 value_of-exchange front a b back =
-    λ i. if are_different-exchange front a b back i && list_all-exchange (λ rank. leb rank 8) front a b back i then Some
-    (in_falling_order-exchange front a b back i) else None
+    λ i. if are_different-exchange front a b back i && list_all-exchange (λ (rank : ℕ). leb rank 8) front a b back i
+    then Some (in_falling_order-exchange front a b back i) else None
 
 low_value-exchange : AllowsExchange low_value
 low_value-exchange front a b back =

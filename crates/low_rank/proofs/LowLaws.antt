@@ -3,6 +3,7 @@ use Rattle.std.proofs.Common.{◌≡◌, ℕ, suc, ◌+◌, ◌<◌, ◌≤◌, 
 use Rattle.std.specs.Prelude.{map, filter, count_by, Option, Some, None, if◌then◌else◌}
 use Rattle.std.specs.List.{list_all, list_any, flat_map}
 use Rattle.std.proofs.lemmas.List.{map_more, take_more, take_more_set, drop_all, take_all}
+use Rattle.std.proofs.lemmas.Bool.{and_parts, not-true}
 use Rattle.std.proofs.lemmas.Bool.Decides.{nat_tests}
 use Rattle.std.proofs.lemmas.Grind.{flat_map-append}
 use Rattle.std.proofs.lemmas.List.Sums.{sum_by-cons, length-filter}
@@ -66,25 +67,17 @@ count-one_more test rank (r ∷ ranks) out =
 one_low : (rank : ℕ) → leb 1 rank ≡ true → leb rank 8 ≡ true → count_by (λ r. eqb rank r) low_ranks_down ≡ 1
 one_low rank from to = grind (arith, nat_tests)
 
-both : (a b : Bool) → (a && b) ≡ true → (a ≡ true) × (b ≡ true)
-both true b h = (refl, h)
-both false b h = absurd cc
-
-negated : (a : Bool) → not a ≡ true → a ≡ false
-negated true h = absurd cc
-negated false h = refl
-
 -- different low ranks are so many of the eight
 pub count-low : (ranks : List ℕ) → are_different ranks ≡ true → list_all (λ rank. leb 1 rank) ranks ≡ true
     → list_all (λ rank. leb rank 8) ranks ≡ true
     → count_by (λ rank. list_any (λ other. eqb other rank) ranks) low_ranks_down ≡ length ranks
 count-low [] different from to = refl
 count-low (rank ∷ ranks) different from to =
-    let apart = both (not (list_any (λ other. eqb other rank) ranks)) (are_different ranks) different in
-    let froms = both (leb 1 rank) (list_all (λ r. leb 1 r) ranks) from in
-    let tos = both (leb rank 8) (list_all (λ r. leb r 8) ranks) to in
+    let apart = and_parts (not (list_any (λ other. eqb other rank) ranks)) (are_different ranks) different in
+    let froms = and_parts (leb 1 rank) (list_all (λ r. leb 1 r) ranks) from in
+    let tos = and_parts (leb rank 8) (list_all (λ r. leb r 8) ranks) to in
     let later = count-low ranks apart.1 froms.1 tos.1 in
-    let more = count-one_more (λ r. list_any (λ other. eqb other r) ranks) rank low_ranks_down (negated _ apart.0) in
+    let more = count-one_more (λ r. list_any (λ other. eqb other r) ranks) rank low_ranks_down (not-true _ apart.0) in
     let one = one_low rank froms.0 tos.0 in
     omega (arith, more, one, later)
 

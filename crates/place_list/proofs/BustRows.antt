@@ -1,8 +1,8 @@
 -- The list of players who are out, once one more is.
-use Rattle.std.proofs.Common.{◌≡◌, ◌∙◌, refl, ap, ℕ, Bool, true, false, List, [], ◌∷◌, ◌++◌, map}
-use Rattle.std.specs.Prelude.{◌==◌, ◌||◌, not}
+use Rattle.std.proofs.Common.{◌≡◌, ◌∙◌, refl, ap, ℕ, true, false, List, [], ◌∷◌, ◌++◌, map}
+use Rattle.std.specs.Prelude.{◌==◌, not}
 use Rattle.std.specs.List.{list_any, list_all}
-use Rattle.std.proofs.lemmas.Bool.{and_parts, and_from}
+use Rattle.std.proofs.lemmas.Bool.{and_parts, and_from, or_parts}
 use Rattle.rulebook.specs.Pairs.{are_distinct}
 use Rattle.place_list.specs.declared.bust.Bust.{Bust}
 
@@ -14,14 +14,10 @@ pub distinct-more : (player : ℕ) (bust : Bust) (busts : List Bust) → bust.pl
 distinct-more player bust [] is once distinct = refl
 distinct-more player bust (first ∷ busts) is once distinct =
     let parts = and_parts _ _ distinct in
-    let apart = neither (first.player == player) (list_any (λ (other : Bust). other.player == player) busts) once in
+    let apart = or_parts (first.player == player) (list_any (λ (other : Bust). other.player == player) busts) once in
     and_from _ _ (apart-more first.player bust busts (ap not (ap (λ n. first.player == n) is ∙ apart.0)) parts.0)
     (distinct-more player bust busts is apart.1 parts.1)
   where
-    neither : (one other : Bool) → (one || other) ≡ false → (one ≡ false) × (other ≡ false)
-    neither true other none = (none, cc)
-    neither false other none = (refl, none)
-
     apart-more : (n : ℕ) (last : Bust) (rest : List Bust) → not (n == last.player) ≡ true
         → list_all (λ m. not (n == m)) (map (λ (other : Bust). other.player) rest) ≡ true
         → list_all (λ m. not (n == m)) (map (λ (other : Bust). other.player) (rest ++ last ∷ [])) ≡ true

@@ -2,12 +2,7 @@
 use Rattle.std.proofs.Common.{◌≡◌, ◌∙◌, refl, ap, sym, ℕ, zero, suc, ◌+◌, ◌-◌, ◌<◌, ◌≤◌, min, max, Bool, true, false, List, [], ◌∷◌, length, get_or, arith}
 use Rattle.std.specs.Prelude.{if◌then◌else◌, count_by, ◌&&◌, nat_lt, nat_le}
 use Rattle.std.proofs.lemmas.Bool.Decides.{nat_tests}
-use Rattle.std.proofs.lemmas.List.Sums.{sum_by-cons}
-
--- The first item of a list is counted, and then the others.
-pub count_by-cons : {A : Type 0} (test : A → Bool) (item : A) (items : List A) → count_by test (item ∷ items)
-    ≡ (if test item then 1 else 0) + count_by test items
-count_by-cons {A = A} test item items = sum_by-cons (λ (one : A). if test one then 1 else 0) item items
+use Rattle.rulebook.proofs.Tests.{count_by-cons}
 
 -- Tests that agree count the same.
 pub count_by-same : {A : Type 0} (one other : A → Bool) (items : List A) → ((item : A) → one item ≡ other item)

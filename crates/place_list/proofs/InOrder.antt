@@ -3,18 +3,19 @@ use Rattle.std.proofs.Common.{◌≡◌, ◌≢◌, ◌∙◌, refl, ap, sym, �
 use Rattle.std.specs.Prelude.{sum, if◌then◌else◌, count_by, map, not, ◌==◌, ◌&&◌, ◌||◌, nat_lt}
 use Rattle.std.specs.List.{list_all}
 use Rattle.std.specs.List.Sorted.{IsPermutation, IsSortedBy}
-use Rattle.std.proofs.lemmas.Bool.{cases_Bool, and_parts}
+use Rattle.std.proofs.lemmas.Bool.{cases_Bool, and_parts, eq-eqb}
 use Rattle.std.proofs.lemmas.Bool.Decides.{nat_tests}
-use Rattle.std.proofs.lemmas.List.{take_more}
+use Rattle.std.proofs.lemmas.List.{map-append, take_more}
 use Rattle.std.proofs.lemmas.List.Sorted.{sorted_far, length_permutation, sum_by-IsPermutation}
 use Rattle.rulebook.specs.Pairs.{are_distinct}
+use Rattle.rulebook.proofs.Tests.{count_by-cons}
 use Rattle.place_list.specs.declared.bust.Bust.{Bust}
 use Rattle.place_list.specs.declared.standing.Standing.{Standing}
 use Rattle.place_list.specs.Places.{is_ahead, ties, tied, tied_before, place_of, still_in}
 use Rattle.place_list.specs.Prizes.{prizes_together, equal_share}
 use Rattle.place_list.specs.Orders.{is_placed_before, Placed}
 use Rattle.place_list.specs.Standings.{standing_of, prize_of, comes_before, ordered}
-use Rattle.place_list.proofs.Counts.{count_by-cons, count_by-same, count_by-none, count_by-two}
+use Rattle.place_list.proofs.Counts.{count_by-same, count_by-none, count_by-two}
 use Rattle.place_list.proofs.Orderings.{placed_before-order}
 use Rattle.place_list.proofs.Ranks.{place_of-ties, place_of-ahead, tied-some}
 use Rattle.place_list.specs.Ties.{IsTieAt}
@@ -70,16 +71,14 @@ placed-sorted busts sorted same order distinct = record {
       (λ equal. twice i j d first within equal);
 }
   where
-    self : (n : ℕ) → (n == n) ≡ true
-    self n = grind (arith, nat_tests)
-
     twice : (i j : ℕ) (d : Bust) → i < j → j < length sorted → (get_or sorted i d).player ≡ (get_or sorted j d).player
         → ⊥
     twice i j d first within equal =
         let player : ℕ = (get_or sorted j d).player in
         let two = count_by-two (λ (bust : Bust). bust.player == (get_or sorted j d).player) sorted i j d first within
-        (ap (λ n. n == (get_or sorted j d).player) equal ∙ self (get_or sorted j d).player)
-        (self (get_or sorted j d).player) in
+        (ap (λ n. n == (get_or sorted j d).player) equal
+        ∙ eq-eqb (get_or sorted j d).player (get_or sorted j d).player refl)
+        (eq-eqb (get_or sorted j d).player (get_or sorted j d).player refl) in
         let one = once (get_or sorted j d).player busts distinct in
         let counts = count-permutation (λ (bust : Bust). bust.player == (get_or sorted j d).player) busts sorted same in
         omega (arith, two, one, counts)
@@ -128,7 +127,8 @@ placed-cases false true true before = inr (refl, refl)
 placed-cases false true false before = absurd (cc)
 placed-cases false false less before = absurd (cc)
 
-by-place : (p q a b : ℕ) → p < q → (nat_lt p q || (p == q && nat_lt a b)) ≡ true
+-- Of two places the lower number comes first, whoever has them.
+pub by-place : (p q a b : ℕ) → p < q → (nat_lt p q || (p == q && nat_lt a b)) ≡ true
 by-place p q a b less = grind (arith, nat_tests)
 
 by-entry : (p q a b : ℕ) → p ≡ q → nat_lt a b ≡ true → (nat_lt p q || (p == q && nat_lt a b)) ≡ true
@@ -193,10 +193,6 @@ standing-in_tie entries prizes busts tie index d place together placed at place_
     ∙ ap (λ n. equal_share (prizes_together prizes (place_of entries busts (get_or busts index d))
     (tied busts (get_or busts index d))) (tied busts (get_or busts index d)) n) (sym stands.before) in
     λ i. record { player = (get_or busts index d).player; place = place_same i; prize = prize i }
-
-map-append : (f : Bust → Standing) (front behind : List Bust) → map f (front ++ behind) ≡ map f front ++ map f behind
-map-append f [] behind = refl
-map-append f (bust ∷ front) behind = ap (λ rest. f bust ∷ rest) (map-append f front behind)
 
 -- One standing more.
 pub standings-more : (f : Bust → Standing) (busts : List Bust) (before now initial : List Standing)

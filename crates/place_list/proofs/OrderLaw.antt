@@ -1,18 +1,17 @@
 -- Standings come in order.
 use Rattle.std.proofs.Common.{◌≡◌, ◌∙◌, refl, ap, sym, ℕ, ◌+◌, ◌<◌, ◌≤◌, Bool, true, false, List, [], ◌∷◌, length, arith}
-use Rattle.std.specs.Prelude.{if◌then◌else◌, count_by, map, not, ◌==◌, ◌&&◌, ◌||◌, nat_lt, Option, None, Some}
+use Rattle.std.specs.Prelude.{if◌then◌else◌, count_by, map, not, ◌==◌, ◌&&◌, Option, None, Some}
 use Rattle.std.specs.List.{list_all}
 use Rattle.std.proofs.lemmas.Bool.{and_from}
-use Rattle.std.proofs.lemmas.Bool.Decides.{nat_tests}
 use Rattle.std.proofs.lemmas.List.Sorted.{length_permutation}
 use Rattle.rulebook.specs.Pairs.{is_pairwise, are_distinct}
+use Rattle.rulebook.proofs.Tests.{count_by-cons}
 use Rattle.place_list.specs.declared.bust.Bust.{Bust}
 use Rattle.place_list.specs.declared.standing.Standing.{Standing}
 use Rattle.place_list.specs.Places.{place_of, still_in}
 use Rattle.place_list.specs.Prizes.{prizes_of, prizes_together}
 use Rattle.place_list.specs.Standings.{standing_of, comes_before, standings_of}
-use Rattle.place_list.proofs.Counts.{count_by-cons}
-use Rattle.place_list.proofs.InOrder.{ordered-sorted, falls-placed}
+use Rattle.place_list.proofs.InOrder.{by-place, ordered-sorted, falls-placed}
 use Rattle.place_list.proofs.Sorting.{Falls}
 use Rattle.place_list.proofs.Sums.{sorted_busts, sorted-permutation, placed-sorted_busts}
 
@@ -43,9 +42,6 @@ winner-first entries prizes busts [] winner first some = refl
 winner-first entries prizes busts (bust ∷ sorted) winner first some =
     and_from _ _ (by-place winner.place (place_of entries busts bust) winner.player bust.player
     (omega (arith, first, some))) (winner-first entries prizes busts sorted winner first some)
-  where
-    by-place : (p q a b : ℕ) → p < q → (nat_lt p q || (p == q && nat_lt a b)) ≡ true
-    by-place p q a b less = grind (arith, nat_tests)
 
 -- Standings come by place, and of the same place by entry.
 pub pairwise-standings : (entries : ℕ) (last : Option ℕ) (buyin : ℕ) (shares : List ℕ) (busts : List Bust)

@@ -1,7 +1,8 @@
 -- The prizes of the places.
 use Rattle.std.proofs.Common.{◌≡◌, ◌∙◌, refl, ap, sym, ℕ, ◌+◌, ◌*◌, ◌<◌, ◌≤◌, List, [], ◌∷◌, ◌++◌, length, take, get_or, set, min, ◌⊎◌, inl, inr, arith}
 use Rattle.std.specs.Prelude.{map, sum}
-use Rattle.std.proofs.lemmas.List.{take_more, take_all}
+use Rattle.std.proofs.Math.Nat.{le_trans}
+use Rattle.std.proofs.lemmas.List.{map-append, take_more, take_all}
 use Rattle.std.proofs.lemmas.List.Sums.{sum_by-cons, sum_by-append, sum_by-take-le}
 use Rattle.place_list.specs.Prizes.{part_of, first_gets}
 
@@ -30,10 +31,6 @@ parts-le pool shares few = bound (sum (map (part_of pool) shares)) pool (sum sha
     bound : (a b n : ℕ) → 1000 * a ≤ b * n → n ≤ 1000 → a ≤ b
     bound a b n le few = grind arith
 
-map-append : (f : ℕ → ℕ) (xs ys : List ℕ) → map f (xs ++ ys) ≡ map f xs ++ map f ys
-map-append f [] ys = refl
-map-append f (x ∷ xs) ys = ap (λ rest. f x ∷ rest) (map-append f xs ys)
-
 -- One more part.
 pub parts-more : (pool : ℕ) (paid : List ℕ) (index : ℕ) → index < length paid
     → map (part_of pool) (take (index + 1) paid) ≡ map (part_of pool) (take index paid) ++ part_of pool
@@ -46,14 +43,11 @@ pub part-left : (pool : ℕ) (paid prizes : List ℕ) (left index : ℕ) → ind
     ≡ map (part_of pool) (take index paid) → sum prizes + left ≡ pool
     → part_of pool (get_or paid index 0) ≤ left
 part-left pool paid prizes left index within few parts whole =
-    let all = parts-le pool (take (index + 1) paid) (le-trans (sum_by-take-le (λ (n : ℕ). n) paid (index + 1)) few) in
+    let all = parts-le pool (take (index + 1) paid) (le_trans (sum_by-take-le (λ (n : ℕ). n) paid (index + 1)) few) in
     let next = ap sum (parts-more pool paid index within) ∙ sum_by-append (λ (n : ℕ). n)
     (map (part_of pool) (take index paid)) (part_of pool (get_or paid index 0) ∷ []) in
     let is = ap sum parts in
     omega (arith, all, next, is, whole)
-  where
-    le-trans : {a b c : ℕ} → a ≤ b → b ≤ c → a ≤ c
-    le-trans first second = omega (arith, first, second)
 
 -- What the first place gets is added to its prize.
 pub first_gets-set : (left : ℕ) (prizes : List ℕ) → 1 ≤ length prizes → set prizes 0 (get_or prizes 0 0 + left)

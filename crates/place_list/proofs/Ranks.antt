@@ -42,7 +42,8 @@ place_of-ahead entries busts one two ahead =
     (λ other. ahead_or_tied other.group other.stack one.group one.stack two.group two.stack ahead) in
     omega (arith, counts)
 
-ties_self : (g s : ℕ) → (g == g && s == s) ≡ true
+-- The same group and stack tie.
+pub ties_self : (g s : ℕ) → (g == g && s == s) ≡ true
 ties_self g s = grind (arith, nat_tests)
 
 -- A player of the list ties with himself, so he is counted.

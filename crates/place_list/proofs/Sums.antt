@@ -1,15 +1,15 @@
 -- All prizes together.
-use Rattle.std.proofs.Common.{◌≡◌, ◌∙◌, refl, ap, sym, ℕ, zero, suc, ◌+◌, ◌-◌, ◌*◌, ◌/◌, ◌%◌, ◌<◌, ◌≤◌, min, ◌⊎◌, inl, inr, true, false, List, [], ◌∷◌, length, take, drop, get_or, arith}
+use Rattle.std.proofs.Common.{◌≡◌, ◌∙◌, refl, ap, sym, ℕ, zero, suc, ◌+◌, ◌-◌, ◌*◌, ◌/◌, ◌%◌, ◌<◌, ◌≤◌, min, inl, inr, true, false, List, [], ◌∷◌, length, take, drop, get_or, arith}
 use Rattle.std.specs.Prelude.{sum, sum_by, if◌then◌else◌, map, ◌==◌, nat_lt, Some, None}
 use Rattle.std.specs.List.Sorted.{IsPermutation, IsSortedBy}
-use Rattle.std.proofs.lemmas.Bool.{cases_Bool}
+use Rattle.std.proofs.lemmas.Bool.{cases_Bool, cases_lt}
 use Rattle.std.proofs.lemmas.Bool.Decides.{nat_tests}
-use Rattle.std.proofs.lemmas.List.{drop-drop, take_all, length-take, length-drop, get_or-take, get_or-drop, get_or_default}
+use Rattle.std.proofs.lemmas.List.{drop-drop, take_all, length-map, length-take, length-drop, get_or-take, get_or-drop, get_or_default}
 use Rattle.std.proofs.lemmas.List.Sums.{sum_by-cons, sum_by-append, sum_by-take-drop, sum_by-take-le}
 use Rattle.std.proofs.lemmas.List.Sorted.{IsPermutation-refl, IsPermutation-cons, IsPermutation-trans, IsPermutation-middle, IsPermutation-sym, length_permutation}
 use Rattle.std.proofs.Math.ListN.{drop_of_length-le}
 use Rattle.std.proofs.Math.Seq.{take-add}
-use Rattle.std.proofs.Math.Nat.{div-add-mod, mod-lt}
+use Rattle.std.proofs.Math.Nat.{add-zero, add_assoc, sub-zero, div-add-mod, mod-lt}
 use Rattle.rulebook.specs.Pairs.{are_distinct}
 use Rattle.place_list.specs.declared.bust.Bust.{Bust}
 use Rattle.place_list.specs.declared.standing.Standing.{Standing}
@@ -176,6 +176,10 @@ tie-sum entries prizes busts first players d placed tie =
         (tied_before busts (get_or busts (first + k) d))) place
         ∙ ap (λ n. equal_share (sum (take players (drop (still_in entries busts + first) prizes))) players n) before
 
+-- Nothing is left of a number from which no less is taken.
+none_left : (a b : ℕ) → a ≤ b → 0 ≡ a - b
+none_left a b le = omega arith
+
 -- The prizes of the places that are left, tie by tie.
 sum-from : (entries : ℕ) (prizes : List ℕ) (busts : List Bust) (d : Bust) → Placed busts → (fuel first : ℕ)
     → Opens busts first → length busts ≤ first + fuel
@@ -184,12 +188,9 @@ sum-from : (entries : ℕ) (prizes : List ℕ) (busts : List Bust) (d : Bust) �
 sum-from entries prizes busts d placed zero first opens enough =
     ap (sum_by (prize_of entries prizes busts)) (drop_of_length-le busts (omega arith))
     ∙ ap (λ n. sum (take n (drop (still_in entries busts + first) prizes)))
-    (none (length busts) first (omega arith))
-  where
-    none : (a b : ℕ) → a ≤ b → 0 ≡ a - b
-    none a b le = omega arith
+    (none_left (length busts) first (omega arith))
 sum-from entries prizes busts d placed (suc fuel) first opens enough =
-    elim (where_is first (length busts)) [
+    elim (cases_lt first (length busts)) [
       | inl within ↦
           let tie = tie-from busts first (tied_at_head (get_or busts first d) (drop first busts)) placed within opens
           (λ e. ap (λ bust. tied_at_head bust (drop first busts)) (get_or_default busts first d e within)) in
@@ -199,30 +200,22 @@ sum-from entries prizes busts d placed (suc fuel) first opens enough =
           (first + tied_at_head (get_or busts first d) (drop first busts)) next (let some = tie.some in
           omega (arith, some))))
       | inr beyond ↦ ap (sum_by (prize_of entries prizes busts)) (drop_of_length-le busts beyond)
-          ∙ ap (λ n. sum (take n (drop (still_in entries busts + first) prizes))) (none (length busts) first beyond)
+          ∙ ap (λ n. sum (take n (drop (still_in entries busts + first) prizes)))
+          (none_left (length busts) first beyond)
     ]
   where
-    none : (a b : ℕ) → a ≤ b → 0 ≡ a - b
-    none a b le = omega arith
-
-    where_is : (a b : ℕ) → (a < b) ⊎ (b ≤ a)
-    where_is a b = grind arith
-
     further : (players : ℕ) → IsTie busts first players
         → (Opens busts (first + players) → sum_by (prize_of entries prizes busts) (drop (first + players) busts)
         ≡ sum (take (length busts - (first + players))
         (drop (still_in entries busts + (first + players)) prizes)))
         → sum_by (prize_of entries prizes busts) (drop (first + players) busts)
         ≡ sum (take (length busts - (first + players)) (drop (still_in entries busts + (first + players)) prizes))
-    further players tie later = elim (where_is (first + players) (length busts)) [
+    further players tie later = elim (cases_lt (first + players) (length busts)) [
       | inl more ↦ later (tie-opens busts first players tie more)
       | inr done ↦ ap (sum_by (prize_of entries prizes busts)) (drop_of_length-le busts done)
           ∙ ap (λ n. sum (take n (drop (still_in entries busts + (first + players)) prizes)))
-          (none (length busts) (first + players) done)
+          (none_left (length busts) (first + players) done)
     ]
-
-    assoc : (a b n : ℕ) → a + b + n ≡ a + (b + n)
-    assoc a b n = omega arith
 
     together_count : (players n : ℕ) → first + players ≤ n → players + (n - (first + players)) ≡ n - first
     together_count players n within = omega (arith, within)
@@ -243,7 +236,7 @@ sum-from entries prizes busts d placed (suc fuel) first opens enough =
         in
         let behind = ap (λ list. sum (take (length busts - (first + players)) list))
         (drop-drop players (still_in entries busts + first) prizes
-        ∙ ap (λ n. drop n prizes) (assoc (still_in entries busts) first players)) in
+        ∙ ap (λ n. drop n prizes) (add_assoc (still_in entries busts) first players)) in
         let count = ap (λ n. sum (take n (drop (still_in entries busts + first) prizes)))
         (together_count players (length busts) (tie.within)) in
         omega (arith, all, here, rest, parts, behind, count, later)
@@ -269,18 +262,8 @@ prizes-out entries prizes busts distinct =
     ∙ sum-from entries prizes (sorted_busts busts) (record { player = 0; stack = 0; group = 0 }) placed
     (length busts) 0 (record { ahead = λ k d less. absurd (omega arith) }) (omega (arith, size))
     ∙ ap (λ n. sum (take (n - 0) (drop (entries - n + 0) prizes))) size
-    ∙ ap (λ n. sum (take n (drop (entries - length busts + 0) prizes))) (minus-zero (length busts))
-    ∙ ap (λ n. sum (take (length busts) (drop n prizes))) (plus-zero (entries - length busts))
-  where
-    minus-zero : (n : ℕ) → n - 0 ≡ n
-    minus-zero n = omega arith
-
-    plus-zero : (n : ℕ) → n + 0 ≡ n
-    plus-zero n = omega arith
-
-length-map : (f : ℕ → ℕ) (items : List ℕ) → length (map f items) ≡ length items
-length-map f [] = refl
-length-map f (item ∷ items) = ap suc (length-map f items)
+    ∙ ap (λ n. sum (take n (drop (entries - length busts + 0) prizes))) (sub-zero (length busts))
+    ∙ ap (λ n. sum (take (length busts) (drop n prizes))) (add-zero (entries - length busts))
 
 first_gets-sum : (left : ℕ) (list : List ℕ) → 1 ≤ length list → sum (first_gets left list) ≡ left + sum list
 first_gets-sum left [] some = absurd (omega arith)
@@ -304,7 +287,7 @@ unfolding prizes_of
 prizes-length entries buyin shares =
     first_gets-length (pool_of entries buyin - sum (parts entries (pool_of entries buyin) shares))
     (parts entries (pool_of entries buyin) shares)
-    ∙ length-map (part_of (pool_of entries buyin)) (take entries shares) ∙ length-take entries shares
+    ∙ length-map (take entries shares) (part_of (pool_of entries buyin)) ∙ length-take entries shares
 
 few-shares : (entries : ℕ) (shares : List ℕ) → sum shares ≤ 1000 → sum (take entries shares) ≤ 1000
 few-shares entries shares few = (let within = sum_by-take-le (λ (n : ℕ). n) shares entries in
@@ -316,7 +299,7 @@ prizes-sum : (entries buyin : ℕ) (shares : List ℕ) → sum shares ≤ 1000 �
 unfolding prizes_of
 prizes-sum entries buyin shares few some share =
     let within = parts-le (pool_of entries buyin) (take entries shares) (few-shares entries shares few) in
-    let size = length-map (part_of (pool_of entries buyin)) (take entries shares) ∙ length-take entries shares in
+    let size = length-map (take entries shares) (part_of (pool_of entries buyin)) ∙ length-take entries shares in
     let all = first_gets-sum (pool_of entries buyin - sum (parts entries (pool_of entries buyin) shares))
     (parts entries (pool_of entries buyin) shares) (omega (arith, size, some, share)) in
     omega (arith, all, within)
@@ -327,17 +310,14 @@ prizes-within : (entries buyin : ℕ) (shares : List ℕ) → sum shares ≤ 100
 unfolding prizes_of
 prizes-within entries buyin shares few =
     let within = parts-le (pool_of entries buyin) (take entries shares) (few-shares entries shares few) in
-    elim (none_or_some (length (parts entries (pool_of entries buyin) shares))) [
-      | inl none ↦ (let all =
-          first_gets-none (pool_of entries buyin - sum (parts entries (pool_of entries buyin) shares))
-          (parts entries (pool_of entries buyin) shares) none in omega (arith, all))
-      | inr some ↦ (let all =
+    elim (cases_lt 0 (length (parts entries (pool_of entries buyin) shares))) [
+      | inl some ↦ (let all =
           first_gets-sum (pool_of entries buyin - sum (parts entries (pool_of entries buyin) shares))
-          (parts entries (pool_of entries buyin) shares) some in omega (arith, all, within))
+          (parts entries (pool_of entries buyin) shares) (omega (arith, some)) in omega (arith, all, within))
+      | inr none ↦ (let all =
+          first_gets-none (pool_of entries buyin - sum (parts entries (pool_of entries buyin) shares))
+          (parts entries (pool_of entries buyin) shares) (omega (arith, none)) in omega (arith, all))
     ]
-  where
-    none_or_some : (n : ℕ) → (n ≡ 0) ⊎ (1 ≤ n)
-    none_or_some n = grind arith
 
 -- All prizes of a tournament that is over sum to the pool.
 pub over-sum : (entries last buyin : ℕ) (shares : List ℕ) (busts : List Bust)

@@ -1,7 +1,7 @@
 -- Players in the order of their places: who ties stands next to one another.
 use Rattle.std.proofs.Common.{◌≡◌, ◌∙◌, refl, ap, sym, ℕ, zero, suc, ◌+◌, ◌-◌, ◌<◌, ◌≤◌, min, max, ◌⊎◌, inl, inr, true, false, List, [], ◌∷◌, length, drop, get_or, arith}
 use Rattle.std.specs.Prelude.{count_by, ◌==◌, ◌&&◌, ◌||◌, nat_lt, nat_le}
-use Rattle.std.proofs.lemmas.Bool.{cases_Bool}
+use Rattle.std.proofs.lemmas.Bool.{cases_Bool, cases_lt, cases_order}
 use Rattle.std.proofs.lemmas.Bool.Decides.{nat_tests}
 use Rattle.std.proofs.lemmas.List.Sums.{take_while-cons}
 use Rattle.std.proofs.lemmas.List.{get_or-drop, length-drop, get_or_default}
@@ -12,7 +12,7 @@ use Rattle.place_list.specs.Orders.{is_placed_before, Placed}
 use Rattle.place_list.specs.Ties.{IsTie, IsTieAt, IsTieBefore}
 use Rattle.place_list.specs.TiedAtHead.{tied_at_head}
 use Rattle.place_list.proofs.Counts.{count_by-same, count_by-range}
-use Rattle.place_list.proofs.Ranks.{is_ahead-ties, ties-ties}
+use Rattle.place_list.proofs.Ranks.{is_ahead-ties, ties-ties, ties_self}
 
 -- All who stand before an index are ahead of the one at it.
 pub record Opens (busts : List Bust) (index : ℕ) : Type 0 where
@@ -77,16 +77,13 @@ placed-apart a b before apart = placed_apart a.group a.stack b.group b.stack a.p
 pub tie-opens : (busts : List Bust) (first players : ℕ) → IsTie busts first players → first + players < length busts
     → Opens busts (first + players)
 tie-opens busts first players tie more = record {
-  ahead = λ k d before. elim (where_is k first) [
+  ahead = λ k d before. elim (cases_lt k first) [
     | inl less ↦ ahead-chain (get_or busts k d) (get_or busts first d) (get_or busts (first + players) d)
         (tie.ahead k d less) (tie.behind (first + players) d (omega arith) more)
     | inr level ↦ tie-ahead (get_or busts k d) (get_or busts first d) (get_or busts (first + players) d)
         (tie.level k d level before) (tie.behind (first + players) d (omega arith) more)
   ];
 }
-  where
-    where_is : (a b : ℕ) → (a < b) ⊎ (b ≤ a)
-    where_is a b = grind arith
 
 -- The head of a list that ties with a player.
 record Head (bust : Bust) (busts : List Bust) (players : ℕ) : Type 0 where
@@ -129,9 +126,6 @@ tied-head bust (other ∷ others) =
       end = λ d within. head.end d (omega arith);
     }
 
-ties_self : (g s : ℕ) → (g == g && s == s) ≡ true
-ties_self g s = grind (arith, nat_tests)
-
 from-head : (busts : List Bust) (first players : ℕ) (bust : Bust) → Placed busts → first < length busts
     → Opens busts first
     → ((d : Bust) → get_or busts first d ≡ bust) → Head bust (drop first busts) players → IsTie busts first players
@@ -155,19 +149,16 @@ from-head busts first players bust placed within opens is head = record {
     dropped : (k : ℕ) (d : Bust) → get_or (drop first busts) k d ≡ get_or busts (first + k) d
     dropped k d = get_or-drop first busts k d
 
-    where_is : (n : ℕ) → (n ≡ 0) ⊎ (1 ≤ n)
-    where_is n = grind arith
-
     some_at : 1 ≤ players
-    some_at = elim (where_is players) [
-      | inl none ↦
+    some_at = elim (cases_lt 0 players) [
+      | inl some ↦ omega (arith, some)
+      | inr none ↦
           let apart : ties (get_or (drop first busts) players bust) bust ≡ false =
           head.end bust (omega (arith, size)) in
           let own : ties (get_or (drop first busts) players bust) bust ≡ true =
           ap (λ one. ties one bust) (dropped players bust ∙ ap (λ k. get_or busts k bust) (omega arith)
           ∙ is bust) ∙ ties_self bust.group bust.stack in
           absurd (cc (apart, own))
-      | inr some ↦ some
     ]
 
     which : (a b : ℕ) → a ≤ b → (b ≡ a) ⊎ (a < b)
@@ -281,22 +272,19 @@ tie-stands busts first players index d placed tie low high = record {
       ]
     ]
 
-    order : (a b : ℕ) → (a < b) ⊎ ((a ≡ b) ⊎ (b < a))
-    order a b = grind arith
-
     in_tie : (k : ℕ) → first ≤ k → k < first + players → k < length busts → nat_lt (get_or busts k d).player
         (get_or busts index d).player ≡ (nat_le first (0 + k) && nat_lt (0 + k) index)
     in_tie k from to within =
         let level : ties (get_or busts k d) (get_or busts index d) ≡ true = ties-ties (get_or busts k d) own head same
         ∙ tie.level k d from to in
-        elim (order k index) [
-          | inl less ↦ tie_placed (get_or busts k d).group (get_or busts k d).stack (get_or busts k d).player
-              (get_or busts index d).group (get_or busts index d).stack (get_or busts index d).player
-              (placed.before k index d less (omega (arith, tie.within))) level ∙ in_range first index (0 + k)
-              (omega arith) (omega arith)
+        elim (cases_order k index) [
+          | inl equal ↦ ap (λ n. nat_lt (get_or busts n d).player (get_or busts index d).player) equal
+              ∙ not_self (get_or busts index d).player ∙ above_range first index (0 + k) (omega arith)
           | inr rest ↦ elim rest [
-            | inl equal ↦ ap (λ n. nat_lt (get_or busts n d).player (get_or busts index d).player) equal
-                ∙ not_self (get_or busts index d).player ∙ above_range first index (0 + k) (omega arith)
+            | inl less ↦ tie_placed (get_or busts k d).group (get_or busts k d).stack (get_or busts k d).player
+                (get_or busts index d).group (get_or busts index d).stack (get_or busts index d).player
+                (placed.before k index d less (omega (arith, tie.within))) level ∙ in_range first index (0 + k)
+                (omega arith) (omega arith)
             | inr more ↦ tie_placed_back (get_or busts index d).group (get_or busts index d).stack
                 (get_or busts index d).player (get_or busts k d).group (get_or busts k d).stack
                 (get_or busts k d).player

@@ -1,10 +1,12 @@
 -- The pots as they are cut, one amount of a live player after another.
-use Rattle.std.proofs.Common.{◌≡◌, ◌∙◌, ◌⊎◌, ℕ, ◌+◌, ◌-◌, ◌%◌, ◌<◌, ◌≤◌, List, [], ◌∷◌, ◌++◌, Bool, true, false, Some, None, length, refl, ap, sym, subst, inl, inr, arith}
+use Rattle.std.proofs.Common.{◌≡◌, ◌∙◌, ◌⊎◌, ℕ, ◌+◌, ◌-◌, ◌%◌, ◌<◌, ◌≤◌, List, [], ◌∷◌, ◌++◌, Bool, true, false, true≢false, Some, None, length, refl, ap, sym, subst, inl, inr, arith}
 use Rattle.std.specs.Prelude.{◌&&◌, ◌||◌, ◌==◌, not, nat_le, nat_lt, count_by, map, fold, reverse}
 use Rattle.std.specs.List.{list_all, list_any}
+use Rattle.std.proofs.lemmas.Bool.{and_parts, eq-eqb, eqb-true}
 use Rattle.std.proofs.lemmas.Bool.Decides.{nat_tests}
 use Rattle.std.proofs.lemmas.List.{length-append}
 use Rattle.std.proofs.lemmas.List.Folds.{list_all-map, list_all-append}
+use Rattle.rulebook.proofs.Tests.{list_all-always}
 use Rattle.pot_layers.specs.declared.put.Put.{Put}
 use Rattle.pot_layers.specs.declared.pot_list.Pot.{Pot}
 use Rattle.pot_layers.specs.declared.standing.Standing.{Standing}
@@ -12,8 +14,8 @@ use Rattle.pot_layers.specs.Layers.{is_eligible, live_payers, greatest_put, is_c
 use Rattle.pot_layers.specs.Tallies.{total_put, total_to}
 use Rattle.pot_layers.specs.PotTests.{are_whole_pots, are_whole_puts}
 use Rattle.pot_layers.specs.Standings.{puts_of, standing_of, is_above, nearer}
-use Rattle.pot_layers.proofs.ListTests.{and-left, and-right, list_all-always, list_any-none, reverse-cons}
-use Rattle.pot_layers.proofs.Heights.{is_within, is_live_at, total_to-grows, total_to-greatest, greatest_put-most}
+use Rattle.pot_layers.proofs.ListTests.{list_any-none, reverse-cons}
+use Rattle.pot_layers.proofs.Heights.{is_within, is_live_at, live_at-most, total_to-grows, total_to-greatest, greatest_put-most}
 use Rattle.pot_layers.proofs.Stretches.{pot_of, IsTop, next-cut, above-top}
 use Rattle.pot_layers.proofs.Units.{total_to-whole, total_put-whole, there-whole, whole-minus, eqb_true, last-whole}
 use Rattle.pot_layers.proofs.Nearest.{stands_at, nearest-found, none-above, above-falls, outside-puts_of, within-puts_of, there-puts_of}
@@ -42,18 +44,13 @@ stands_right puts standing = standing.total == total_to puts standing.put.amount
 all-stand_right : (puts all : List Put) → list_all (stands_right all) (map (standing_of all) puts) ≡ true
 unfolding stands_right
 all-stand_right puts all = list_all-map (stands_right all) (standing_of all) puts
-    ∙ list_all-always (λ put. stands_right all (standing_of all put)) puts (λ put. same (total_to all put.amount))
-  where
-    same : (n : ℕ) → (n == n) ≡ true
-    same n = grind (arith, nat_tests)
+    ∙ list_all-always (λ put. stands_right all (standing_of all put)) puts
+    (λ put. eq-eqb (total_to all put.amount) (total_to all put.amount) refl)
 
 right-total : (puts : List Put) (standing : Standing) → stands_right puts standing ≡ true
     → standing.total ≡ total_to puts standing.put.amount
 unfolding stands_right
-right-total puts standing is = equal standing.total (total_to puts standing.put.amount) is
-  where
-    equal : (a b : ℕ) → (a == b) ≡ true → a ≡ b
-    equal a b is = grind (arith, nat_tests)
+right-total puts standing is = eqb-true standing.total (total_to puts standing.put.amount) is
 
 higher-amount : (live : Bool) (below amount : ℕ) → (live && nat_lt below amount) ≡ true → below < amount
 higher-amount true below amount is = grind (arith, nat_tests)
@@ -133,26 +130,19 @@ nobody-in : (live : Bool) (amount : ℕ) → (not live || nat_le amount 0) ≡ t
 nobody-in true amount within = grind (arith, nat_tests)
 nobody-in false amount within = refl
 
-true≢false : true ≡ false → ⊥
-true≢false same = cc
-
 at-most : (puts : List Put) (amount most : ℕ) → list_all (λ put. nat_le put.amount most) puts ≡ true
     → list_any (is_live_at amount) puts ≡ true → amount ≤ most
 at-most [] amount most all there = absurd cc
 at-most (put ∷ more) amount most all there =
     by_first (is_live_at amount put) refl
     (λ rest. at-most more amount most
-    (and-right (nat_le put.amount most) (list_all (λ other. nat_le other.amount most) more) all) rest)
+    (and_parts (nat_le put.amount most) (list_all (λ other. nat_le other.amount most) more) all).1 rest)
   where
-    here : (live : Bool) (own : ℕ) → (live && (own == amount)) ≡ true → nat_le own most ≡ true → amount ≤ most
-    here true own is under = grind (arith, nat_tests)
-    here false own is under = absurd cc
-
     by_first : (first : Bool) → is_live_at amount put ≡ first
         → (list_any (is_live_at amount) more ≡ true → amount ≤ most) → amount ≤ most
     by_first true is others =
-        here put.live put.amount is
-        (and-left (nat_le put.amount most) (list_all (λ other. nat_le other.amount most) more) all)
+        live_at-most put.live put.amount amount most is
+        (and_parts (nat_le put.amount most) (list_all (λ other. nat_le other.amount most) more) all).0
     by_first false is others = others (rw is at there)
 
 -- Where no live player is above, what is left goes into the top pot.

@@ -1,14 +1,16 @@
 -- Who pays a height, and how much is put in up to it.
-use Rattle.std.proofs.Common.{◌≡◌, ◌∙◌, ℕ, suc, ◌+◌, ◌<◌, ◌≤◌, List, [], ◌∷◌, Bool, true, false, cond, refl, arith}
+use Rattle.std.proofs.Common.{◌≡◌, ◌∙◌, ℕ, suc, ◌+◌, ◌<◌, ◌≤◌, List, [], ◌∷◌, Bool, true, false, cond, refl, ap, arith}
 use Rattle.std.specs.Prelude.{◌&&◌, ◌||◌, ◌==◌, not, nat_le, min, max, fold}
 use Rattle.std.specs.List.{list_all, list_any}
+use Rattle.std.proofs.lemmas.Bool.{and_right, le-leb}
 use Rattle.std.proofs.lemmas.Bool.Decides.{nat_tests}
 use Rattle.std.proofs.lemmas.List.Sums.{sum_by-cons, sum_by-le-sum_by}
 use Rattle.std.proofs.lemmas.List.Folds.{list_all-map}
+use Rattle.rulebook.proofs.Tests.{list_all-follows}
 use Rattle.pot_layers.specs.declared.put.Put.{Put}
 use Rattle.pot_layers.specs.Layers.{has_paid, is_eligible, payments, live_payers, greatest_put, are_same_seats, is_nobody}
 use Rattle.pot_layers.specs.Tallies.{total_put, total_to}
-use Rattle.pot_layers.proofs.ListTests.{list_all-implied, map-agree, sum_by-agree}
+use Rattle.pot_layers.proofs.ListTests.{map-agree, sum_by-agree}
 
 -- A player's part of a height.
 min-suc : (amount height : ℕ) → min amount (suc height) ≡ min amount height + cond (nat_le (suc height) amount) 1 0
@@ -55,12 +57,9 @@ greatest-most : (least : ℕ) (puts : List Put)
     ≡ true
 greatest-most least [] = refl
 greatest-most least (put ∷ more) =
-    rw (le_true put.amount (fold (λ greatest (put : Put). max greatest put.amount) (max least put.amount) more)
+    rw (le-leb put.amount (fold (λ greatest (put : Put). max greatest put.amount) (max least put.amount) more)
     (omega (arith, greatest-grows (max least put.amount) more)))
     (greatest-most (max least put.amount) more)
-  where
-    le_true : (a b : ℕ) → a ≤ b → nat_le a b ≡ true
-    le_true a b under = grind (arith, nat_tests)
 
 pub greatest_put-most : (puts : List Put) → list_all (λ put. nat_le put.amount (greatest_put puts)) puts ≡ true
 greatest_put-most puts = greatest-most 0 puts
@@ -82,6 +81,12 @@ is_outside below height put = not put.live || (nat_le put.amount below || nat_le
 -- A live player has put in just this amount.
 abbrev pub is_live_at : ℕ → Put → Bool
 is_live_at height put = put.live && (put.amount == height)
+
+-- The amount of a live player is within each bound of what he has put in.
+pub live_at-most : (live : Bool) (own amount most : ℕ) → (live && (own == amount)) ≡ true → nat_le own most ≡ true
+    → amount ≤ most
+live_at-most true own amount most is under = grind (arith, nat_tests)
+live_at-most false own amount most is under = absurd cc
 
 -- A player is not live, or has put in at most this height.
 abbrev pub is_within : ℕ → Put → Bool
@@ -111,7 +116,7 @@ pub live_payers-above : (puts : List Put) (below height : ℕ) → list_all (is_
     → is_nobody (live_payers puts height) ≡ true
 live_payers-above puts below height within above =
     list_all-map (λ is_in. not is_in) (is_eligible height) puts
-    ∙ list_all-implied (is_within below) (λ put. not (is_eligible height put)) puts
+    ∙ list_all-follows (is_within below) (λ put. not (is_eligible height put)) puts
     (λ put is. not_eligible put.live put.amount below height is above) within
 
 -- A height that a live player reaches has a live payer.
@@ -125,15 +130,11 @@ live_payers-somebody (put ∷ more) reached height there under =
     eligible true amount is = grind (arith, nat_tests)
     eligible false amount is = absurd cc
 
-    later : (b rest : Bool) → rest ≡ false → (b && rest) ≡ false
-    later true rest is = is
-    later false rest is = refl
-
     by_first : (first : Bool) → (put.live && (put.amount == reached)) ≡ first
         → (list_any (is_live_at reached) more ≡ true → is_nobody (live_payers more height) ≡ false)
         → is_nobody (live_payers (put ∷ more) height) ≡ false
     by_first true is others = rw (eligible put.live put.amount is)
-    by_first false is others = later (not (is_eligible height put)) (is_nobody (live_payers more height))
+    by_first false is others = and_right (not (is_eligible height put)) (is_nobody (live_payers more height))
         (others (rw is at there))
 
 -- A set has the same seats as itself.
@@ -141,6 +142,16 @@ pub are_same_seats-self : (set : List Bool) → are_same_seats set set ≡ true
 are_same_seats-self [] = refl
 are_same_seats-self (true ∷ more) = are_same_seats-self more
 are_same_seats-self (false ∷ more) = are_same_seats-self more
+
+-- Sets with the same seats are the same.
+pub same_seats-equal : (one other : List Bool) → are_same_seats one other ≡ true → one ≡ other
+same_seats-equal [] [] same = refl
+same_seats-equal [] (o ∷ others) same = absurd cc
+same_seats-equal (s ∷ more) [] same = absurd cc
+same_seats-equal (true ∷ more) (true ∷ others) same = ap (λ seats. true ∷ seats) (same_seats-equal more others same)
+same_seats-equal (true ∷ more) (false ∷ others) same = absurd cc
+same_seats-equal (false ∷ more) (true ∷ others) same = absurd cc
+same_seats-equal (false ∷ more) (false ∷ others) same = ap (λ seats. false ∷ seats) (same_seats-equal more others same)
 
 -- Who has put in just this amount does not pay a greater height.
 pub live_payers-differ : (puts : List Put) (reached height : ℕ) → list_any (is_live_at reached) puts ≡ true
@@ -158,15 +169,11 @@ live_payers-differ (put ∷ more) reached height there above =
     stops true amount is = grind (arith, nat_tests)
     stops false amount is = refl
 
-    later : (b rest : Bool) → rest ≡ false → (b && rest) ≡ false
-    later true rest is = is
-    later false rest is = refl
-
     by_first : (first : Bool) → (put.live && (put.amount == reached)) ≡ first
         → (list_any (is_live_at reached) more ≡ true
         → are_same_seats (live_payers more reached) (live_payers more height) ≡ false)
         → are_same_seats (live_payers (put ∷ more) reached) (live_payers (put ∷ more) height) ≡ false
     by_first true is others = rw (pays put.live put.amount is, stops put.live put.amount is)
     by_first false is others =
-        later (cond (is_eligible reached put) (is_eligible height put) (not (is_eligible height put)))
+        and_right (cond (is_eligible reached put) (is_eligible height put) (not (is_eligible height put)))
         (are_same_seats (live_payers more reached) (live_payers more height)) (others (rw is at there))

@@ -2,12 +2,13 @@
 use Rattle.std.proofs.Common.{◌≡◌, ◌∙◌, ◌⊎◌, ℕ, ◌<◌, ◌≤◌, List, [], ◌∷◌, Bool, true, false, cond, Some, None, refl, sym, inl, inr, arith}
 use Rattle.std.specs.Prelude.{◌&&◌, ◌||◌, ◌==◌, not, nat_le, nat_lt, count_by, fold, Option}
 use Rattle.std.specs.List.{list_all, list_any}
+use Rattle.std.proofs.lemmas.Bool.{and_parts, le-leb, or_right}
 use Rattle.std.proofs.lemmas.Bool.Decides.{nat_tests}
 use Rattle.std.proofs.lemmas.List.Sums.{sum_by-cons}
 use Rattle.std.proofs.lemmas.List.Folds.{list_all-map}
+use Rattle.rulebook.proofs.Tests.{list_all-follows}
 use Rattle.pot_layers.specs.declared.standing.Standing.{Standing}
 use Rattle.pot_layers.specs.Standings.{puts_of, is_above, nearer}
-use Rattle.pot_layers.proofs.ListTests.{and-left, and-right, list_all-implied}
 use Rattle.pot_layers.proofs.Heights.{is_outside, is_within, is_live_at}
 
 -- Nobody is above the height who is nearer to it than this.
@@ -61,16 +62,6 @@ stands_at-self : (live : Bool) (below amount : ℕ) → (live && nat_lt below am
 stands_at-self true below amount above = grind (arith, nat_tests)
 stands_at-self false below amount above = above
 
-or-right : (a b : Bool) → b ≡ true → (a || b) ≡ true
-or-right true b is = refl
-or-right false b is = is
-
-le_true : (a b : ℕ) → a ≤ b → nat_le a b ≡ true
-le_true a b under = grind (arith, nat_tests)
-
-true_le : (a b : ℕ) → nat_le a b ≡ true → a ≤ b
-true_le a b is = grind (arith, nat_tests)
-
 -- One who was not nearer than the one so far is not nearer than one who is at least as near.
 not_nearer-more : (above : Bool) (before best amount : ℕ) → (not above || nat_le before amount) ≡ true → best ≤ before
     → (not above || nat_le best amount) ≡ true
@@ -96,7 +87,7 @@ nearest-found test below so_far [] best start all found = record {
 nearest-found test below None (standing ∷ more) best start all found =
     by_test (is_above below standing) refl
     (λ good. nearest-found test below (nearer below None standing) more best good
-    (and-right (test standing) (list_all test more) all) found)
+    (and_parts (test standing) (list_all test more) all).1 found)
   where
     by_test : (above : Bool) → is_above below standing ≡ above
         → (IsGoodStart test below (nearer below None standing)
@@ -105,17 +96,17 @@ nearest-found test below None (standing ∷ more) best start all found =
     by_test true is later =
         let first : nearer below None standing ≡ Some standing = rw is in
         let rest = later (λ before was. let same : before ≡ standing = cc in
-        rw same (is, and-left (test standing) (list_all test more) all)) in
+        rw same (is, (and_parts (test standing) (list_all test more) all).0)) in
         let under = rest.under standing first in
         record {
           above = rest.above;
-          least = rw (or-right (not (is_above below standing)) (nat_le best.put.amount standing.put.amount)
-              (le_true best.put.amount standing.put.amount under)) rest.least;
+          least = rw (or_right (not (is_above below standing)) (nat_le best.put.amount standing.put.amount)
+              (le-leb best.put.amount standing.put.amount under)) rest.least;
           under = λ before was. absurd cc;
           there = elim rest.there [
             | inl same ↦ let is_best : standing ≡ best = cc in
                 inr (rw (← is_best) (rw (stands_at-self standing.put.live below standing.put.amount is)))
-            | inr some ↦ inr (or-right (stands_at best.put.amount standing)
+            | inr some ↦ inr (or_right (stands_at best.put.amount standing)
                 (list_any (stands_at best.put.amount) more) some)
           ];
           passes = rest.passes;
@@ -129,7 +120,7 @@ nearest-found test below None (standing ∷ more) best start all found =
           under = λ before was. absurd cc;
           there = elim rest.there [
             | inl same ↦ absurd cc
-            | inr some ↦ inr (or-right (stands_at best.put.amount standing)
+            | inr some ↦ inr (or_right (stands_at best.put.amount standing)
                 (list_any (stands_at best.put.amount) more) some)
           ];
           passes = rest.passes;
@@ -137,7 +128,7 @@ nearest-found test below None (standing ∷ more) best start all found =
 nearest-found test below (Some so_far) (standing ∷ more) best start all found =
     by_test (is_not_nearer below so_far.put.amount standing) refl
     (λ good. nearest-found test below (nearer below (Some so_far) standing) more best good
-    (and-right (test standing) (list_all test more) all) found)
+    (and_parts (test standing) (list_all test more) all).1 found)
   where
     by_test : (keeps : Bool) → is_not_nearer below so_far.put.amount standing ≡ keeps
         → (IsGoodStart test below (nearer below (Some so_far) standing)
@@ -154,7 +145,7 @@ nearest-found test below (Some so_far) (standing ∷ more) best start all found 
           under = λ before was. rest.under before (first ∙ was);
           there = elim rest.there [
             | inl same ↦ inl (sym first ∙ same)
-            | inr some ↦ inr (or-right (stands_at best.put.amount standing)
+            | inr some ↦ inr (or_right (stands_at best.put.amount standing)
                 (list_any (stands_at best.put.amount) more) some)
           ];
           passes = rest.passes;
@@ -163,17 +154,17 @@ nearest-found test below (Some so_far) (standing ∷ more) best start all found 
         let first : nearer below (Some so_far) standing ≡ Some standing = rw is in
         let nearer_than = is_nearer (is_above below standing) so_far.put.amount standing.put.amount is in
         let rest = later (λ before was. let same : before ≡ standing = cc in
-        rw same (nearer_than.0, and-left (test standing) (list_all test more) all)) in
+        rw same (nearer_than.0, (and_parts (test standing) (list_all test more) all).0)) in
         let under = rest.under standing first in
         record {
           above = rest.above;
-          least = rw (or-right (not (is_above below standing)) (nat_le best.put.amount standing.put.amount)
-              (le_true best.put.amount standing.put.amount under)) rest.least;
+          least = rw (or_right (not (is_above below standing)) (nat_le best.put.amount standing.put.amount)
+              (le-leb best.put.amount standing.put.amount under)) rest.least;
           under = λ before was. let same : before ≡ so_far = cc in rw same (omega (arith, nearer_than.1, under));
           there = elim rest.there [
             | inl same ↦ let is_best : standing ≡ best = cc in
                 inr (rw (← is_best) (rw (stands_at-self standing.put.live below standing.put.amount nearer_than.0)))
-            | inr some ↦ inr (or-right (stands_at best.put.amount standing)
+            | inr some ↦ inr (or_right (stands_at best.put.amount standing)
                 (list_any (stands_at best.put.amount) more) some)
           ];
           passes = rest.passes;
@@ -238,7 +229,7 @@ pub outside-puts_of : (standings : List Standing) (below reached : ℕ)
     → list_all (is_outside below reached) (puts_of standings) ≡ true
 outside-puts_of standings below reached least =
     list_all-map (is_outside below reached) (λ (standing : Standing). standing.put) standings
-    ∙ list_all-implied (is_not_nearer below reached) (λ standing. is_outside below reached standing.put) standings
+    ∙ list_all-follows (is_not_nearer below reached) (λ standing. is_outside below reached standing.put) standings
     (λ standing is. outside standing.put.live below reached standing.put.amount is) least
 
 -- Where nobody is above, every live player is within.
@@ -247,7 +238,7 @@ pub within-puts_of : (standings : List Standing) (below : ℕ)
     → list_all (is_within below) (puts_of standings) ≡ true
 within-puts_of standings below none =
     list_all-map (is_within below) (λ (standing : Standing). standing.put) standings
-    ∙ list_all-implied (λ standing. not (is_above below standing)) (λ standing. is_within below standing.put) standings
+    ∙ list_all-follows (λ standing. not (is_above below standing)) (λ standing. is_within below standing.put) standings
     (λ standing is. within standing.put.live below standing.put.amount is) none
 
 -- A player who stands at an amount has put it in.

@@ -2,43 +2,36 @@
 use Rattle.std.proofs.Common.{◌≡◌, ◌∙◌, ℕ, zero, suc, ◌+◌, ◌-◌, ◌<◌, ◌≤◌, List, [], ◌∷◌, Bool, true, false, cond, length, set, replicate, refl, ap, inl, inr, arith}
 use Rattle.std.specs.Prelude.{◌&&◌, ◌==◌, nat_le, max, reverse, fold}
 use Rattle.std.specs.List.{list_all}
-use Rattle.std.proofs.lemmas.Bool.{cases_lt}
+use Rattle.std.proofs.lemmas.Bool.{and_parts, cases_lt, leb-true}
 use Rattle.std.proofs.lemmas.Bool.Decides.{nat_tests}
 use Rattle.std.proofs.lemmas.List.Sums.{sum_by-cons}
+use Rattle.rulebook.proofs.Tests.{list_all-follows}
 use Rattle.pot_layers.specs.declared.put.Put.{Put}
 use Rattle.pot_layers.specs.declared.pot_list.Pot.{Pot}
 use Rattle.pot_layers.specs.Layers.{has_paid, payments, live_payers, greatest_put, are_same_seats, is_nobody, lay, pots_to, layers}
 use Rattle.pot_layers.specs.PotTests.{has_put, are_others_within, IsOwnPot}
-use Rattle.pot_layers.proofs.ListTests.{and-left, and-right, list_all-implied, reverse-cons}
-use Rattle.pot_layers.proofs.Heights.{greatest_put-most}
+use Rattle.pot_layers.proofs.ListTests.{reverse-cons}
+use Rattle.pot_layers.proofs.Heights.{greatest_put-most, live_at-most, same_seats-equal}
 use Rattle.pot_layers.proofs.Stretches.{pot_of, lay-same}
 
--- Sets with the same seats are the same.
-same_seats-equal : (one other : List Bool) → are_same_seats one other ≡ true → one ≡ other
-same_seats-equal [] [] same = refl
-same_seats-equal [] (o ∷ others) same = absurd cc
-same_seats-equal (s ∷ more) [] same = absurd cc
-same_seats-equal (true ∷ more) (true ∷ others) same = ap (λ seats. true ∷ seats) (same_seats-equal more others same)
-same_seats-equal (true ∷ more) (false ∷ others) same = absurd cc
-same_seats-equal (false ∷ more) (true ∷ others) same = absurd cc
-same_seats-equal (false ∷ more) (false ∷ others) same = ap (λ seats. false ∷ seats) (same_seats-equal more others same)
+-- Who has put in no more than a height does not pay a greater one.
+stops : (live : Bool) (amount reached height : ℕ) → reached < height → nat_le amount reached ≡ true
+    → (live && nat_le height amount) ≡ false
+stops true amount reached height above within = grind (arith, nat_tests)
+stops false amount reached height above within = refl
 
 -- Above the others' heights nobody of them pays.
 nobody-pays : (puts : List Put) (reached height : ℕ) → list_all (λ put. nat_le put.amount reached) puts ≡ true
     → reached < height → live_payers puts height ≡ replicate (length puts) false
 nobody-pays [] reached height all above = refl
 nobody-pays (put ∷ more) reached height all above =
-    let own = stops put.live put.amount
-    (and-left (nat_le put.amount reached) (list_all (λ other. nat_le other.amount reached) more) all) in
+    let own = stops put.live put.amount reached height above
+    (and_parts (nat_le put.amount reached) (list_all (λ other. nat_le other.amount reached) more) all).0 in
     rw (
       own,
       nobody-pays more reached height
-          (and-right (nat_le put.amount reached) (list_all (λ other. nat_le other.amount reached) more) all) above,
+          (and_parts (nat_le put.amount reached) (list_all (λ other. nat_le other.amount reached) more) all).1 above,
     )
-  where
-    stops : (live : Bool) (amount : ℕ) → nat_le amount reached ≡ true → (live && nat_le height amount) ≡ false
-    stops true amount within = grind (arith, nat_tests)
-    stops false amount within = refl
 
 -- Above the others' heights one alone pays.
 one-pays : (puts : List Put) (index amount reached height : ℕ) → has_put puts index amount ≡ true
@@ -52,17 +45,13 @@ one-pays (put ∷ more) zero amount reached height put_in others above under =
     pays true own is = grind (arith, nat_tests)
     pays false own is = absurd cc
 one-pays (put ∷ more) (suc index) amount reached height put_in others above under =
-    let own = stops put.live put.amount
-    (and-left (nat_le put.amount reached) (are_others_within more index reached) others) in
+    let own = stops put.live put.amount reached height above
+    (and_parts (nat_le put.amount reached) (are_others_within more index reached) others).0 in
     rw (
       own,
       one-pays more index amount reached height put_in
-          (and-right (nat_le put.amount reached) (are_others_within more index reached) others) above under,
+          (and_parts (nat_le put.amount reached) (are_others_within more index reached) others).1 above under,
     )
-  where
-    stops : (live : Bool) (amount : ℕ) → nat_le amount reached ≡ true → (live && nat_le height amount) ≡ false
-    stops true amount within = grind (arith, nat_tests)
-    stops false amount within = refl
 
 -- A height that is reached has a payment.
 some-payment : (puts : List Put) (index amount height : ℕ) → has_put puts index amount ≡ true → height ≤ amount
@@ -141,13 +130,14 @@ greatest-within : (bound least : ℕ) (puts : List Put) → least ≤ bound
     → fold (λ greatest (put : Put). max greatest put.amount) least puts ≤ bound
 greatest-within bound least [] under all = under
 greatest-within bound least (put ∷ more) under all =
-    let own = within put.amount
-    (and-left (nat_le put.amount bound) (list_all (λ other. nat_le other.amount bound) more) all) in
+    let own = leb-true put.amount bound
+    (and_parts (nat_le put.amount bound) (list_all (λ other. nat_le other.amount bound) more) all).0 in
     greatest-within bound (max least put.amount) more (omega (arith, own, under))
-    (and-right (nat_le put.amount bound) (list_all (λ other. nat_le other.amount bound) more) all)
-  where
-    within : (amount : ℕ) → nat_le amount bound ≡ true → amount ≤ bound
-    within amount is = grind (arith, nat_tests)
+    (and_parts (nat_le put.amount bound) (list_all (λ other. nat_le other.amount bound) more) all).1
+
+-- What is no more than a height is no more than a greater one.
+within-more : (n reached amount : ℕ) → reached < amount → nat_le n reached ≡ true → nat_le n amount ≡ true
+within-more n reached amount above is = grind (arith, nat_tests)
 
 all-within : (puts : List Put) (index amount reached : ℕ) → has_put puts index amount ≡ true
     → are_others_within puts index reached ≡ true → reached < amount
@@ -155,38 +145,29 @@ all-within : (puts : List Put) (index amount reached : ℕ) → has_put puts ind
 all-within [] index amount reached put_in others above = refl
 all-within (put ∷ more) zero amount reached put_in others above =
     rw (own put.live put.amount put_in)
-    (list_all-implied (λ other. nat_le other.amount reached) (λ other. nat_le other.amount amount) more
-    (λ other is. under other.amount is) others)
+    (list_all-follows (λ other. nat_le other.amount reached) (λ other. nat_le other.amount amount) more
+    (λ other is. within-more other.amount reached amount above is) others)
   where
     own : (live : Bool) (n : ℕ) → (live && (n == amount)) ≡ true → nat_le n amount ≡ true
     own true n is = grind (arith, nat_tests)
     own false n is = absurd cc
-
-    under : (n : ℕ) → nat_le n reached ≡ true → nat_le n amount ≡ true
-    under n is = grind (arith, nat_tests)
 all-within (put ∷ more) (suc index) amount reached put_in others above =
-    rw (under put.amount (and-left (nat_le put.amount reached) (are_others_within more index reached) others))
+    rw (within-more put.amount reached amount above
+    (and_parts (nat_le put.amount reached) (are_others_within more index reached) others).0)
     (all-within more index amount reached put_in
-    (and-right (nat_le put.amount reached) (are_others_within more index reached) others) above)
-  where
-    under : (n : ℕ) → nat_le n reached ≡ true → nat_le n amount ≡ true
-    under n is = grind (arith, nat_tests)
+    (and_parts (nat_le put.amount reached) (are_others_within more index reached) others).1 above)
 
 reaches : (puts : List Put) (index amount most : ℕ) → has_put puts index amount ≡ true
     → list_all (λ put. nat_le put.amount most) puts ≡ true → (amount ≤ most) × (index < length puts)
 reaches [] index amount most put_in all = absurd cc
 reaches (put ∷ more) zero amount most put_in all = (
-  own put.live put.amount put_in
-      (and-left (nat_le put.amount most) (list_all (λ other. nat_le other.amount most) more) all),
+  live_at-most put.live put.amount amount most put_in
+      (and_parts (nat_le put.amount most) (list_all (λ other. nat_le other.amount most) more) all).0,
   omega arith,
 )
-  where
-    own : (live : Bool) (n : ℕ) → (live && (n == amount)) ≡ true → nat_le n most ≡ true → amount ≤ most
-    own true n is under = grind (arith, nat_tests)
-    own false n is under = absurd cc
 reaches (put ∷ more) (suc index) amount most put_in all =
     let later = reaches more index amount most put_in
-    (and-right (nat_le put.amount most) (list_all (λ other. nat_le other.amount most) more) all) in
+    (and_parts (nat_le put.amount most) (list_all (λ other. nat_le other.amount most) more) all).1 in
     (later.0, omega (arith, later.1))
 
 -- A live player who has put in more than every other has a pot of his own, of at least what is above them.

@@ -2,6 +2,7 @@
 use Rattle.std.proofs.Common.{◌≡◌, ◌∙◌, ℕ, zero, suc, ◌+◌, List, [], ◌∷◌, Bool, true, false, cond, refl, ap, sym, arith}
 use Rattle.std.specs.Prelude.{◌&&◌, ◌||◌, not, reverse}
 use Rattle.std.specs.List.{list_all}
+use Rattle.std.proofs.lemmas.Bool.{and_parts, not_from_false}
 use Rattle.std.proofs.lemmas.List.Sums.{sum_by-cons, sum_by-append}
 use Rattle.std.proofs.lemmas.List.Folds.{list_all-append}
 use Rattle.pot_layers.specs.declared.put.Put.{Put}
@@ -9,7 +10,7 @@ use Rattle.pot_layers.specs.declared.pot_list.Pot.{Pot}
 use Rattle.pot_layers.specs.Layers.{has_paid, is_eligible, payments, live_payers, greatest_put, are_same_seats, is_nobody, is_contested, lay, pots_to, layers}
 use Rattle.pot_layers.specs.Tallies.{total_put, total_to}
 use Rattle.pot_layers.specs.PotTests.{total_of, live_seats, are_all_in, are_for, have_somebody}
-use Rattle.pot_layers.proofs.ListTests.{and-left, and-right, reverse-cons}
+use Rattle.pot_layers.proofs.ListTests.{reverse-cons}
 use Rattle.pot_layers.proofs.Heights.{total_to-suc, total_to-zero, total_to-greatest}
 use Rattle.pot_layers.proofs.Stretches.{pot_of}
 
@@ -92,9 +93,8 @@ list_all-reverse test (item ∷ more) all =
     ap (list_all test) (reverse-cons item more)
     ∙ list_all-append test (reverse more) (item ∷ [])
     ∙ rw (
-      list_all-reverse test more (and-right (test item) (list_all test more) all),
-      and-left (test item)
-          (list_all test more) all,
+      list_all-reverse test more (and_parts (test item) (list_all test more) all).1,
+      (and_parts (test item) (list_all test more) all).0,
     )
 
 payers-live : (puts : List Put) (height : ℕ) → are_all_in (live_payers puts height) (live_seats puts) ≡ true
@@ -148,10 +148,6 @@ unfolding layers pots_to
 layers-somebody puts contested = list_all-reverse (λ (pot : Pot). not (is_nobody pot.eligible))
     (pots_to puts (greatest_put puts)) (each (greatest_put puts))
   where
-    some : (b : Bool) → b ≡ false → not b ≡ true
-    some true is = cc
-    some false is = refl
-
     each : (height : ℕ) → have_somebody (pots_to puts height) ≡ true
     each zero = refl
     each (suc zero) = rw (somebody-first puts contested)
@@ -160,4 +156,4 @@ layers-somebody puts contested = list_all-reverse (λ (pot : Pot). not (is_nobod
         (live_payers puts (suc (suc height))) (each (suc height))
         (λ none. absurd (not-empty (pots_to puts height) (payments puts (suc height))
         (live_payers puts (suc height)) none))
-        (some (is_nobody (live_payers puts (suc (suc height)))))
+        (not_from_false (is_nobody (live_payers puts (suc (suc height)))))

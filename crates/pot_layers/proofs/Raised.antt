@@ -215,13 +215,6 @@ at-turn f [] index other within = absurd (omega arith)
 at-turn f (item ∷ more) zero other within = refl
 at-turn f (item ∷ more) (suc index) other within = at-turn f more index other (omega arith)
 
--- An item that is there is the same whatever is taken past the end.
-pub same-item : {A : Type 0} (items : List A) (index : ℕ) (one other : A) → index < length items
-    → get_or items index one ≡ get_or items index other
-same-item [] index one other within = absurd (omega arith)
-same-item (item ∷ more) zero one other within = refl
-same-item (item ∷ more) (suc index) one other within = same-item more index one other (omega arith)
-
 -- A list that is rewritten item by item keeps its length.
 pub length-at_turn : {A : Type 0} (f : A → A) (items : List A) (index : ℕ)
     → length (map f (take index items) ++ drop index items) ≡ length items

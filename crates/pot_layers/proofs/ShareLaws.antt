@@ -1,6 +1,7 @@
 -- The shares of a pot sum to it.
-use Rattle.std.proofs.Common.{◌≡◌, ◌∙◌, ℕ, zero, suc, ◌+◌, ◌*◌, ◌/◌, ◌%◌, ◌<◌, ◌≤◌, true, cond, refl, ap, arith}
+use Rattle.std.proofs.Common.{◌≡◌, ◌∙◌, ℕ, zero, suc, ◌+◌, ◌*◌, ◌/◌, ◌%◌, ◌≤◌, true, cond, refl, ap, arith}
 use Rattle.std.specs.Prelude.{◌==◌, nat_lt}
+use Rattle.std.proofs.lemmas.Bool.{lt-ltb}
 use Rattle.std.proofs.lemmas.Bool.Decides.{nat_tests}
 use Rattle.std.proofs.lemmas.Nat.{div-add-mod', mod_below}
 use Rattle.pot_layers.specs.Shares.{units_to, share_of, high_half, low_half, sum_below}
@@ -28,12 +29,9 @@ unfolding units_to
 sum_below-units_to winners zero some = sum_below-zero winners
 sum_below-units_to winners (suc dealt) some =
     let turn : nat_lt (dealt % winners) winners ≡ true =
-    below (dealt % winners) winners (mod_below dealt winners (omega arith)) in
+    lt-ltb (dealt % winners) winners (mod_below dealt winners (omega arith)) in
     sum_below-plus (λ index. units_to winners index dealt) (λ index. cond (dealt % winners == index) 1 0) winners
     ∙ rw (sum_below-units_to winners dealt some, one-winner (dealt % winners) winners, turn) (omega arith)
-  where
-    below : (a b : ℕ) → a < b → nat_lt a b ≡ true
-    below a b under = grind (arith, nat_tests)
 
 sum_below-times : (unit : ℕ) (f : ℕ → ℕ) (n : ℕ) → sum_below (λ index. unit * f index) n ≡ unit * sum_below f n
 sum_below-times unit f zero = omega arith

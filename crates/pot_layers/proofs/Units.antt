@@ -3,7 +3,7 @@ use Rattle.std.proofs.Common.{◌≡◌, ◌∙◌, ℕ, ◌+◌, ◌-◌, ◌*�
 use Rattle.std.specs.Prelude.{◌&&◌, ◌==◌}
 use Rattle.std.specs.List.{list_any}
 use Rattle.std.proofs.Math.Nat.{add-mul-mod_self_right, zero-mod}
-use Rattle.std.proofs.lemmas.Bool.{cases_lt}
+use Rattle.std.proofs.lemmas.Bool.{and_parts, cases_lt}
 use Rattle.std.proofs.lemmas.Bool.Decides.{nat_tests}
 use Rattle.std.proofs.lemmas.Nat.{div-add-mod'}
 use Rattle.std.proofs.lemmas.List.Sums.{sum_by-cons}
@@ -11,7 +11,6 @@ use Rattle.pot_layers.specs.declared.put.Put.{Put}
 use Rattle.pot_layers.specs.declared.pot_list.Pot.{Pot}
 use Rattle.pot_layers.specs.Tallies.{total_put, total_to}
 use Rattle.pot_layers.specs.PotTests.{are_whole_pots, are_whole_puts}
-use Rattle.pot_layers.proofs.ListTests.{and-left, and-right}
 use Rattle.pot_layers.proofs.Heights.{is_live_at}
 
 pub eqb_true : (n unit : ℕ) → n % unit ≡ 0 → (n % unit == 0) ≡ true
@@ -43,10 +42,10 @@ pub total_to-whole : (puts : List Put) (height unit : ℕ) → are_whole_puts un
     → total_to puts height % unit ≡ 0
 total_to-whole [] height unit whole level = zero-mod unit
 total_to-whole (put ∷ more) height unit whole level =
-    let others = total_to-whole more height unit (and-right (put.amount % unit == 0) (are_whole_puts unit more) whole)
+    let others = total_to-whole more height unit (and_parts (put.amount % unit == 0) (are_whole_puts unit more) whole).1
     level in
     let own = whole-min put.amount height unit
-    (true_eqb put.amount unit (and-left (put.amount % unit == 0) (are_whole_puts unit more) whole)) level in
+    (true_eqb put.amount unit (and_parts (put.amount % unit == 0) (are_whole_puts unit more) whole).0) level in
     ap (λ n. n % unit) (sum_by-cons (λ (p : Put). min p.amount height) put more)
     ∙ plus-whole (min put.amount height) (total_to more height) unit others ∙ own
 
@@ -54,8 +53,8 @@ total_to-whole (put ∷ more) height unit whole level =
 pub total_put-whole : (puts : List Put) (unit : ℕ) → are_whole_puts unit puts ≡ true → total_put puts % unit ≡ 0
 total_put-whole [] unit whole = zero-mod unit
 total_put-whole (put ∷ more) unit whole =
-    let others = total_put-whole more unit (and-right (put.amount % unit == 0) (are_whole_puts unit more) whole) in
-    let own = true_eqb put.amount unit (and-left (put.amount % unit == 0) (are_whole_puts unit more) whole) in
+    let others = total_put-whole more unit (and_parts (put.amount % unit == 0) (are_whole_puts unit more) whole).1 in
+    let own = true_eqb put.amount unit (and_parts (put.amount % unit == 0) (are_whole_puts unit more) whole).0 in
     ap (λ n. n % unit) (sum_by-cons (λ (p : Put). p.amount) put more)
     ∙ plus-whole put.amount (total_put more) unit others ∙ own
 
@@ -65,7 +64,7 @@ pub there-whole : (puts : List Put) (amount unit : ℕ) → are_whole_puts unit 
 there-whole [] amount unit whole there = absurd cc
 there-whole (put ∷ more) amount unit whole there =
     by_first (is_live_at amount put) refl
-    (λ rest. there-whole more amount unit (and-right (put.amount % unit == 0) (are_whole_puts unit more) whole)
+    (λ rest. there-whole more amount unit (and_parts (put.amount % unit == 0) (are_whole_puts unit more) whole).1
     rest)
   where
     same : (live : Bool) (own : ℕ) → (live && (own == amount)) ≡ true → own ≡ amount
@@ -76,7 +75,7 @@ there-whole (put ∷ more) amount unit whole there =
         → (list_any (is_live_at amount) more ≡ true → amount % unit ≡ 0) → amount % unit ≡ 0
     by_first true is others =
         rw (← same put.live put.amount is)
-        (true_eqb put.amount unit (and-left (put.amount % unit == 0) (are_whole_puts unit more) whole))
+        (true_eqb put.amount unit (and_parts (put.amount % unit == 0) (are_whole_puts unit more) whole).0)
     by_first false is others = others (rw is at there)
 
 -- Chips in whole units added to the highest pot leave whole pots.
@@ -84,12 +83,12 @@ pub last-whole : (unit : ℕ) (below : List Pot) (amount more : ℕ) (eligible :
     → are_whole_pots unit (below ++ record { amount = amount; eligible = eligible } ∷ []) ≡ true → more % unit ≡ 0
     → are_whole_pots unit (below ++ record { amount = amount + more; eligible = eligible } ∷ []) ≡ true
 last-whole unit [] amount more eligible whole rest =
-    let own = true_eqb amount unit (and-left (amount % unit == 0) true whole) in
+    let own = true_eqb amount unit (and_parts (amount % unit == 0) true whole).0 in
     rw (eqb_true (amount + more) unit (plus-whole amount more unit rest ∙ own))
 last-whole unit (pot ∷ below) amount more eligible whole rest =
-    let first = and-left (pot.amount % unit == 0)
-    (are_whole_pots unit (below ++ record { amount = amount; eligible = eligible } ∷ [])) whole in
+    let first = (and_parts (pot.amount % unit == 0)
+    (are_whole_pots unit (below ++ record { amount = amount; eligible = eligible } ∷ [])) whole).0 in
     let others = last-whole unit below amount more eligible
-    (and-right (pot.amount % unit == 0)
-    (are_whole_pots unit (below ++ record { amount = amount; eligible = eligible } ∷ [])) whole) rest in
+    (and_parts (pot.amount % unit == 0)
+    (are_whole_pots unit (below ++ record { amount = amount; eligible = eligible } ∷ [])) whole).1 rest in
     rw (first, others)

@@ -10,21 +10,11 @@ use Rattle.pot_layers.specs.declared.pot_list.Pot.{Pot}
 use Rattle.pot_layers.specs.Layers.{are_same_seats, greatest_put, is_eligible, is_nobody, lay, layers, live_payers, payments, pots_to}
 use Rattle.pot_layers.specs.PotTests.{are_whole_pots, are_whole_puts, total_of}
 use Rattle.pot_layers.specs.Tallies.{total_to}
-use Rattle.pot_layers.proofs.Heights.{are_same_seats-self, total_to-greatest}
+use Rattle.pot_layers.proofs.Heights.{are_same_seats-self, same_seats-equal, total_to-greatest}
 use Rattle.pot_layers.proofs.ListTests.{map-agree}
 use Rattle.pot_layers.proofs.PotLaws.{list_all-reverse, total_of-pots_to}
 use Rattle.pot_layers.proofs.Stretches.{pot_of}
 use Rattle.pot_layers.proofs.Units.{eqb_true, plus-whole, total_put-whole, total_to-whole, true_eqb, whole-minus}
-
--- Sets with the same seats are the same.
-same-seats : (one other : List Bool) → are_same_seats one other ≡ true → one ≡ other
-same-seats [] [] same = refl
-same-seats [] (seat ∷ others) same = absurd cc
-same-seats (seat ∷ more) [] same = absurd cc
-same-seats (true ∷ more) (true ∷ others) same = ap (λ seats. true ∷ seats) (same-seats more others same)
-same-seats (true ∷ more) (false ∷ others) same = absurd cc
-same-seats (false ∷ more) (true ∷ others) same = absurd cc
-same-seats (false ∷ more) (false ∷ others) same = ap (λ seats. false ∷ seats) (same-seats more others same)
 
 -- Pots of whole units sum to whole units.
 total-whole : (pots : List Pot) (unit : ℕ) → are_whole_pots unit pots ≡ true → total_of pots % unit ≡ 0
@@ -105,7 +95,7 @@ lay-whole puts unit height (top ∷ below) after whole laid is total =
           let both : pot_of (top.amount + payments puts (suc height)) top.eligible ∷ below ≡ first ∷ rest = sym is
           ∙ same in
           let him : pot_of (top.amount + payments puts (suc height)) top.eligible ≡ first = cc in
-          ap (λ (p : Pot). p.eligible) (sym him) ∙ same-seats top.eligible (live_payers puts (suc height)) seats;
+          ap (λ (p : Pot). p.eligible) (sym him) ∙ same_seats-equal top.eligible (live_payers puts (suc height)) seats;
     }
     by_test false true seats none is = record {
       total = total;

@@ -13,6 +13,10 @@ seat_after-below seats seat below = grind (arith, nat_tests)
 pub seat_after-last : (seats seat : ℕ) → seat ≡ seats → seat_after seats seat ≡ 1
 seat_after-last seats seat last = grind (arith, nat_tests)
 
+-- The seat after one is a seat of the table.
+pub seat_after-within : (seats seat : ℕ) → 1 ≤ seats → (1 ≤ seat_after seats seat) × (seat_after seats seat ≤ seats)
+seat_after-within seats seat some = (grind (arith, nat_tests), grind (arith, nat_tests))
+
 -- The first seat of a list that is occupied is occupied, whether it is the first of all or comes later.
 pub first-occupied : (occupied : ℕ → Bool) (seat : ℕ) (more : List ℕ) (fallback : ℕ)
     → (occupied seat ≡ false → occupied (unwrap_or (find occupied more) fallback) ≡ true)

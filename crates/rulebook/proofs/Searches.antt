@@ -7,6 +7,7 @@ use Rattle.std.proofs.lemmas.Bool.{and_parts, cases_lt}
 use Rattle.std.proofs.lemmas.Bool.Decides.{nat_tests}
 use Rattle.std.proofs.lemmas.List.Folds.{find-append, list_all-map}
 use Rattle.rulebook.proofs.OccupiedSeats.{seat_after-below, seat_after-last}
+use Rattle.rulebook.proofs.Tests.{list_all-always}
 use Rattle.rulebook.specs.Pairs.{is_pairwise, are_rising}
 use Rattle.rulebook.specs.Search.{found_along, are_at_table}
 use Rattle.rulebook.specs.Seats.{seat_after, walk, clockwise_after, people_clockwise_after}
@@ -28,11 +29,6 @@ find-nobody one right (person ∷ people) fails all =
     let parts = and_parts (right person) (list_all right people) all in
     rw (fails person parts.0) (find-nobody one right people fails parts.1)
 
--- Everybody passes the test that all pass.
-all_pass : {A : Type 0} (people : List A) → list_all (λ (person : A). true) people ≡ true
-all_pass [] = refl
-all_pass (person ∷ people) = all_pass people
-
 module _ {A : Type 0} (seat_of : A → ℕ) (wanted : A → Bool) where
   -- who is wanted at a seat, and who is wanted at the seats above one up to another
   abbrev at : ℕ → A → Bool
@@ -45,7 +41,7 @@ module _ {A : Type 0} (seat_of : A → ℕ) (wanted : A → Bool) where
   none_within : (seat : ℕ) (people : List A) → find (within seat seat) people ≡ None
   none_within seat people =
       find-nobody (within seat seat) (λ person. true) people (λ person right. grind (arith, nat_tests))
-      (all_pass people)
+      (list_all-always (λ (person : A). true) people (λ person. refl))
 
   -- the test of the first of two people, by what it says of him
   first_step : (person : A) (here beyond all : Bool) (here_found beyond_found found : Option A) → here ≡ all

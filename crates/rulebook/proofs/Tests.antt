@@ -1,9 +1,32 @@
--- Tests that the items of a list pass.
-use Rattle.std.proofs.Common.{◌≡◌, refl, ap, sym, ◌∙◌, Bool, true, false, List, [], ◌∷◌, ◌++◌, map, Some, inl, inr}
-use Rattle.std.specs.Prelude.{◌||◌, find, filter}
+-- Tests that the items of a list pass, and how many of them do.
+use Rattle.std.proofs.Common.{◌≡◌, refl, ap, sym, ◌∙◌, ℕ, ◌+◌, ◌≤◌, Bool, true, false, cond, List, [], ◌∷◌, ◌++◌, map, Option, Some, None, inl, inr, arith}
+use Rattle.std.specs.Prelude.{◌||◌, ◌==◌, count_by, find, filter}
 use Rattle.std.specs.List.{list_any, list_all}
+use Rattle.std.specs.Option.{is_some}
 use Rattle.std.proofs.lemmas.Bool.{and_parts, and_from, or_left, or_right, cases_Bool}
+use Rattle.std.proofs.lemmas.Bool.Decides.{nat_tests}
+use Rattle.std.proofs.lemmas.List.Sums.{sum_by-cons}
 use Rattle.std.proofs.lemmas.Option.{same_Some}
+
+-- What a test counts for is one at most.
+pub at_most_one : (b : Bool) → cond b 1 0 ≤ 1
+at_most_one true = omega arith
+at_most_one false = omega arith
+
+-- The first of a list counts for one where it passes the test, and else for none.
+pub count_by-cons : {A : Type 0} (test : A → Bool) (x : A) (xs : List A)
+    → count_by test (x ∷ xs) ≡ cond (test x) 1 0 + count_by test xs
+count_by-cons test x xs = sum_by-cons (λ x. cond (test x) 1 0) x xs
+
+-- Whether two numbers are equal does not depend on their order.
+pub eqb-swap : (a b : ℕ) → (a == b) ≡ (b == a)
+eqb-swap a b = grind (arith, nat_tests)
+
+-- All of a list pass a test that everything passes.
+pub list_all-always : {A : Type 0} (test : A → Bool) (xs : List A) → ((x : A) → test x ≡ true)
+    → list_all test xs ≡ true
+list_all-always test [] passes = refl
+list_all-always test (x ∷ xs) passes = and_from (test x) (list_all test xs) (passes x) (list_all-always test xs passes)
 
 -- What passes two tests passes a third that follows from them.
 pub list_all-both : {A : Type 0} (one other third : A → Bool) (items : List A)
@@ -28,6 +51,18 @@ list_all-filter test key keep [] all = refl
 list_all-filter test key keep (item ∷ items) all =
     let parts = and_parts (test (key item)) (list_all test (map key items)) all in
     let rest = list_all-filter test key keep items parts.1 in
+    elim (cases_Bool (keep item)) [
+      | inl kept ↦ rw kept (and_from _ _ parts.0 rest)
+      | inr left ↦ rw left rest
+    ]
+
+-- What passes for all of a list passes for those of it that another test keeps.
+pub list_all-kept : {A : Type 0} (test keep : A → Bool) (items : List A) → list_all test items ≡ true
+    → list_all test (filter keep items) ≡ true
+list_all-kept test keep [] all = refl
+list_all-kept test keep (item ∷ items) all =
+    let parts = and_parts (test item) (list_all test items) all in
+    let rest = list_all-kept test keep items parts.1 in
     elim (cases_Bool (keep item)) [
       | inl kept ↦ rw kept (and_from _ _ parts.0 rest)
       | inr left ↦ rw left rest
@@ -113,3 +148,8 @@ pub list_any-made : {A B : Type 0} (test : B → Bool) (made : A → B) (items :
 list_any-made test made [] = refl
 list_any-made test made (item ∷ items) =
     ap (λ (others : Bool). test (made item) || others) (list_any-made test made items)
+
+-- An option that has something has this.
+pub some_there : {A : Type 0} (found : Option A) → is_some found ≡ true → (x : A) × (found ≡ Some x)
+some_there None is = absurd cc
+some_there (Some x) is = (x, refl)

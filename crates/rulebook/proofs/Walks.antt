@@ -1,5 +1,5 @@
 -- What is left of a walk after each step of it.
-use Rattle.std.proofs.Common.{◌≡◌, ℕ, suc, ◌+◌, ◌-◌, ◌<◌, ◌∷◌, Bool, true, false, ap, arith}
+use Rattle.std.proofs.Common.{◌≡◌, ℕ, suc, ◌+◌, ◌-◌, ◌<◌, ◌∷◌, Bool, true, false, Some, ap, arith}
 use Rattle.std.specs.Prelude.{find, unwrap_or}
 use Rattle.rulebook.specs.Seats.{walk}
 
@@ -9,6 +9,16 @@ pub walk-next : (step : ℕ → ℕ) (steps taken seat : ℕ) → taken < steps
 walk-next step steps taken seat within =
     let left : steps - taken ≡ suc (steps - (taken + 1)) = omega arith in
     ap (λ (n : ℕ). walk step n seat) left
+
+-- While steps are left, a walk whose next seat passes a test finds that seat.
+pub find_found : (test : ℕ → Bool) (step : ℕ → ℕ) (steps taken seat : ℕ) → taken < steps → test (step seat) ≡ true
+    → find test (walk step (steps - taken) seat) ≡ Some (step seat)
+find_found test step steps taken seat within found = rw (walk-next step steps taken seat within, found)
+
+-- While steps are left, a walk whose next seat fails a test finds what the rest of it finds.
+pub find_passed : (test : ℕ → Bool) (step : ℕ → ℕ) (steps taken seat : ℕ) → taken < steps → test (step seat) ≡ false
+    → find test (walk step (steps - taken) seat) ≡ find test (walk step (steps - (taken + 1)) (step seat))
+find_passed test step steps taken seat within passed = rw (walk-next step steps taken seat within, passed)
 
 -- A walk whose first seat is occupied finds that seat.
 pub walk-found : (occupied : ℕ → Bool) (step : ℕ → ℕ) (steps taken seat fallback : ℕ) → taken < steps

@@ -4,6 +4,7 @@ use Rattle.std.specs.Prelude.{IfSome, IsSome}
 use Rattle.std.proofs.lemmas.Bool.{eqb-true, eq-eqb, cond-true}
 use Rattle.std.proofs.lemmas.List.{get_or_read}
 use Rattle.rulebook.specs.declared.limits.TheConstants.{MOST_ENTRIES}
+use Rattle.rulebook.proofs.Tests.{find-passes}
 use Rattle.seat_book.specs.declared.place.Place.{Place}
 use Rattle.seat_book.specs.declared.seated.Seated.{Seated}
 use Rattle.seat_book.specs.declared.table_status.TableStatus.{TableStatus}
@@ -12,7 +13,6 @@ use Rattle.seat_book.specs.Players.{players_in, is_numbered, player_at, player_o
 use Rattle.seat_book.specs.Counts.{count_at}
 use Rattle.seat_book.specs.Tables.{fresh_status, status_at, IsStatusOf}
 use Rattle.seat_book.specs.Kept.{slot_of, IsKept}
-use Rattle.seat_book.proofs.Passing.{found-passes}
 use Rattle.seat_book.proofs.Splits.{front_of, back_of}
 use Rattle.seat_book.proofs.Numbers.{count_at-with}
 use Rattle.seat_book.proofs.Slots.{slot-numbered}
@@ -59,7 +59,7 @@ module _ {tables seats : ℕ} {slots : List (Option Seated)} {places : List (Opt
   module _ (seated : Seated) (number slot index count : ℕ) (at : IsPlaceOf tables seats seated.place)
       (slot_is : slot ≡ slot_of seats seated.place) (found : player_of (players_in slots) number ≡ Some seated) where
     is_his : seated.player ≡ number
-    is_his = eqb-true seated.player number (found-passes (is_numbered number) (players_in slots) seated found)
+    is_his = eqb-true seated.player number (find-passes (is_numbered number) (players_in slots) seated found)
 
     in_slot : get_or slots (slot_of seats seated.place) None ≡ Some seated
     in_slot = (slot-numbered tables seats number slots seated kept.stand kept.room found).1

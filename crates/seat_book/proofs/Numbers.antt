@@ -7,10 +7,11 @@ use Rattle.std.proofs.lemmas.Bool.{and_from, and_parts, eqb-true}
 use Rattle.std.proofs.lemmas.Bool.Decides.{nat_tests}
 use Rattle.std.proofs.lemmas.List.Folds.{find-append, list_all-append}
 use Rattle.std.proofs.lemmas.List.Sums.{sum_by-append}
+use Rattle.rulebook.proofs.Tests.{count_by-cons}
 use Rattle.seat_book.specs.declared.seated.Seated.{Seated}
 use Rattle.seat_book.specs.Players.{sits_at, is_numbered, place_of, are_apart}
 use Rattle.seat_book.specs.Counts.{count_at}
-use Rattle.seat_book.proofs.Passing.{find-none, count_by-cons}
+use Rattle.seat_book.proofs.Passing.{find-none}
 
 -- nobody of a list has this number
 abbrev pub have_not : ℕ → List Seated → Bool

@@ -1,22 +1,9 @@
 -- Lists all of whose elements pass a test.
-use Rattle.std.proofs.Common.{◌≡◌, ◌∙◌, refl, sym, ap, ℕ, ◌+◌, Bool, true, false, cond, List, [], ◌∷◌, map, length, None, Some, arith}
+use Rattle.std.proofs.Common.{◌≡◌, refl, ap, ℕ, Bool, true, false, List, [], ◌∷◌, map, length, None, Some, arith}
 use Rattle.std.specs.Prelude.{not, count_by, filter, find}
 use Rattle.std.specs.List.{list_all}
 use Rattle.std.proofs.lemmas.Bool.{and_parts, and_from, cond-true, cond-false, not-true}
-use Rattle.std.proofs.lemmas.List.Sums.{sum_by-cons}
-
--- what passes one test passes another
-pub list_all-implied : {A : Type 0} (test other : A → Bool) (xs : List A) → ((x : A) → test x ≡ true → other x ≡ true)
-    → list_all test xs ≡ true → list_all other xs ≡ true
-list_all-implied test other [] implies all = refl
-list_all-implied test other (x ∷ xs) implies all =
-    let parts = and_parts (test x) (list_all test xs) all in
-    and_from (other x) (list_all other xs) (implies x parts.0) (list_all-implied test other xs implies parts.1)
-
--- the first of a list counts for one, or for none
-pub count_by-cons : {A : Type 0} (test : A → Bool) (x : A) (xs : List A)
-    → count_by test (x ∷ xs) ≡ cond (test x) 1 0 + count_by test xs
-count_by-cons test x xs = sum_by-cons (λ x. cond (test x) 1 0) x xs
+use Rattle.rulebook.proofs.Tests.{count_by-cons, find-all}
 
 -- where all pass, all count
 pub count_by-all : {A : Type 0} (test : A → Bool) (xs : List A) → list_all test xs ≡ true → count_by test xs ≡ length xs
@@ -83,24 +70,4 @@ map-fixed test change (x ∷ xs) fixed all =
 -- what is found passes each test that all pass
 pub found-all : {A : Type 0} (test other : A → Bool) (xs : List A) (found : A) → list_all other xs ≡ true
     → find test xs ≡ Some found → other found ≡ true
-found-all test other [] found all is = absurd cc
-found-all test other (x ∷ xs) found all is =
-    let parts = and_parts (other x) (list_all other xs) all in
-    by_test (test x) refl parts.0 (found-all test other xs found parts.1)
-  where
-    by_test : (b : Bool) → test x ≡ b → other x ≡ true → (find test xs ≡ Some found → other found ≡ true)
-        → other found ≡ true
-    by_test true passes first others = let here : Some x ≡ Some found = rw passes at is in let same : x ≡ found =
-        cc in ap other (sym same) ∙ first
-    by_test false passes first others = others (rw passes at is)
-
--- what is found passes the test
-pub found-passes : {A : Type 0} (test : A → Bool) (xs : List A) (found : A) → find test xs ≡ Some found
-    → test found ≡ true
-found-passes test [] found is = absurd cc
-found-passes test (x ∷ xs) found is = by_test (test x) refl (found-passes test xs found)
-  where
-    by_test : (b : Bool) → test x ≡ b → (find test xs ≡ Some found → test found ≡ true) → test found ≡ true
-    by_test true passes others = let here : Some x ≡ Some found = rw passes at is in let same : x ≡ found = cc in ap
-        test (sym same) ∙ passes
-    by_test false passes others = others (rw passes at is)
+found-all test other xs found all is = find-all test other xs found is all

@@ -1,10 +1,16 @@
 -- The order of places is that of their slots.
 use Rattle.std.proofs.Common.{◌≡◌, refl, ap, ℕ, suc, ◌+◌, ◌-◌, ◌*◌, ◌<◌, ◌≤◌, true, false, ◌==◌, ◌&&◌, inl, inr, arith}
 use Rattle.std.specs.Prelude.{nat_lt}
-use Rattle.std.proofs.lemmas.Bool.{cases_order, lt-ltb, eq-eqb, or_left, or_right}
+use Rattle.std.proofs.lemmas.Bool.{cases_order, lt-ltb, eq-eqb, and_from, or_left, or_right}
 use Rattle.std.proofs.lemmas.Bool.Decides.{nat_tests}
 use Rattle.std.proofs.lemmas.Nat.{mul-le}
+use Rattle.seat_book.specs.declared.place.Place.{Place}
 use Rattle.seat_book.specs.Places.{comes_before}
+
+-- A place is the same place as itself.
+pub same_place-itself : (place : Place) → (place.table == place.table && place.seat == place.seat) ≡ true
+same_place-itself place = and_from (place.table == place.table) (place.seat == place.seat)
+    (eq-eqb place.table place.table refl) (eq-eqb place.seat place.seat refl)
 
 -- a row that begins further on begins after the whole of this one
 later_row : (a x seats b y : ℕ) → a < x → b < seats → a * seats + b < x * seats + y

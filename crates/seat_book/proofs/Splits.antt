@@ -6,6 +6,7 @@ use Rattle.std.proofs.lemmas.List.{take-append-drop, set_split, take_at, drop_at
 use Rattle.std.proofs.lemmas.List.Elements.{filter-append, filter_map-append}
 use Rattle.std.proofs.lemmas.List.Sums.{sum_by-append}
 use Rattle.std.proofs.lemmas.List.Folds.{find-append}
+use Rattle.rulebook.proofs.Tests.{list_all-follows}
 use Rattle.seat_book.specs.declared.place.Place.{Place}
 use Rattle.seat_book.specs.declared.seated.Seated.{Seated}
 use Rattle.seat_book.specs.Places.{comes_before, IsPlaceOf}
@@ -13,7 +14,7 @@ use Rattle.seat_book.specs.Players.{players_in, sits_in, is_numbered, player_at,
 use Rattle.seat_book.specs.Kept.{slot_of, AllStand}
 use Rattle.seat_book.proofs.PlaceOrder.{before-apart, before-other, before-back}
 use Rattle.seat_book.proofs.Standing.{stand-take, stand-drop, list_all-stand, stands-before, stands-after}
-use Rattle.seat_book.proofs.Passing.{list_all-implied, count_by-all, count_by-none, find-none, filter-all, map-fixed}
+use Rattle.seat_book.proofs.Passing.{count_by-all, count_by-none, find-none, filter-all, map-fixed}
 
 -- the players in the slots before one
 abbrev pub front_of : ℕ → List (Option Seated) → List Seated
@@ -65,14 +66,14 @@ stands-between tables seats slots place at stand within = record {
 none_front : (place : Place) (front : List Seated) → list_all (λ other. comes_before other.place place) front ≡ true
     → list_all (λ seated. not (sits_in place seated)) front ≡ true
 none_front place front before =
-    list_all-implied (λ other. comes_before other.place place) (λ seated. not (sits_in place seated)) front
+    list_all-follows (λ other. comes_before other.place place) (λ seated. not (sits_in place seated)) front
     (λ other is. ap not (before-apart other.place.table other.place.seat place.table place.seat is)) before
 
 -- nobody behind a place sits in it
 none_back : (place : Place) (back : List Seated) → list_all (λ other. comes_before place other.place) back ≡ true
     → list_all (λ seated. not (sits_in place seated)) back ≡ true
 none_back place back after =
-    list_all-implied (λ other. comes_before place other.place) (λ seated. not (sits_in place seated)) back
+    list_all-follows (λ other. comes_before place other.place) (λ seated. not (sits_in place seated)) back
     (λ other is. ap not (before-other place.table place.seat other.place.table other.place.seat is)) after
 
 -- nobody sits in a place where its slot is empty
@@ -97,7 +98,7 @@ player_at-there place front back seated between sits =
 pub sit_down-between : (seated : Seated) (front back : List Seated) → StandsBetween seated.place front back
     → sit_down seated (front ++ back) ≡ front ++ seated ∷ back
 sit_down-between seated front back between =
-    let behind = list_all-implied (λ (other : Seated). comes_before seated.place other.place)
+    let behind = list_all-follows (λ (other : Seated). comes_before seated.place other.place)
     (λ (other : Seated). not (comes_before other.place seated.place)) back
     (λ other is. ap not (before-back seated.place.table seated.place.seat other.place.table other.place.seat is))
     between.after in

@@ -2,14 +2,14 @@
 use Rattle.std.proofs.Common.{◌≡◌, ◌∙◌, refl, sym, ap, ℕ, zero, suc, ◌+◌, ◌<◌, ◌≤◌, ◌≢◌, Bool, true, false, cond, ◌==◌, ◌&&◌, ◌||◌, List, [], ◌∷◌, map, length, Some, inl, inr, arith, get_or-set_same, get_or-set_other}
 use Rattle.std.specs.Prelude.{filter, find, count_by, slice_set}
 use Rattle.std.specs.Option.{is_some}
+use Rattle.std.proofs.Math.Bool.{or-false, or-true}
 use Rattle.std.proofs.lemmas.Bool.{cases_eq, eq-eqb}
 use Rattle.std.proofs.lemmas.Bool.Decides.{nat_tests}
-use Rattle.std.proofs.lemmas.List.{length-set}
+use Rattle.rulebook.proofs.Tests.{count_by-cons}
 use Rattle.button_blinds.specs.SeatSets.{no_seats, has_seat, with_seat, with_seats, seat_count}
-use Rattle.button_blinds.proofs.SeatSetLaws.{no_seats-none}
+use Rattle.button_blinds.proofs.SeatSetLaws.{with_seat-size, no_seats-none}
 use Rattle.seat_book.specs.declared.seated.Seated.{Seated}
 use Rattle.seat_book.specs.Players.{sits_at, sits_in, player_at, taken_seats}
-use Rattle.seat_book.proofs.Passing.{count_by-cons}
 
 -- With one more seat, a seat is in a set where it is that one or was in it.
 pub has_seat-one_more : (set : List Bool) (more seat : ℕ) → 1 ≤ seat → seat ≤ length set
@@ -28,13 +28,9 @@ has_seat-one_more set (suc at) (suc k) first within = elim (cases_eq k at) [
       rw none (get_or-set_other set at k true false other)
 ]
 
-same_size : (set : List Bool) (seat : ℕ) → length (with_seat set seat) ≡ length set
-same_size set zero = refl
-same_size set (suc below) = length-set set below true
-
 all_same_size : (set : List Bool) (seats : List ℕ) → length (with_seats set seats) ≡ length set
 all_same_size set [] = refl
-all_same_size set (seat ∷ seats) = all_same_size (with_seat set seat) seats ∙ same_size set seat
+all_same_size set (seat ∷ seats) = all_same_size (with_seat set seat) seats ∙ with_seat-size set seat
 
 -- The taken seats of a table are ten tests.
 pub taken-size : (players : List Seated) (table : ℕ) → length (taken_seats players table) ≡ 10
@@ -60,10 +56,6 @@ pub seat_count-one_more : (set : List Bool) (seat : ℕ) → seat_count (with_se
 seat_count-one_more set zero = omega arith
 seat_count-one_more set (suc at) = at_most_one set at
 
-either-true : (b : Bool) → (b || true) ≡ true
-either-true true = refl
-either-true false = refl
-
 module _ (table seat : ℕ) (first : 1 ≤ seat) (last : seat ≤ 10) where
   is_in : List Seated → Bool
   is_in players = is_some (find (sits_in (record { table = table; seat = seat })) players)
@@ -86,13 +78,13 @@ module _ (table seat : ℕ) (first : 1 ≤ seat) (last : seat ≤ 10) where
       let put = has_seat-one_more set seated.place.seat seat first (omega (arith, size, last)) in
       let put_true : has_seat (with_seat set seated.place.seat) seat ≡ true = put
       ∙ ap (λ b. b || has_seat set seat) is in
-      rw is (others (with_seat set seated.place.seat) (same_size set seated.place.seat ∙ size)
-      ∙ (ap (λ b. is_in players || b) put_true ∙ either-true (is_in players)))
+      rw is (others (with_seat set seated.place.seat) (with_seat-size set seated.place.seat ∙ size)
+      ∙ (ap (λ b. is_in players || b) put_true ∙ or-true (is_in players)))
   one seated players set true false size is others =
       let put = has_seat-one_more set seated.place.seat seat first (omega (arith, size, last)) in
       let put_as : has_seat (with_seat set seated.place.seat) seat ≡ has_seat set seat = put
       ∙ ap (λ b. b || has_seat set seat) is in
-      rw is (others (with_seat set seated.place.seat) (same_size set seated.place.seat ∙ size)
+      rw is (others (with_seat set seated.place.seat) (with_seat-size set seated.place.seat ∙ size)
       ∙ ap (λ b. is_in players || b) put_as)
 
   all : (players : List Seated) (set : List Bool) → length set ≡ 10
@@ -108,8 +100,4 @@ module _ (table seat : ℕ) (first : 1 ≤ seat) (last : seat ≤ 10) where
       → has_seat (taken_seats players table) seat ≡ is_some (player_at players (record { table = table; seat = seat }))
   unfolding is_in seats_of
   has_seat-taken players = all players no_seats refl
-      ∙ (ap (λ b. is_in players || b) (no_seats-none seat) ∙ or_false (is_in players))
-    where
-      or_false : (b : Bool) → (b || false) ≡ b
-      or_false true = refl
-      or_false false = refl
+      ∙ (ap (λ b. is_in players || b) (no_seats-none seat) ∙ or-false (is_in players))

@@ -2,15 +2,15 @@
 use Rattle.std.proofs.Common.{◌≡◌, ◌∙◌, refl, sym, ap, ℕ, zero, suc, ◌+◌, ◌<◌, ◌≤◌, Bool, true, false, cond, ◌==◌, ◌&&◌, List, [], ◌∷◌, ◌++◌, map, length, take, get_or, Option, None, Some, inl, inr, arith}
 use Rattle.std.specs.Prelude.{not, nat_lt, nat_le, filter, slice_index_or}
 use Rattle.std.specs.List.{list_all, cons_option}
-use Rattle.std.proofs.lemmas.Bool.{and_from, and_parts, cases_Bool, not-true}
+use Rattle.std.proofs.lemmas.Bool.{and_from, and_parts, both_ways, cases_Bool, not-true}
 use Rattle.std.proofs.lemmas.Bool.Decides.{nat_tests}
-use Rattle.std.proofs.lemmas.List.{get_or_read, length-set, length-map, take_more, map-append, append-nil}
+use Rattle.std.proofs.lemmas.List.{get_or_read, length-map, take_more, map-append, append-nil}
 use Rattle.std.proofs.lemmas.List.Elements.{filter_map-append}
 use Rattle.std.proofs.lemmas.List.Sums.{sum_by-set, length-filter}
 use Rattle.rulebook.specs.Pairs.{are_rising}
 use Rattle.rulebook.proofs.Tests.{list_all-follows}
 use Rattle.button_blinds.specs.SeatSets.{no_seats, has_seat, with_seat, with_seats, seat_count}
-use Rattle.button_blinds.proofs.SeatSetLaws.{has_seat-with_seat, no_seats-none}
+use Rattle.button_blinds.proofs.SeatSetLaws.{with_seat-size, has_seat-with_seat, no_seats-none}
 use Rattle.seat_book.specs.declared.seated.Seated.{Seated}
 use Rattle.seat_book.specs.Places.{is_place_of, comes_before, IsPlaceOf}
 use Rattle.seat_book.specs.Players.{players_in, sits_at, players_at, taken_seats, places_of, are_in_order}
@@ -54,10 +54,6 @@ one_more set (suc below) size comes =
     at_most : (below : ℕ) → is_seat_to 10 (suc below) ≡ true → below < 10
     at_most below between = grind (arith, nat_tests)
 
-same_size : (set : List Bool) (seat : ℕ) → length (with_seat set seat) ≡ length set
-same_size set zero = refl
-same_size set (suc below) = length-set set below true
-
 still_comes : (set : List Bool) (seat other : ℕ) → nat_lt seat other ≡ true → may_come set other ≡ true
     → may_come (with_seat set seat) other ≡ true
 still_comes set seat other higher comes =
@@ -65,17 +61,13 @@ still_comes set seat other higher comes =
     elim (cases_Bool (has_seat (with_seat set seat) other)) [
       | inl there ↦ elim (has_seat-with_seat set seat other there) [
         | inl same ↦ absurd (not_itself seat other higher same)
-        | inr was ↦ absurd (not_both (has_seat set other) was parts.1)
+        | inr was ↦ absurd (both_ways (has_seat set other) (not-true (has_seat set other) parts.1) was)
       ]
       | inr free ↦ rw (parts.0, free) refl
     ]
   where
     not_itself : (seat other : ℕ) → nat_lt seat other ≡ true → other ≡ seat → ⊥
     not_itself seat other higher same = grind (arith, nat_tests)
-
-    not_both : (b : Bool) → b ≡ true → not b ≡ true → ⊥
-    not_both true one failed = cc
-    not_both false one failed = cc
 
 all_still_come : (set : List Bool) (seat : ℕ) (seats : List ℕ) → list_all (nat_lt seat) seats ≡ true
     → list_all (may_come set) seats ≡ true → list_all (may_come (with_seat set seat)) seats ≡ true
@@ -92,7 +84,7 @@ count_with set (seat ∷ seats) size higher comes =
     let above = and_parts (list_all (nat_lt seat) seats) (are_rising seats) higher in
     let parts = and_parts (may_come set seat) (list_all (may_come set) seats) comes in
     let one = one_more set seat size parts.0 in
-    let others = count_with (with_seat set seat) seats (same_size set seat ∙ size) above.1
+    let others = count_with (with_seat set seat) seats (with_seat-size set seat ∙ size) above.1
     (all_still_come set seat seats above.0 parts.1) in
     omega (arith, one, others)
 

@@ -1,7 +1,8 @@
 -- The awards of one pot more.
 use Rattle.std.proofs.Common.{◌≡◌, ◌∙◌, ℕ, ◌+◌, ◌%◌, ◌<◌, ◌≤◌, List, Bool, true, Some, length, get_or, take, replicate, ap, sym, subst, arith}
 use Rattle.std.specs.Prelude.{◌==◌, not, map, is_some, Option, fold, slice_get}
-use Rattle.std.proofs.lemmas.Bool.Decides.{nat_tests}
+use Rattle.std.proofs.lemmas.Bool.{eqb-true}
+use Rattle.std.proofs.lemmas.Option.{get_or_from_slice_get}
 use Rattle.std.proofs.lemmas.List.Sums.{fold_more, sum_by_more, sum_by_more_le}
 use Rattle.pot_layers.specs.declared.pot_list.Pot.{Pot}
 use Rattle.card_set.specs.declared.card.Card.{Card}
@@ -15,7 +16,7 @@ use Rattle.showdown.specs.Hands.{hands_of}
 use Rattle.showdown.specs.declared.hand.Hand.{Hand}
 use Rattle.showdown.specs.Awards.{award_pot, awards_of}
 use Rattle.showdown.proofs.Writes.{seats-hands_of}
-use Rattle.showdown.proofs.PotAwards.{get_or-get, list_all-get, some-in_play}
+use Rattle.showdown.proofs.PotAwards.{list_all-get, some-in_play}
 use Rattle.showdown.proofs.AwardLaws.{IsPotAt}
 
 pub awards_of-more : (hands : List (Option Hand)) (unit button seats : ℕ) (pots : List Pot) (index : ℕ) (pot : Pot)
@@ -27,23 +28,20 @@ awards_of-more hands unit button seats pots index pot within is =
     sym (fold_more (award_pot hands unit button seats) (replicate 10 0) pots index pot within
     ∙ ap (award_pot hands unit button seats
     (fold (award_pot hands unit button seats) (replicate 10 0) (take index pots)))
-    (get_or-get pots index pot pot is))
+    (get_or_from_slice_get pots index pot pot is))
 
 pub total_of-more : (pots : List Pot) (index : ℕ) (pot : Pot) → index < length pots → slice_get pots index ≡ Some pot
     → total_of (take (index + 1) pots) ≡ total_of (take index pots) + pot.amount
 total_of-more pots index pot within is =
     sum_by_more (λ (p : Pot). p.amount) pots index pot within
-    ∙ ap (λ (p : Pot). total_of (take index pots) + p.amount) (get_or-get pots index pot pot is)
+    ∙ ap (λ (p : Pot). total_of (take index pots) + p.amount) (get_or_from_slice_get pots index pot pot is)
 
 pub total_of-within : (pots : List Pot) (index : ℕ) (pot : Pot) → index < length pots → slice_get pots index ≡ Some pot
     → total_of (take index pots) + pot.amount ≤ total_of pots
 total_of-within pots index pot within is =
     let own : (get_or pots index pot).amount ≡ pot.amount =
-    ap (λ (p : Pot). p.amount) (get_or-get pots index pot pot is) in
+    ap (λ (p : Pot). p.amount) (get_or_from_slice_get pots index pot pot is) in
     omega (arith, sum_by_more_le (λ (p : Pot). p.amount) pots index pot within, own)
-
-whole-amount : (n : ℕ) → (n == 0) ≡ true → n ≡ 0
-whole-amount n is = grind (arith, nat_tests)
 
 -- Each pot is one that an award asks for, where all are.
 pub pot-at : (game : Game) (board : List Card) (live : List (Option Live)) (hands : List (Option Hand))
@@ -62,6 +60,6 @@ pot-at game board live hands unit button seats pots index pot is most at table o
           (list_all-get (λ (p : Pot). not (is_nobody p.eligible)) pots index pot somebody there)
           (subst (λ (set : List Bool). are_all_in pot.eligible set ≡ true) (sym same)
           (list_all-get (λ (p : Pot). are_all_in p.eligible (map is_some live)) pots index pot own there));
-      whole = whole-amount (pot.amount % unit)
+      whole = eqb-true (pot.amount % unit) 0
           (list_all-get (λ (p : Pot). p.amount % unit == 0) pots index pot units there);
     }

@@ -1,8 +1,8 @@
 -- What holds of all awards.
-use Rattle.std.proofs.Common.{inl, inr, ◌≡◌, ◌∙◌, ℕ, zero, suc, ◌+◌, ◌%◌, ◌≤◌, List, [], ◌∷◌, Bool, true, false, cond, None, length, get_or, set, replicate, get_or-set_other, refl, ap, sym, arith}
+use Rattle.std.proofs.Common.{inl, inr, ◌≡◌, ◌∙◌, ℕ, zero, suc, ◌+◌, ◌%◌, ◌≤◌, List, [], ◌∷◌, Bool, true, false, true≢false, cond, None, length, get_or, set, replicate, get_or-set_other, refl, ap, sym, arith}
 use Rattle.std.specs.Prelude.{◌==◌, ◌||◌, not, map, filter, fold, sum, Option, is_some}
 use Rattle.std.specs.List.{list_all, list_any}
-use Rattle.std.proofs.lemmas.Bool.{cases_Bool}
+use Rattle.std.proofs.lemmas.Bool.{and_parts, cases_Bool, eqb-true, or_parts}
 use Rattle.std.proofs.lemmas.Bool.Decides.{nat_tests}
 use Rattle.std.proofs.lemmas.List.{length-set}
 use Rattle.std.proofs.lemmas.List.Sums.{sum_by-cons}
@@ -13,7 +13,6 @@ use Rattle.pot_layers.specs.declared.pot_list.Pot.{Pot}
 use Rattle.pot_layers.specs.Layers.{are_same_seats, is_nobody}
 use Rattle.pot_layers.specs.PotTests.{total_of, are_all_in, are_for, have_somebody, are_whole_pots}
 use Rattle.pot_layers.specs.Shares.{share_of, sum_below, high_half, low_half}
-use Rattle.pot_layers.proofs.ListTests.{and-left, and-right}
 use Rattle.pot_layers.proofs.ShareLaws.{sum_below-share_of, halves-sum}
 use Rattle.showdown.specs.declared.hand.Hand.{Hand}
 use Rattle.showdown.specs.declared.hand.Side.{Side}
@@ -44,11 +43,11 @@ sum-pay_in_turn amount unit count awards index [] ten seats =
     let none : index + 0 ≡ index = omega arith in
     ap (λ n. sum awards + sum_below (share_of amount unit count) n) (sym none)
 sum-pay_in_turn amount unit count awards index (seat ∷ more) ten seats =
-    let at = first-seat seat (and-left (is_seat seat) (list_all is_seat more) seats) in
+    let at = first-seat seat (and_parts (is_seat seat) (list_all is_seat more) seats).0 in
     let paid = sum-award_to awards seat (share_of amount unit count index) ten at.0 at.1 in
     let later = sum-pay_in_turn amount unit count (award_to awards seat (share_of amount unit count index))
     (suc index) more (length-award_to awards seat (share_of amount unit count index) ∙ ten)
-    (and-right (is_seat seat) (list_all is_seat more) seats) in
+    (and_parts (is_seat seat) (list_all is_seat more) seats).1 in
     let same : suc index + length more ≡ index + suc (length more) = omega arith in
     let shares = ap (sum_below (share_of amount unit count)) same in
     omega (arith, paid, later, shares)
@@ -112,10 +111,6 @@ length-sides amount unit button seats awards highs lows false =
     length-split (low_half amount unit) unit (split (high_half amount unit) unit awards (in_turn seats button highs))
     (in_turn seats button lows) ∙ length-split (high_half amount unit) unit awards (in_turn seats button highs)
 
-neither : (a b : Bool) → (a || b) ≡ false → a ≡ false
-neither true b is = is
-neither false b is = refl
-
 -- The awards grow by the pot.
 pub sum-award_pot : (hands : List (Option Hand)) (unit button seats : ℕ) (awards : List ℕ) (pot : Pot)
     → length awards ≡ 10 → IsPotAt hands unit button seats pot
@@ -129,8 +124,8 @@ sum-award_pot hands unit button seats awards pot ten at =
     ten (omega (arith, at.at.0, at.at.1)) at.most at.whole
     (high-some hands pot.eligible seats button at.table at.at at.somebody)
     (λ halves. low-some hands pot.eligible seats button at.table at.at
-    (neither (seat_count (winners Low (in_play pot.eligible hands)) == 0)
-    (are_same_seats (winners High (in_play pot.eligible hands)) (winners Low (in_play pot.eligible hands))) halves))
+    (or_parts (seat_count (winners Low (in_play pot.eligible hands)) == 0)
+    (are_same_seats (winners High (in_play pot.eligible hands)) (winners Low (in_play pot.eligible hands))) halves).0)
 
 -- There are as many awards as before.
 pub length-award_pot : (hands : List (Option Hand)) (unit button seats : ℕ) (awards : List ℕ) (pot : Pot)
@@ -142,9 +137,6 @@ length-award_pot hands unit button seats awards pot =
     (seat_count (winners Low (in_play pot.eligible hands)) == 0 || are_same_seats
     (winners High (in_play pot.eligible hands)) (winners Low (in_play pot.eligible hands)))
 
-whole-amount : (n : ℕ) → (n == 0) ≡ true → n ≡ 0
-whole-amount n is = grind (arith, nat_tests)
-
 sum-pots : (hands : List (Option Hand)) (unit button seats : ℕ) (awards : List ℕ) (pots : List Pot) → length awards ≡ 10
     → seats ≤ 10 → IsSeat seats button → AreSeatsOf seats (map is_some hands)
     → are_for (map is_some hands) pots ≡ true → have_somebody pots ≡ true → are_whole_pots unit pots ≡ true
@@ -155,15 +147,16 @@ sum-pots hands unit button seats awards (pot ∷ more) ten most at table live so
       most = most;
       at = at;
       table = table;
-      somebody = some-in_play pot.eligible hands (and-left (not (is_nobody pot.eligible)) (have_somebody more) somebody)
-          (and-left (are_all_in pot.eligible (map is_some hands)) (are_for (map is_some hands) more) live);
-      whole = whole-amount (pot.amount % unit) (and-left (pot.amount % unit == 0) (are_whole_pots unit more) units);
+      somebody = some-in_play pot.eligible hands
+          (and_parts (not (is_nobody pot.eligible)) (have_somebody more) somebody).0
+          (and_parts (are_all_in pot.eligible (map is_some hands)) (are_for (map is_some hands) more) live).0;
+      whole = eqb-true (pot.amount % unit) 0 (and_parts (pot.amount % unit == 0) (are_whole_pots unit more) units).0;
     }) in
     let later = sum-pots hands unit button seats (award_pot hands unit button seats awards pot) more
     (length-award_pot hands unit button seats awards pot ∙ ten) most at table
-    (and-right (are_all_in pot.eligible (map is_some hands)) (are_for (map is_some hands) more) live)
-    (and-right (not (is_nobody pot.eligible)) (have_somebody more) somebody)
-    (and-right (pot.amount % unit == 0) (are_whole_pots unit more) units) in
+    (and_parts (are_all_in pot.eligible (map is_some hands)) (are_for (map is_some hands) more) live).1
+    (and_parts (not (is_nobody pot.eligible)) (have_somebody more) somebody).1
+    (and_parts (pot.amount % unit == 0) (are_whole_pots unit more) units).1 in
     omega (arith, own, later, sum_by-cons (λ (p : Pot). p.amount) pot more)
 
 -- The awards sum to the pots.
@@ -183,14 +176,8 @@ others test [] target fails = refl
 others test (item ∷ more) target fails = by_test (test item) refl (others test more target fails)
   where
     other : (is : Bool) → (item == target) ≡ is → test item ≡ true → not is ≡ true
-    other true same is = let equal : item ≡ target = eq item target same in
+    other true same is = let equal : item ≡ target = eqb-true item target same in
         absurd (true≢false (sym is ∙ ap test equal ∙ fails))
-      where
-        eq : (a b : ℕ) → (a == b) ≡ true → a ≡ b
-        eq a b is = grind (arith, nat_tests)
-
-        true≢false : true ≡ false → ⊥
-        true≢false same = cc
     other false same is = refl
 
     by_test : (is : Bool) → test item ≡ is → list_all (λ seat. not (seat == target)) (filter test more) ≡ true
@@ -217,9 +204,9 @@ pay_in_turn-other : (amount unit count : ℕ) (awards : List ℕ) (turn : ℕ) (
 pay_in_turn-other amount unit count awards turn [] index all = refl
 pay_in_turn-other amount unit count awards turn (seat ∷ more) index all =
     pay_in_turn-other amount unit count (award_to awards seat (share_of amount unit count turn)) (suc turn) more index
-    (and-right (not (seat == suc index)) (list_all (λ other. not (other == suc index)) more) all)
+    (and_parts (not (seat == suc index)) (list_all (λ other. not (other == suc index)) more) all).1
     ∙ award_to-other awards seat index (share_of amount unit count turn)
-    (and-left (not (seat == suc index)) (list_all (λ other. not (other == suc index)) more) all)
+    (and_parts (not (seat == suc index)) (list_all (λ other. not (other == suc index)) more) all).0
 
 split-other : (amount unit : ℕ) (awards : List ℕ) (seats button index : ℕ) (set : List Bool)
     → has_seat set (suc index) ≡ false

@@ -1,10 +1,11 @@
 -- Somebody has the best hand.
 use Rattle.std.proofs.Common.{◌≡◌, ◌∙◌, ℕ, suc, ◌<◌, List, [], ◌∷◌, Bool, true, false, Some, None, Ordering, length, get_or, refl, ap, arith}
-use Rattle.std.specs.Prelude.{◌||◌, Option, is_some}
+use Rattle.std.specs.Prelude.{Option, is_some}
 use Rattle.std.specs.List.{list_any}
 use Rattle.std.specs.Ordering.{nat_cmp, is_gt, ordering_reverse}
 use Rattle.std.specs.declared.cmp.Ordering.TheVariants.{Less, Equal, Greater}
 use Rattle.std.specs.Cmp.Lexicographic.{slice_cmp}
+use Rattle.std.proofs.lemmas.Bool.{or_parts}
 use Rattle.std.proofs.lemmas.Cmp.{upto, tied_itself, nat_list_cmp_total}
 use Rattle.showdown.specs.declared.hand.Hand.{Hand}
 use Rattle.showdown.specs.declared.hand.Side.TheVariants.{High}
@@ -30,17 +31,13 @@ not-beaten_above : (rival hand best : Hand) → beats High hand best ≡ true �
 not-beaten_above rival hand best is fails = upto nat_list_cmp_total rival.high best.high hand.high fails
     (not-beaten_back hand best is)
 
-or-false : (a b : Bool) → (a || b) ≡ false → (a ≡ false) × (b ≡ false)
-or-false true b is = absurd cc
-or-false false b is = (refl, is)
-
 -- What does not beat a hand does not beat one that beats it.
 is_beaten-above : (hands : List (Option Hand)) (hand best : Hand) → beats High hand best ≡ true
     → is_beaten High hands best ≡ false → is_beaten High hands hand ≡ false
 is_beaten-above [] hand best is fails = refl
 is_beaten-above (None ∷ more) hand best is fails = is_beaten-above more hand best is fails
 is_beaten-above (Some rival ∷ more) hand best is fails =
-    let parts = or-false (beats High rival best) (is_beaten High more best) fails in
+    let parts = or_parts (beats High rival best) (is_beaten High more best) fails in
     rw (not-beaten_above rival hand best is parts.0, is_beaten-above more hand best is parts.1)
 
 -- Nobody beats a hand where there is no other.

@@ -3,8 +3,7 @@ use Rattle.std.proofs.Common.{◌≡◌, ◌∙◌, ℕ, zero, suc, ◌+◌, ◌
 use Rattle.std.specs.Prelude.{◌==◌, ◌||◌, not, map, fold, Option, is_some}
 use Rattle.std.specs.List.{list_all}
 use Rattle.std.proofs.Math.Nat.{div-add-mod, mul-add-mod_self_left, zero-mod}
-use Rattle.std.proofs.lemmas.Bool.{and_from, and_parts}
-use Rattle.std.proofs.lemmas.Bool.Decides.{nat_tests}
+use Rattle.std.proofs.lemmas.Bool.{and_from, and_parts, eqb-true, not-true}
 use Rattle.button_blinds.specs.SeatSets.{has_seat, seat_count}
 use Rattle.pot_layers.specs.declared.pot_list.Pot.{Pot}
 use Rattle.pot_layers.specs.Layers.{are_same_seats}
@@ -38,13 +37,10 @@ are_whole unit numbers = list_all (λ number. number % unit == 0) numbers
 -- The sum of two multiples is one.
 whole-sum : (a b unit : ℕ) → (a % unit == 0) ≡ true → b % unit ≡ 0 → ((a + b) % unit == 0) ≡ true
 whole-sum a b unit first second =
-    let own : a % unit ≡ 0 = (let is = first in is-none (a % unit) is) in
+    let own : a % unit ≡ 0 = eqb-true (a % unit) 0 first in
     let whole : unit * (a / unit) ≡ a = (let parts = div-add-mod a unit in omega (arith, parts, own)) in
     eqb_true (a + b) unit (ap (λ (n : ℕ). (n + b) % unit) (sym whole) ∙ mul-add-mod_self_left unit (a / unit) b
     ∙ second)
-  where
-    is-none : (n : ℕ) → (n == 0) ≡ true → n ≡ 0
-    is-none n is = grind (arith, nat_tests)
 
 -- One number of a list is raised by a multiple.
 whole-set : (numbers : List ℕ) (index more unit : ℕ) → are_whole unit numbers ≡ true → more % unit ≡ 0
@@ -122,11 +118,7 @@ out-of_all : (one other : List Bool) (index : ℕ) → are_all_in one other ≡ 
     → get_or one index false ≡ false
 out-of_all [] other index all out = refl
 out-of_all (is_in ∷ more) [] zero all out = let parts =
-    and_parts (not is_in) (are_all_in more []) all in not-is is_in parts.0
-  where
-    not-is : (b : Bool) → not b ≡ true → b ≡ false
-    not-is true is = absurd cc
-    not-is false is = refl
+    and_parts (not is_in) (are_all_in more []) all in not-true is_in parts.0
 out-of_all (is_in ∷ more) [] (suc index) all out =
     let parts = and_parts (not is_in) (are_all_in more []) all in out-of_all more [] index parts.1 refl
 out-of_all (is_in ∷ more) (other ∷ others) zero all out =

@@ -2,10 +2,10 @@
 use Rattle.std.proofs.Common.{◌≡◌, ◌∙◌, ℕ, zero, suc, ◌+◌, ◌-◌, ◌%◌, ◌<◌, ◌≤◌, List, [], ◌∷◌, Bool, true, false, length, get_or, set, drop, add-one, drop-cons, refl, ap, sym, arith}
 use Rattle.std.specs.Prelude.{nat_le, sum}
 use Rattle.std.specs.List.{list_all}
+use Rattle.std.proofs.lemmas.Bool.{and_parts, leb-true}
 use Rattle.std.proofs.lemmas.Bool.Decides.{nat_tests}
 use Rattle.std.proofs.lemmas.List.Sums.{sum_by-set, get_or-le-sum_by}
 use Rattle.pot_layers.specs.Shares.{share_of, sum_below}
-use Rattle.pot_layers.proofs.ListTests.{and-left, and-right}
 use Rattle.pot_layers.proofs.ShareLaws.{sum_below-share_of}
 use Rattle.showdown.specs.Awards.{is_seat, award_to, pay_in_turn}
 
@@ -32,24 +32,20 @@ paid-next amount unit count awards order index within low =
     (sym (award_to-index awards (get_or order index 0) (share_of amount unit count index) low))
     ∙ sym (ap (pay_in_turn amount unit count awards index) (drop-cons order index 0 within))
 
-le : (a b : ℕ) → nat_le a b ≡ true → a ≤ b
-le a b is = grind (arith, nat_tests)
-
 -- A seat of tables is from 1 to 10.
 pub first-seat : (seat : ℕ) → is_seat seat ≡ true → (1 ≤ seat) × (seat ≤ 10)
 first-seat seat is = (
-  le 1 seat (and-left (nat_le 1 seat) (nat_le seat 10) is),
-  le seat 10
-      (and-right (nat_le 1 seat) (nat_le seat 10) is),
+  leb-true 1 seat (and_parts (nat_le 1 seat) (nat_le seat 10) is).0,
+  leb-true seat 10 (and_parts (nat_le 1 seat) (nat_le seat 10) is).1,
 )
 
 -- A seat of an order of seats.
 pub seat-at : (order : List ℕ) (index : ℕ) → list_all is_seat order ≡ true → index < length order
     → (1 ≤ get_or order index 0) × (get_or order index 0 ≤ 10)
 seat-at [] index all within = absurd (omega arith)
-seat-at (seat ∷ more) zero all within = first-seat seat (and-left (is_seat seat) (list_all is_seat more) all)
-seat-at (seat ∷ more) (suc index) all within = seat-at more index (and-right (is_seat seat) (list_all is_seat more) all)
-    (omega arith)
+seat-at (seat ∷ more) zero all within = first-seat seat (and_parts (is_seat seat) (list_all is_seat more) all).0
+seat-at (seat ∷ more) (suc index) all within =
+    seat-at more index (and_parts (is_seat seat) (list_all is_seat more) all).1 (omega arith)
 
 -- The awards grow by what is paid.
 pub sum-award : (awards : List ℕ) (index amount : ℕ) → index < length awards
@@ -61,15 +57,12 @@ sum_below-grows : (f : ℕ → ℕ) (few many : ℕ) → few ≤ many → sum_be
 sum_below-grows f few zero under = let none : few ≡ 0 = omega arith in rw none (omega arith)
 sum_below-grows f few (suc many) under = by_least (nat_le few many) refl (sum_below-grows f few many)
   where
-    le : (a b : ℕ) → nat_le a b ≡ true → a ≤ b
-    le a b is = grind (arith, nat_tests)
-
     equal : (a b : ℕ) → a ≤ suc b → nat_le a b ≡ false → a ≡ suc b
     equal a b under is = grind (arith, nat_tests)
 
     by_least : (is_less : Bool) → nat_le few many ≡ is_less → (few ≤ many → sum_below f few ≤ sum_below f many)
         → sum_below f few ≤ sum_below f (suc many)
-    by_least true is less = omega (arith, less (le few many is))
+    by_least true is less = omega (arith, less (leb-true few many is))
     by_least false is less = rw (equal few many under is) (omega arith)
 
 -- What the first winners are paid with the next one's share is within the amount.

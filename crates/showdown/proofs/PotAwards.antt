@@ -2,6 +2,7 @@
 use Rattle.std.proofs.Common.{◌≡◌, ◌∙◌, ℕ, zero, suc, ◌/◌, ◌%◌, ◌≤◌, List, [], ◌∷◌, Bool, true, false, cond, Some, None, length, get_or, refl, ap, sym, arith}
 use Rattle.std.specs.Prelude.{◌==◌, ◌||◌, not, map, Option, is_some, slice_get}
 use Rattle.std.specs.List.{list_all, list_any}
+use Rattle.std.proofs.lemmas.Bool.{and_parts}
 use Rattle.std.proofs.lemmas.Bool.Decides.{nat_tests}
 use Rattle.std.proofs.lemmas.List.{get_or-map}
 use Rattle.std.proofs.Math.Nat.{mul-mod_right}
@@ -12,7 +13,6 @@ use Rattle.pot_layers.specs.declared.pot_list.Pot.{Pot}
 use Rattle.pot_layers.specs.Layers.{are_same_seats, is_nobody}
 use Rattle.pot_layers.specs.PotTests.{are_all_in}
 use Rattle.pot_layers.specs.Shares.{units_to, share_of, high_half, low_half}
-use Rattle.pot_layers.proofs.ListTests.{and-left, and-right}
 use Rattle.showdown.specs.declared.hand.Hand.{Hand}
 use Rattle.showdown.specs.declared.hand.Side.{Side}
 use Rattle.showdown.specs.declared.hand.Side.TheVariants.{High, Low}
@@ -124,13 +124,6 @@ pub list_all-get : {A : Type 0} (test : A → Bool) (items : List A) (index : �
     → slice_get items index ≡ Some item → test item ≡ true
 list_all-get test [] index item all is = absurd cc
 list_all-get test (first ∷ more) zero item all is = let same : first ≡ item = cc in
-    rw (← same) (and-left (test first) (list_all test more) all)
+    rw (← same) (and_parts (test first) (list_all test more) all).0
 list_all-get test (first ∷ more) (suc index) item all is =
-    list_all-get test more index item (and-right (test first) (list_all test more) all) is
-
--- The item at an index, whatever is taken past the end.
-pub get_or-get : {A : Type 0} (items : List A) (index : ℕ) (item other : A) → slice_get items index ≡ Some item
-    → get_or items index other ≡ item
-get_or-get [] index item other is = absurd cc
-get_or-get (first ∷ more) zero item other is = cc
-get_or-get (first ∷ more) (suc index) item other is = get_or-get more index item other is
+    list_all-get test more index item (and_parts (test first) (list_all test more) all).1 is

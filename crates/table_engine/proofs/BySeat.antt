@@ -3,6 +3,7 @@ use Rattle.std.proofs.Common.{◌≡◌, ◌∙◌, ℕ, zero, suc, ◌+◌, ◌
 use Rattle.std.specs.Prelude.{Option, ◌==◌, ◌&&◌, find, nat_le, nat_lt, slice_index_or, sum_by}
 use Rattle.std.specs.List.{list_all}
 use Rattle.std.specs.Option.{is_some, option_map_or}
+use Rattle.std.proofs.Math.Nat.{zero-add}
 use Rattle.std.proofs.lemmas.Bool.{and_parts, cases_Bool, cases_lt, eqb-true}
 use Rattle.std.proofs.lemmas.Bool.Decides.{nat_tests}
 use Rattle.std.proofs.lemmas.List.Sums.{sum_by-cons}
@@ -267,10 +268,8 @@ pub sum-of_street : (start : HandStart) (number : Player → ℕ) (slots : List 
     → sum_by (number_of number slots) start.seats ≡ sum_over number slots
 sum-of_street start number slots lawful there =
     sym (sum-of_start start (number_of number slots) lawful)
-    ∙ sum-along start number slots 10 0 slots (λ index. ap (λ (n : ℕ). slice_index_or slots n None) (none index)) there
-  where
-    none : (index : ℕ) → 0 + index ≡ index
-    none index = omega arith
+    ∙ sum-along start number slots 10 0 slots (λ index. ap (λ (n : ℕ). slice_index_or slots n None) (zero-add index))
+    there
 
 -- The seat of who is listed at an index is one of ten, where all are.
 pub seat-within : (players : List StartSeat) (index : ℕ) (other : StartSeat)

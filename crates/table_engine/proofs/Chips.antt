@@ -5,6 +5,7 @@ use Rattle.std.specs.List.{list_all}
 use Rattle.std.specs.Option.{is_some, option_map_or}
 use Rattle.std.proofs.lemmas.Bool.{and_from, and_parts, eqb-true, le-leb}
 use Rattle.std.proofs.lemmas.List.Sums.{sum-map, sum_by-cons}
+use Rattle.rulebook.proofs.Tests.{list_all-always}
 use Rattle.betting_round.specs.declared.bettor.Player.{Player}
 use Rattle.betting_round.specs.StreetActs.{street_after, sum_over}
 use Rattle.betting_round.specs.WhoIsDue.{is_live, is_there, player_in}
@@ -116,11 +117,7 @@ chips-within hand lawful play =
     let his = stands hand player lawful sound found in
     let stack = his.1.stack in
     le-leb (put_in_hand hand player) player.stack (omega arith))
-    (everybody hand.start.seats)
-  where
-    everybody : (players : List StartSeat) → list_all (λ (player : StartSeat). true) players ≡ true
-    everybody [] = refl
-    everybody (player ∷ players) = everybody players
+    (list_all-always (λ (player : StartSeat). true) hand.start.seats (λ player. refl))
 
 -- What was put in on a street, by the players of the start.
 put-on_street : (start : HandStart) (played : StreetPlayed) → IsLawfulStart start

@@ -3,7 +3,7 @@ use Rattle.std.proofs.Common.{◌≡◌, ◌∙◌, ℕ, zero, suc, ◌+◌, ◌
 use Rattle.std.specs.Prelude.{Option, ◌==◌, ◌&&◌, ◌||◌, ◌⊎◌, count_by, find, is_none, nat_le, nat_lt, not, option_map, slice_index_or, slice_set, sum_by}
 use Rattle.std.specs.List.{list_all, list_any}
 use Rattle.std.specs.Option.{is_some}
-use Rattle.std.proofs.lemmas.Bool.{and_from, and_parts, cases_Bool, cases_lt, not-true}
+use Rattle.std.proofs.lemmas.Bool.{and_from, and_parts, cases_Bool, cases_lt, not-true, or_parts, or_right}
 use Rattle.std.proofs.lemmas.Bool.Decides.{nat_tests}
 use Rattle.std.proofs.lemmas.List.Sums.{sum_by-cons}
 use Rattle.rulebook.specs.Seats.{clockwise_after}
@@ -32,6 +32,7 @@ use Rattle.table_engine.specs.Starts.{IsLawfulStart}
 use Rattle.table_engine.specs.Tellings.{told}
 use Rattle.table_engine.proofs.Along.{kept-play}
 use Rattle.table_engine.proofs.BySeat.{sum-of_start}
+use Rattle.table_engine.proofs.Plays.{nothing}
 use Rattle.table_engine.proofs.Puts.{listed-found, puts-hand, puts-moved, puts-next, puts_of}
 use Rattle.table_engine.proofs.Sound.{IsSound, greatest-least, placed-is, put_from-there, sound-play}
 use Rattle.table_engine.proofs.WholeUnits.{blinds-lawful, found-playable}
@@ -115,17 +116,9 @@ none-there : (test : Player → Bool) (slots : List (Option Player)) (index : �
 none-there test [] index now none there = absurd cc
 none-there test (None ∷ slots) zero now none there = absurd cc
 none-there test (Some first ∷ slots) zero now none there =
-    let same : first ≡ now = cc in rw (← same) (neither (test first) (list_any (is_there test) slots) none).0
-  where
-    neither : (one other : Bool) → (one || other) ≡ false → (one ≡ false) × (other ≡ false)
-    neither true other none = absurd cc
-    neither false other none = (refl, none)
+    let same : first ≡ now = cc in rw (← same) (or_parts (test first) (list_any (is_there test) slots) none).0
 none-there test (slot ∷ slots) (suc index) now none there =
-    none-there test slots index now (neither (is_there test slot) (list_any (is_there test) slots) none) there
-  where
-    neither : (one other : Bool) → (one || other) ≡ false → other ≡ false
-    neither true other none = absurd cc
-    neither false other none = none
+    none-there test slots index now (or_parts (is_there test slot) (list_any (is_there test) slots) none).1 there
 
 -- Where no live player is all-in those who can act are those who are live.
 count-can_act : (slots : List (Option Player)) → list_any (is_there is_all_in) slots ≡ false
@@ -138,16 +131,12 @@ count-can_act (None ∷ slots) none =
 count-can_act (Some now ∷ slots) none =
     let one = sum_by-cons (λ (slot : Option Player). cond (is_there can_act slot) 1 0) (Some now) slots in
     let other = sum_by-cons (λ (slot : Option Player). cond (is_there is_live slot) 1 0) (Some now) slots in
-    let parts = neither (is_all_in now) (list_any (is_there is_all_in) slots) none in
+    let parts = or_parts (is_all_in now) (list_any (is_there is_all_in) slots) none in
     let later = count-can_act slots parts.1 in
     let same : can_act now ≡ now.bettor.live = alike now.bettor.live now.bettor.behind parts.0 in
     let here : one_if (can_act now) ≡ one_if (is_live now) = ap one_if same in
     omega arith
   where
-    neither : (one other : Bool) → (one || other) ≡ false → (one ≡ false) × (other ≡ false)
-    neither true other none = absurd cc
-    neither false other none = (refl, none)
-
     alike : (live : Bool) (behind : ℕ) → (live && (behind == 0)) ≡ false → (live && nat_lt 0 behind) ≡ live
     alike true behind none = grind (arith, nat_tests)
     alike false behind none = refl
@@ -194,12 +183,8 @@ nobody-may street index ended none within =
     let search : is_none (find (λ seat. is_there (may_be_due street.level) (player_at street.players seat)) seats) ≡
     true = rw open_ at parts.0 in
     find-nothing (λ seat. is_there (may_be_due street.level) (player_at street.players seat)) seats (suc index)
-    (no-one (find (λ seat. is_there (may_be_due street.level) (player_at street.players seat)) seats) search)
+    (nothing (find (λ seat. is_there (may_be_due street.level) (player_at street.players seat)) seats) search)
     (comes-ten street.after index within)
-  where
-    no-one : (found : Option ℕ) → is_none found ≡ true → found ≡ None
-    no-one None none = refl
-    no-one (Some seat) none = absurd cc
 
 -- All puts pass a test where each player's does.
 all-puts : (players : List (Option StartSeat)) (slots : List (Option Player))
@@ -303,11 +288,7 @@ any-set test [] index now after there fails some = absurd cc
 any-set test (slot ∷ slots) zero now after there fails some =
     let here : is_there test slot ≡ false = ap (is_there test) there ∙ fails in
     let later : list_any (is_there test) slots ≡ true = rw here at some in
-    either (test after) (list_any (is_there test) slots) later
-  where
-    either : (one other : Bool) → other ≡ true → (one || other) ≡ true
-    either true other is = refl
-    either false other is = is
+    or_right (test after) (list_any (is_there test) slots) later
 any-set test (slot ∷ slots) (suc index) now after there fails some =
     by_first (is_there test slot) refl (λ rest. any-set test slots index now after there fails rest)
   where
@@ -418,10 +399,6 @@ all_in-contested (Some player ∷ players) (Some now ∷ slots) there each some 
     let rest : map is_some slots ≡ map is_some players = cc in
     by_first (is_all_in now) refl (λ any. all_in-contested players slots rest (λ index. each (suc index)) any)
   where
-    either : (one other : Bool) → other ≡ true → (one || other) ≡ true
-    either true other is = refl
-    either false other is = is
-
     by_first : (first : Bool) → is_all_in now ≡ first
         → (list_any (is_there is_all_in) slots ≡ true → list_any (is_eligible 1) (puts_of players slots) ≡ true)
         → (now.bettor.live && nat_le 1 (player.stack - now.bettor.behind) || list_any (is_eligible 1)
@@ -432,7 +409,7 @@ all_in-contested (Some player ∷ players) (Some now ∷ slots) there each some 
         let put : nat_le 1 (player.stack - now.bettor.behind) ≡ true = grind (arith, nat_tests) in
         rw (parts.0, put) refl
     by_first false is later =
-        either (now.bettor.live && nat_le 1 (player.stack - now.bettor.behind))
+        or_right (now.bettor.live && nat_le 1 (player.stack - now.bettor.behind))
         (list_any (is_eligible 1) (puts_of players slots))
         (later (rw is at some))
 

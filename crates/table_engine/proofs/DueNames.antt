@@ -4,7 +4,8 @@ use Rattle.std.specs.Prelude.{Option, ◌==◌, not, nat_lt, find, is_none, opti
 use Rattle.std.specs.Option.{is_some}
 use Rattle.std.specs.List.{list_all}
 use Rattle.std.specs.Str.{bytes_eq}
-use Rattle.std.proofs.lemmas.Bool.{and_from, and_parts, cases_Bool, not-true}
+use Rattle.std.proofs.lemmas.Bool.{and_parts, cases_Bool, not-true}
+use Rattle.std.proofs.lemmas.List.Folds.{list_all-map}
 use Rattle.std.proofs.lemmas.Slice.Eq.{bytes_eq-Decides}
 use Rattle.rulebook.specs.Pairs.{are_distinct}
 use Rattle.rulebook.proofs.Tests.{find-all}
@@ -55,14 +56,6 @@ due-named hand seat same due none =
     let there = named (player_of hand.start seat) (due-dealt hand.start (street_of hand) seat same due) in
     let nobody : is_none (name_in_seat hand.start seat) ≡ true = ap is_none none in absurd cc
 
--- What all made of a list pass, all pass once made.
-all-made : {A B : Type 0} (test : B → Bool) (made : A → B) (items : List A) → list_all test (map made items) ≡ true
-    → list_all (λ item. test (made item)) items ≡ true
-all-made test made [] all = refl
-all-made test made (item ∷ items) all =
-    let both = and_parts (test (made item)) (list_all test (map made items)) all in
-    and_from (test (made item)) (list_all (λ other. test (made other)) items) both.0 (all-made test made items both.1)
-
 -- Where names are distinct, who is found at a seat is found by his name.
 found-by_name : (players : List StartSeat) (seat : ℕ) (player : StartSeat)
     → are_distinct bytes_eq (map (λ (other : StartSeat). other.name) players) ≡ true
@@ -84,7 +77,8 @@ found-by_name (other ∷ players) seat player distinct found =
           let later : find (λ o. o.seat == seat) players ≡ Some player = rw elsewhere at found in
           let apart = find-all (λ (o : StartSeat). o.seat == seat)
           (λ (o : StartSeat). not (bytes_eq other.name o.name)) players player later
-          (all-made (λ name. not (bytes_eq other.name name)) (λ (o : StartSeat). o.name) players both.0) in
+          (sym (list_all-map (λ (name : List ℕ). not (bytes_eq other.name name)) (λ (o : StartSeat). o.name) players)
+          ∙ both.0) in
           let differs : bytes_eq other.name player.name ≡ false = not-true (bytes_eq other.name player.name) apart in
           rw differs (found-by_name players seat player both.1 later)
     ]

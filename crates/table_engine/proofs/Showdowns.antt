@@ -87,10 +87,7 @@ whole-players : (hand : HandTerms) (unit : ℕ) (players : List (Option StartSea
     → list_all (λ put. put.amount % unit == 0) (map (put_at hand) players) ≡ true
 whole-players hand unit [] each = refl
 whole-players hand unit (None ∷ players) each =
-    and_from _ _ (eqb_true 0 unit (zero-whole unit)) (whole-players hand unit players (λ index. each (suc index)))
-  where
-    zero-whole : (unit : ℕ) → 0 % unit ≡ 0
-    zero-whole unit = zero-mod unit
+    and_from _ _ (eqb_true 0 unit (zero-mod unit)) (whole-players hand unit players (λ index. each (suc index)))
 whole-players hand unit (Some player ∷ players) each =
     and_from _ _ (eqb_true (put_in_hand hand player) unit (each 0 player refl))
     (whole-players hand unit players (λ index. each (suc index)))
@@ -132,11 +129,7 @@ is-showdown hand lawful play over many =
     by_seat zero sits = omega arith
     by_seat (suc index) sits =
         let lives = map (live_on hand.start (street_of hand)) (players_by_seat hand.start) in
-        by_slot index (slice_index_or lives index None) refl (sym (some-at-live lives index) ∙ sits)
-      where
-        some-at-live : (slots : List (Option Live)) (index : ℕ)
-            → slice_index_or (map is_some slots) index false ≡ is_some (slice_index_or slots index None)
-        some-at-live slots index = some-at slots index
+        by_slot index (slice_index_or lives index None) refl (sym (some-at lives index) ∙ sits)
 
 -- No live player has a card of another of his own or of the board.
 pub live-apart : (hand : HandTerms) → IsDeck hand.start.deck → IsLawfulStart hand.start

@@ -2,7 +2,7 @@
 use Rattle.std.proofs.Common.{◌≡◌, ◌≢◌, ◌∙◌, ℕ, zero, suc, ◌+◌, ◌-◌, ◌*◌, ◌%◌, ◌≤◌, ◌<◌, Bool, true, false, cond, List, [], ◌∷◌, ◌++◌, length, map, Some, None, refl, ap, sym, subst, inl, inr, append_assoc, append-nil, length-append, arith}
 use Rattle.std.specs.Prelude.{Option, ◌==◌, ◌&&◌, ◌||◌, ◌⊎◌, is_none, nat_lt, not, option_map, slice_index_or, slice_set, sum_by}
 use Rattle.std.specs.Option.{is_some, option_map_or}
-use Rattle.std.proofs.Math.Nat.{zero-mod}
+use Rattle.std.proofs.Math.Nat.{suc-mul, zero-mod}
 use Rattle.std.proofs.lemmas.Bool.{and_parts, cases_Bool, cases_lt}
 use Rattle.std.proofs.lemmas.Bool.Decides.{nat_tests}
 use Rattle.std.proofs.lemmas.List.{length-map}
@@ -290,16 +290,10 @@ sum-no_more : {A : Type 0} (one other : A → ℕ) (more : ℕ) (slots : List (O
     → sum_over one slots ≤ sum_over other slots + length slots * more
 sum-no_more one other more [] less = omega arith
 sum-no_more one other more (None ∷ slots) less =
-    let later = sum-no_more one other more slots less in let all = one-more_times (length slots) more in omega arith
-  where
-    one-more_times : (count more : ℕ) → suc count * more ≡ count * more + more
-    one-more_times count more = grind arith
+    let later = sum-no_more one other more slots less in let all = suc-mul (length slots) more in omega arith
 sum-no_more one other more (Some item ∷ slots) less =
     let here = less item in
-    let later = sum-no_more one other more slots less in let all = one-more_times (length slots) more in omega arith
-  where
-    one-more_times : (count more : ℕ) → suc count * more ≡ count * more + more
-    one-more_times count more = grind arith
+    let later = sum-no_more one other more slots less in let all = suc-mul (length slots) more in omega arith
 
 -- As many slots as there are seats.
 ten-slots : (start : HandStart) (slots : List (Option Player)) → map is_some slots ≡ map is_some (players_by_seat start)

@@ -1,14 +1,12 @@
 -- After a hand that is won by folds each player has a stack above 0 that is a multiple of the unit.
-use Rattle.std.proofs.Common.{◌≡◌, ◌∙◌, refl, ap, sym, ℕ, ◌+◌, ◌-◌, ◌%◌, ◌≤◌, ◌<◌, Bool, true, false, cond, List, [], ◌∷◌, Some, arith}
-use Rattle.std.specs.Prelude.{Option, ◌==◌, ◌&&◌, ◌||◌, nat_le, nat_lt, sum_by}
-use Rattle.std.specs.List.{list_all}
+use Rattle.std.proofs.Common.{◌≡◌, ◌∙◌, ap, sym, ℕ, ◌+◌, ◌-◌, ◌%◌, ◌≤◌, ◌<◌, Bool, true, false, cond, Some, arith}
+use Rattle.std.specs.Prelude.{Option, ◌==◌, ◌&&◌, ◌||◌, nat_le, nat_lt}
 use Rattle.std.specs.Option.{option_map_or}
 use Rattle.std.proofs.Math.Nat.{zero-mod}
-use Rattle.std.proofs.lemmas.Bool.{and_from, and_parts, le-leb, leb-true}
+use Rattle.std.proofs.lemmas.Bool.{and_from, and_parts, eq-eqb, leb-true}
 use Rattle.std.proofs.lemmas.Bool.Decides.{nat_tests}
 use Rattle.std.proofs.lemmas.List.Folds.{list_all-map}
-use Rattle.std.proofs.lemmas.List.Sums.{sum_by-cons}
-use Rattle.rulebook.proofs.Tests.{list_all-both, list_all-follows}
+use Rattle.rulebook.proofs.Tests.{list_all-both}
 use Rattle.betting_round.specs.declared.bettor.Player.{Player}
 use Rattle.table_engine.specs.declared.start.StartSeat.{StartSeat}
 use Rattle.table_engine.specs.Starts.{IsLawfulStart, have_playable_stacks, is_playable_stack}
@@ -18,26 +16,13 @@ use Rattle.table_engine.specs.Results.{is_won_by_folds, players_after, pot, stac
 use Rattle.table_engine.proofs.BySeat.{found-all, found-within, player_in-there}
 use Rattle.table_engine.proofs.Chips.{all-found, stands}
 use Rattle.table_engine.proofs.Sound.{sound-play}
+use Rattle.table_engine.proofs.Starts.{each-in_sum}
 use Rattle.table_engine.proofs.Units.{multiple-add, multiple-sub, multiple-sum}
 use Rattle.table_engine.proofs.WholeUnits.{playable-parts}
 
 -- A stack above 0 that is a multiple of the unit can be played with.
 playable-from : (unit stack : ℕ) → 0 < stack → stack % unit ≡ 0 → is_playable_stack unit stack ≡ true
 playable-from unit stack above whole = grind (arith, nat_tests)
-
--- Each number is at most the sum.
-each-in_sum : (number : StartSeat → ℕ) (players : List StartSeat)
-    → list_all (λ player. nat_le (number player) (sum_by number players)) players ≡ true
-each-in_sum number [] = refl
-each-in_sum number (player ∷ players) =
-    let all = sum_by-cons number player players in
-    let here : nat_le (number player) (sum_by number (player ∷ players)) ≡ true =
-    le-leb (number player) _ (omega arith) in
-    let later = list_all-follows (λ (other : StartSeat). nat_le (number other) (sum_by number players))
-    (λ (other : StartSeat). nat_le (number other) (sum_by number (player ∷ players))) players
-    (λ other within. let less = leb-true (number other) (sum_by number players) within in
-    le-leb (number other) _ (omega arith)) (each-in_sum number players) in
-    and_from _ _ here later
 
 -- What a player who is found at his seat put in is a multiple of the unit.
 pub put-whole : (hand : HandTerms) (player : StartSeat) → IsLawfulStart hand.start → IsLawfulPlay hand
@@ -60,12 +45,9 @@ pot-whole hand lawful play =
     (all-found hand.start.seats (λ (player : StartSeat). is_playable_stack hand.start.unit player.stack)
     (λ player. put_in_hand hand player % hand.start.unit == 0) hand.start.seats
     (found-all hand.start lawful)
-    (λ player found playable. tested (put_in_hand hand player % hand.start.unit)
+    (λ player found playable. eq-eqb (put_in_hand hand player % hand.start.unit) 0
     (put-whole hand player lawful play found (playable-parts hand.start.unit player.stack playable).1))
     lawful.stacks)
-  where
-    tested : (n : ℕ) → n ≡ 0 → (n == 0) ≡ true
-    tested n none = grind (arith, nat_tests)
 
 -- A player who is live or has chips behind has chips after the hand: all that he put in is in the pot.
 above-after : (behind put pot stack : ℕ) (live : Bool) → (live || nat_lt 0 behind) ≡ true → behind + put ≡ stack

@@ -2,6 +2,7 @@
 use Rattle.std.proofs.Common.{◌≡◌, ℕ, zero, suc, ◌+◌, ◌*◌, ◌≤◌, ◌^◌, true, List, [], ◌∷◌, map, Some, None, refl, arith}
 use Rattle.std.specs.Prelude.{Option, ◌==◌, nat_le, option_map, sum_by}
 use Rattle.std.specs.List.{list_all}
+use Rattle.std.proofs.Math.Nat.{suc-mul}
 use Rattle.std.proofs.lemmas.Bool.{and_from, leb-true, le-leb, eqb-true}
 use Rattle.std.proofs.lemmas.Bool.Decides.{nat_tests}
 use Rattle.std.proofs.lemmas.List.Sums.{sum_by-cons}
@@ -37,9 +38,6 @@ seated-by_seat start (suc steps) from = by_slot (player_of start (from + 1)) ref
     by_slot None is later = later
     by_slot (Some player) is later = (player_of-seat start (from + 1) player is, later)
 
-one_more : (steps most : ℕ) → suc steps * most ≡ steps * most + most
-one_more steps most = grind arith
-
 -- The numbers of those at some seats sum to no more than the most for each seat.
 sum-by_seat : (start : HandStart) (number : StartSeat → ℕ) (most steps from : ℕ)
     → ((seat : ℕ) (player : StartSeat) → player_of start seat ≡ Some player → number player ≤ most)
@@ -51,23 +49,22 @@ sum-by_seat start number most (suc steps) from each =
     by_slot : (slot : Option StartSeat) → player_of start (from + 1) ≡ slot
         → sum_over number (map (player_of start) (walk (λ seat. seat + 1) steps (from + 1))) ≤ steps * most
         → sum_over number (slot ∷ map (player_of start) (walk (λ seat. seat + 1) steps (from + 1))) ≤ suc steps * most
-    by_slot None is later = let more = one_more steps most in omega arith
+    by_slot None is later = let more = suc-mul steps most in omega arith
     by_slot (Some player) is later =
-        let here = each (from + 1) player is in let more = one_more steps most in omega arith
+        let here = each (from + 1) player is in let more = suc-mul steps most in omega arith
 
 -- Each number is at most the sum.
-each-in_sum : (players : List StartSeat) → list_all
-    (λ player. nat_le player.stack (sum_by (λ (other : StartSeat). other.stack) players)) players ≡ true
-each-in_sum [] = refl
-each-in_sum (player ∷ players) =
-    let all = sum_by-cons (λ (other : StartSeat). other.stack) player players in
-    let here : nat_le player.stack (sum_by (λ (other : StartSeat). other.stack) (player ∷ players)) ≡ true =
-    le-leb player.stack _ (omega arith) in
-    let later = list_all-follows (λ (other : StartSeat). nat_le other.stack
-    (sum_by (λ (o : StartSeat). o.stack) players))
-    (λ (other : StartSeat). nat_le other.stack (sum_by (λ (o : StartSeat). o.stack) (player ∷ players))) players
-    (λ other within. let less = leb-true other.stack (sum_by (λ (o : StartSeat). o.stack) players) within in
-    le-leb other.stack _ (omega arith)) (each-in_sum players) in
+pub each-in_sum : (number : StartSeat → ℕ) (players : List StartSeat)
+    → list_all (λ player. nat_le (number player) (sum_by number players)) players ≡ true
+each-in_sum number [] = refl
+each-in_sum number (player ∷ players) =
+    let all = sum_by-cons number player players in
+    let here : nat_le (number player) (sum_by number (player ∷ players)) ≡ true =
+    le-leb (number player) _ (omega arith) in
+    let later = list_all-follows (λ (other : StartSeat). nat_le (number other) (sum_by number players))
+    (λ (other : StartSeat). nat_le (number other) (sum_by number (player ∷ players))) players
+    (λ other within. let less = leb-true (number other) (sum_by number players) within in
+    le-leb (number other) _ (omega arith)) (each-in_sum number players) in
     and_from _ _ here later
 
 -- A blind is no greater than the greatest amount.
@@ -90,7 +87,8 @@ few-stacks start lawful =
     let most = sum-by_seat start (λ player. chips_of (seated start player)) (2 ^ 53) 10 0 (λ seat player found.
     let stack = leb-true player.stack _ (find-all (λ (other : StartSeat). other.seat == seat)
     (λ (other : StartSeat). nat_le other.stack (sum_by
-    (λ (o : StartSeat). o.stack) start.seats)) start.seats player found (each-in_sum start.seats)) in
+    (λ (o : StartSeat). o.stack) start.seats)) start.seats player found
+    (each-in_sum (λ (o : StartSeat). o.stack) start.seats)) in
     omega arith) in
     omega arith
 

@@ -1,7 +1,7 @@
 -- The players at a showdown, and that all their cards and the board are different.
 use mathlib.Core.HLevel.{is_prop→PathP}
 use native.Mathlib.Nat.{ℕ_set}
-use Rattle.std.proofs.Common.{◌≡◌, ◌∙◌, ℕ, zero, suc, ◌<◌, ◌≤◌, List, [], ◌∷◌, ◌++◌, length, map, Bool, true, false, cond, Some, None, refl, ap, sym, subst, inl, inr, arith}
+use Rattle.std.proofs.Common.{◌≡◌, ◌∙◌, ℕ, zero, suc, ◌<◌, ◌≤◌, List, [], ◌∷◌, ◌++◌, length, map, Bool, true, cond, Some, None, refl, ap, sym, subst, inl, inr, arith}
 use Rattle.std.specs.Prelude.{Option, ◌==◌, nat_lt, slice_index_or}
 use Rattle.std.specs.List.{list_all}
 use Rattle.std.specs.Option.{is_some}
@@ -25,7 +25,7 @@ use Rattle.table_engine.specs.Starts.{IsLawfulStart}
 use Rattle.table_engine.proofs.BySeat.{some-at}
 use Rattle.table_engine.proofs.Puts.{listed-found}
 use Rattle.level_plan.specs.Items.{is_between}
-use Rattle.rulebook.proofs.Tests.{find-all}
+use Rattle.rulebook.proofs.Tests.{at_most_one, find-all}
 use Rattle.button_blinds.specs.SeatSets.{AreSeatsOf, has_seat, seat_count}
 use Rattle.deal_order.specs.DealOrder.{board_card_place, places_of_board, places_of_player}
 use Rattle.deal_order.proofs.Apart.{player-rising}
@@ -189,11 +189,7 @@ dealt-few start = count-few (map is_some (players_by_seat start))
     count-few (test ∷ tests) =
         let all = sum_by-cons (λ (b : Bool). cond b 1 0) test tests in
         let later = count-few tests in
-        omega (arith, all, at-most test)
-      where
-        at-most : (b : Bool) → cond {A = ℕ} b 1 0 ≤ 1
-        at-most true = omega arith
-        at-most false = omega arith
+        omega (arith, all, at_most_one test)
 
 -- Whoever is dealt in has no card twice, and none of the board.
 pub player-apart : (start : HandStart) (index : ℕ) (player : StartSeat) → IsDeck start.deck → IsLawfulStart start

@@ -1,9 +1,10 @@
 -- A book and its hands, each by itself, answer as the tournament that they are.
-use Rattle.std.proofs.Common.{◌≡◌, ◌∙◌, refl, sym, ap, subst, ℕ, suc, ◌+◌, true, false, List, [], ◌∷◌, ◌++◌, map, length, set, arith}
+use Rattle.std.proofs.Common.{◌≡◌, ◌∙◌, refl, sym, ap, subst, ℕ, ◌+◌, true, false, List, [], ◌∷◌, ◌++◌, map, length, set, arith}
 use Rattle.std.specs.Prelude.{replicate, Option, Some, None, is_some, is_none, option_map, option_and_then, if◌then◌else◌}
 use Rattle.std.specs.Option.{option_map_or, option_or}
 use Rattle.std.proofs.Math.Seq.{map-set_same}
 use Rattle.std.proofs.lemmas.List.{map-set, length-map}
+use Rattle.rulebook.proofs.Tests.{some_there}
 use Rattle.floor_text.specs.declared.refusal.Refusal.{Refusal}
 use Rattle.card_set.specs.declared.card.CardRow.{CardRow}
 use Rattle.betting_round.specs.declared.act.Act.{Act}
@@ -14,7 +15,7 @@ use Rattle.table_engine.specs.Hands.{HandTerms}
 use Rattle.table_engine.specs.Acts.{hand_after, hand_after_time}
 use Rattle.floor_events.specs.declared.event.Event.{Event}
 use Rattle.floor_events.specs.declared.event.Event.TheVariants as events
-use Rattle.tournament_rules.specs.Books.{BookState, start_at}
+use Rattle.tournament_rules.specs.Books.{BookState}
 use Rattle.tournament_rules.specs.Checks.{book_refusal, is_playing}
 use Rattle.tournament_rules.specs.Dealing.{next_start}
 use Rattle.tournament_rules.specs.Effects.{first_book, book_effect, settled, void_first, stopped_book}
@@ -24,11 +25,11 @@ use Rattle.tournament_rules.specs.States.{State, first_state, answer_to, answers
 use Rattle.tournament_rules.specs.Valid.{IsValidPlay}
 use Rattle.tournament_rules.specs.Apart.{Apart, first_apart, hand_in, hand_for, hand_refusal, refusal_apart, hands_effect, after_apart, answers_apart, start_of, acts_of, seen_of}
 use Rattle.tournament_rules.proofs.Ends.{left-void_first, valid_stopped, none_out-stopped}
-use Rattle.tournament_rules.proofs.Passed.{refusal-parts, passed-parts, act_passed, time_passed, settle_passed, plan_late, go_late, some_there}
+use Rattle.tournament_rules.proofs.Passed.{refusal-parts, passed-parts, act_passed, time_passed, settle_passed, plan_late, go_late}
 use Rattle.tournament_rules.proofs.Drafts.{right_plan}
 use Rattle.tournament_rules.proofs.Steps.{go_right, valid_events}
 use Rattle.tournament_rules.proofs.Plays.{play_keeps, valid_first_play}
-use Rattle.tournament_rules.proofs.Layers.{start_read, acts_read, hand_for-read, map_empty, hands_length}
+use Rattle.tournament_rules.proofs.Layers.{start_read, acts_read, hand_for-read, map_empty, hands_length, all_empty}
 
 -- The starts of the hands are those that are out, and the tournament that they are is valid.
 pub record AreTied (apart : Apart) : Type 0 where
@@ -55,12 +56,6 @@ hand_there apart table ties playing =
     same_there : (hand : Option HandTerms) → is_some (start_of hand) ≡ is_some hand
     same_there None = refl
     same_there (Some hand) = refl
-
--- Where no start is out at any table, all places are empty.
-all_empty : (out : List (Option HandStart)) → ((table : ℕ) → start_at out table ≡ None)
-    → out ≡ replicate (length out) None
-all_empty [] none = refl
-all_empty (start ∷ out) none = cc (none 0, all_empty out (λ table. none (suc table)))
 
 -- An accepted event makes the same of the hands as of the starts and the acts.
 pub record IsAlike (apart : Apart) (event : Event) : Type 0 where

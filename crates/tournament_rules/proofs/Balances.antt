@@ -2,9 +2,10 @@
 use Rattle.std.proofs.Common.{◌≡◌, ◌∙◌, refl, sym, ap, subst, ℕ, ◌+◌, ◌≤◌, Bool, true, false, ◌==◌, ◌&&◌, List, [], ◌∷◌, arith}
 use Rattle.std.specs.Prelude.{not, filter, find, nat_lt, Option, Some, None}
 use Rattle.std.specs.Option.{option_map_or}
-use Rattle.std.proofs.lemmas.Bool.{and_parts, not-true, eq-eqb}
+use Rattle.std.proofs.lemmas.Bool.{and_parts, not-true, eq-eqb, ltb-false}
 use Rattle.std.proofs.lemmas.Bool.Decides.{nat_tests}
 use Rattle.rulebook.specs.Checks.{first_that_holds}
+use Rattle.rulebook.proofs.Checks.{none_holds}
 use Rattle.button_blinds.specs.declared.marks.Marks.{Marks}
 use Rattle.seat_book.specs.declared.place.Place.{Place}
 use Rattle.seat_book.specs.declared.seated.Seated.{Seated}
@@ -25,7 +26,7 @@ use Rattle.tournament_rules.specs.Books.{BookState, has_table}
 use Rattle.tournament_rules.specs.Checks.{book_checks, book_refusal, is_table_open, is_playing}
 use Rattle.tournament_rules.specs.Effects.{balanced}
 use Rattle.tournament_rules.specs.Valid.{IsValid, is_lent}
-use Rattle.tournament_rules.proofs.Passed.{none_holds, is_so}
+use Rattle.tournament_rules.proofs.Passed.{is_so}
 use Rattle.tournament_rules.proofs.Ends.{valid_counted}
 use Rattle.tournament_rules.proofs.Begins.{all_rest}
 use Rattle.tournament_rules.proofs.Fitting.{table_range}
@@ -62,16 +63,13 @@ balance_passed book from to none =
       rests = not-true _ rests.0;
       no_race = not-true _ race.0;
       passed = none_of_three (not-true _ fullest.0) (not-true _ shortest.0) (not-true _ even.0);
-      gap = wide (count_at book.seating.players from) (count_at book.seating.players to) (not-true _ even.0);
+      gap = ltb-false (count_at book.seating.players from) (count_at book.seating.players to + 2) (not-true _ even.0);
       no_round = not-true _ round.0;
     }
   where
     none_of_three : is_not_fullest book.seating from ≡ false → is_not_shortest book.seating to ≡ false
         → is_even_enough book.seating from to ≡ false → first_that_holds (balance_checks book.seating from to) ≡ None
     none_of_three fullest shortest even = rw (fullest, shortest, even) refl
-
-    wide : (here there : ℕ) → nat_lt here (there + 2) ≡ false → there + 2 ≤ here
-    wide here there is = grind (arith, nat_tests)
 
 -- Who moves by a balance, and where he sits then.
 pub record Mover (seating : Seating) (from to : ℕ) (order : Move) : Type 0 where

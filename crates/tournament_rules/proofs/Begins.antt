@@ -12,6 +12,7 @@ use Rattle.rulebook.specs.Pairs.{are_distinct}
 use Rattle.rulebook.proofs.Tests.{list_all-filter}
 use Rattle.rulebook.proofs.Pairs.{is_pairwise-filter}
 use Rattle.rulebook.specs.declared.limits.TheConstants.{MOST_ENTRIES}
+use Rattle.rulebook.proofs.Checks.{none_holds}
 use Rattle.card_set.specs.declared.card.Card.{Card}
 use Rattle.card_set.specs.declared.card.CardRow.{CardRow}
 use Rattle.level_plan.specs.Items.{is_between, is_blind}
@@ -40,7 +41,7 @@ use Rattle.tournament_rules.specs.Effects.{playing_from, begun_book}
 use Rattle.tournament_rules.specs.Valid.{IsValid, IsPlanned, IsStartAt, is_lent, without_stack}
 use Rattle.tournament_rules.proofs.Restacked.{count_changed, entered_changed}
 use Rattle.tournament_rules.proofs.Names.{seated_names}
-use Rattle.tournament_rules.proofs.Passed.{none_holds, is_so, none_there}
+use Rattle.tournament_rules.proofs.Passed.{is_so, none_there}
 use Rattle.tournament_rules.proofs.Entries.{right_has}
 use Rattle.tournament_rules.proofs.Fitting.{table_range, each_status, fitting_changed, out_changed, play_changed, chips_out, due_more, marked_more}
 use Rattle.tournament_rules.proofs.KeptUnits.{keeps-set, out_kept, units_kept}

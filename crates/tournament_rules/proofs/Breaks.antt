@@ -3,10 +3,12 @@ use Rattle.std.proofs.Common.{◌≡◌, ◌∙◌, refl, sym, ap, subst, ℕ, z
 use Rattle.std.specs.Prelude.{not, filter, find, count_by, nat_lt, slice_set, is_some, is_none, option_map, Option, Some, None, IsPermutation}
 use Rattle.std.specs.List.{list_all, list_any}
 use Rattle.std.specs.Option.{option_map_or, ForSome}
-use Rattle.std.proofs.lemmas.Bool.{and_parts, and_from, or_parts, not-true, eq-eqb, eqb-true}
+use Rattle.std.proofs.lemmas.Bool.{and_parts, and_from, or_parts, not-true, eqb-true, and_right}
 use Rattle.std.proofs.lemmas.Bool.Decides.{nat_tests}
 use Rattle.std.proofs.lemmas.List.Sorted.{sum_by-IsPermutation, list_any-IsPermutation}
 use Rattle.rulebook.specs.Pairs.{are_distinct}
+use Rattle.rulebook.proofs.Checks.{none_holds}
+use Rattle.rulebook.proofs.Tests.{count_by-cons, find-passes}
 use Rattle.seat_book.specs.declared.place.Place.{Place}
 use Rattle.seat_book.specs.declared.seated.Seated.{Seated}
 use Rattle.seat_book.specs.declared.table_status.TableStatus.{TableStatus}
@@ -15,7 +17,8 @@ use Rattle.seat_book.specs.Players.{sits_at, sits_in, player_at, player_of, play
 use Rattle.seat_book.specs.Counts.{count_at}
 use Rattle.seat_book.specs.Tables.{fresh_status, status_at, with_status, IsStatusOf}
 use Rattle.seat_book.specs.Seatings.{Seating}
-use Rattle.seat_book.proofs.Passing.{find-none, found-passes, none-find, count_by-cons}
+use Rattle.seat_book.proofs.Passing.{find-none, none-find}
+use Rattle.seat_book.proofs.PlaceOrder.{same_place-itself}
 use Rattle.balance_rule.specs.declared.balance.Move.{Move}
 use Rattle.balance_rule.specs.EmptySeats.{is_empty_seat}
 use Rattle.balance_rule.specs.Balance.{reseated, after_move}
@@ -36,7 +39,7 @@ use Rattle.tournament_rules.specs.Effects.{with_table, forgotten, broken}
 use Rattle.tournament_rules.specs.Moving.{is_called, after_taking, after_all}
 use Rattle.tournament_rules.specs.Units.{is_due}
 use Rattle.tournament_rules.specs.Valid.{IsValid, is_lent}
-use Rattle.tournament_rules.proofs.Passed.{none_holds, is_so}
+use Rattle.tournament_rules.proofs.Passed.{is_so}
 use Rattle.tournament_rules.proofs.Ends.{valid_counted}
 use Rattle.tournament_rules.proofs.Begins.{all_rest}
 use Rattle.tournament_rules.proofs.Fitting.{table_range, status_here, each_status, length-with_status}
@@ -173,10 +176,6 @@ none_by_count test (item ∷ items) none =
     by_test false is one rest =
         let here = ap (λ (b : Bool). cond {A = ℕ} b 1 0) is in rest (omega (arith, none, one, here))
 
-same_place-itself : (place : Place) → is_same_place place place ≡ true
-same_place-itself place = and_from (place.table == place.table) (place.seat == place.seat)
-    (eq-eqb place.table place.table refl) (eq-eqb place.seat place.seat refl)
-
 -- The players of a table that rests may take these places: each is one of the plan's where nobody sits, and none comes
 -- twice. The table has no marks, and no race is pending.
 pub record MayTake (book : BookState) (table : ℕ) (places : List Place) : Type 0 where
@@ -249,7 +248,7 @@ module _ (book : BookState) (table : ℕ) (name : List ℕ) (place : Place) (pla
       let there = find-filter (sits_at table) (is_called name) players player found in
       let number = named-found players table name player lawful.apart found in
       let sits = (and_parts (sits_at table player) (is_called name player)
-      (found-passes (λ other. sits_at table other && is_called name other) players player there)).0 in
+      (find-passes (λ other. sits_at table other && is_called name other) players player there)).0 in
       let his_table : player.place.table ≡ table = eqb-true player.place.table table sits in
       let lent = not_picked (is_lent table)
       (λ other. sits_at table other && is_called name other) players player may.rest
@@ -278,7 +277,7 @@ module _ (book : BookState) (table : ℕ) (name : List ℕ) (place : Place) (pla
         valid_moved book player place valid may_move,
         record {
           rest = filter-moved place player players lawful.apart number (is_lent table) lent
-              (has_some (place.table == table) player.stack rests) ∙ may.rest;
+              (and_right (place.table == table) (player.stack == 0) rests) ∙ may.rest;
           bare = may.bare;
           within = within.1;
           free = still_free players (moved place player players) place places (λ other differ none.
@@ -303,10 +302,6 @@ module _ (book : BookState) (table : ℕ) (name : List ℕ) (place : Place) (pla
       listed : (place : Place) → is_place_of book.seating.table_count book.seating.seat_count place ≡ true
           → is_between 1 book.plan.tables place.table ≡ true
       listed place within = rw (← valid.tables.tables) (and_parts _ _ within).0
-
-      has_some : (here : Bool) (stack : ℕ) → (stack == 0) ≡ false → (here && stack == 0) ≡ false
-      has_some true stack some = some
-      has_some false stack some = refl
 
   -- A book is valid once the player of a name took a place, and the others may take theirs.
   pub taken : IsValid taken_book × MayTake taken_book table places

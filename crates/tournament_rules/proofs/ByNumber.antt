@@ -1,28 +1,20 @@
 -- Who is found by his number is found in his place.
-use Rattle.std.proofs.Common.{◌≡◌, ◌∙◌, refl, sym, ap, subst, ℕ, Bool, true, false, ◌==◌, List, [], ◌∷◌, arith}
+use Rattle.std.proofs.Common.{◌≡◌, ◌∙◌, refl, sym, ap, subst, ℕ, Bool, true, false, List, [], ◌∷◌, arith}
 use Rattle.std.specs.Prelude.{not, Some, None}
 use Rattle.std.specs.List.{list_all}
-use Rattle.std.proofs.lemmas.Bool.{and_parts}
+use Rattle.std.proofs.lemmas.Bool.{and_parts, eqb-true}
 use Rattle.std.proofs.lemmas.Bool.Decides.{nat_tests}
 use Rattle.std.proofs.lemmas.Option.{same_Some}
 use Rattle.seat_book.specs.declared.place.Place.{Place}
 use Rattle.seat_book.specs.declared.seated.Seated.{Seated}
 use Rattle.seat_book.specs.Places.{comes_before, are_rising}
 use Rattle.seat_book.specs.Players.{sits_in, is_numbered, place_of, with_stack, places_of, are_in_order, are_apart}
+use Rattle.seat_book.proofs.PlaceOrder.{before-apart, before-other}
 use Rattle.table_engine.specs.declared.start.StartSeat.{StartSeat}
 use Rattle.tournament_rules.specs.Players.{with_rest, pay_one}
 
--- who comes before a place does not sit there
-before_not_in : (place : Place) (player : Seated) → comes_before player.place place ≡ true → sits_in place player
-    ≡ false
-before_not_in place player before = grind (arith, nat_tests)
-
--- who comes after a place does not sit there
-after_not_in : (place : Place) (player : Seated) → comes_before place player.place ≡ true → sits_in place player ≡ false
-after_not_in place player before = grind (arith, nat_tests)
-
 -- who sits in his place sits there
-sits_there : (player : Seated) → sits_in player.place player ≡ true
+pub sits_there : (player : Seated) → sits_in player.place player ≡ true
 sits_there player = grind (arith, nat_tests)
 
 -- nobody of a list sits in a place that comes before all of theirs
@@ -31,7 +23,8 @@ none_in : (place : Place) (stack : ℕ) (players : List Seated) → list_all (co
 none_in place stack [] later = refl
 none_in place stack (player ∷ players) later =
     let parts = and_parts (comes_before place player.place) (list_all (comes_before place) (places_of players)) later in
-    rw (after_not_in place player parts.0) (ap (◌∷◌ player) (none_in place stack players parts.1))
+    rw (before-other place.table place.seat player.place.table player.place.seat parts.0)
+    (ap (◌∷◌ player) (none_in place stack players parts.1))
 
 -- nobody of a list has a number that none of them has
 none_numbered : (payee : StartSeat) (players : List Seated)
@@ -64,9 +57,6 @@ place_later place found number (player ∷ players) later is =
         rw (← here) before
     by_test false his before rest = rest (rw his at is)
 
-same_number : (one other : ℕ) → (one == other) ≡ true → one ≡ other
-same_number one other is = grind (arith, nat_tests)
-
 -- the first of a list is paid in his place
 first_paid : (player : Seated) (players : List Seated) (payee : StartSeat) → is_numbered payee.player player ≡ true
     → list_all (comes_before player.place) (places_of players) ≡ true → pay_one players payee ≡ players
@@ -96,13 +86,14 @@ paid_in_place (player ∷ players) payee place ordered apart found =
         → with_stack place payee.stack (player ∷ players) ≡ pay_one (player ∷ players) payee
     by_test true his later others rest =
         let here : player.place ≡ place = same_Some player.place place (rw his at found) in
-        let number : player.player ≡ payee.player = same_number player.player payee.player his in
+        let number : player.player ≡ payee.player = eqb-true player.player payee.player his in
         let nobody = none_numbered payee players (rw number at others) in
         subst (λ (place : Place). with_stack place payee.stack (player ∷ players) ≡ pay_one (player ∷ players) payee)
         here (first_paid player players payee his later nobody)
     by_test false his later others rest =
         let behind = place_later player.place place payee.player players later (rw his at found) in
-        rw (before_not_in place player behind, his) (ap (◌∷◌ player) (rest (rw his at found)))
+        let away = before-apart player.place.table player.place.seat place.table place.seat behind in
+        rw (away, his) (ap (◌∷◌ player) (rest (rw his at found)))
 
 -- Where nobody has the number, nobody is paid.
 pub paid_nobody : (players : List Seated) (payee : StartSeat) → place_of players payee.player ≡ None

@@ -3,6 +3,7 @@ use Rattle.std.proofs.Common.{◌≡◌, ◌∙◌, refl, ap, subst, ℕ, zero, 
 use Rattle.std.specs.Prelude.{not, sum, sum_by, Option, Some, None}
 use Rattle.std.specs.List.{list_all}
 use Rattle.std.specs.Option.{option_map_or}
+use Rattle.std.proofs.Math.Nat.{zero-add}
 use Rattle.std.proofs.lemmas.Bool.{and_parts, eqb-true}
 use Rattle.std.proofs.lemmas.Bool.Decides.{nat_tests}
 use Rattle.std.proofs.lemmas.List.{get_or-map}
@@ -11,9 +12,9 @@ use Rattle.rulebook.specs.Seats.{walk}
 use Rattle.rulebook.specs.Pairs.{is_pairwise}
 use Rattle.seat_book.specs.declared.place.Place.{Place}
 use Rattle.seat_book.specs.declared.seated.Seated.{Seated}
-use Rattle.seat_book.specs.Places.{comes_before}
 use Rattle.seat_book.specs.Players.{sits_at, sits_in, player_at}
 use Rattle.seat_book.proofs.Passing.{find-none}
+use Rattle.seat_book.proofs.PlaceOrder.{before-other}
 use Rattle.seat_book.proofs.TakenSeats.{sits_in_seats}
 use Rattle.tournament_rules.specs.Racing.{stack_in, stacks_at}
 use Rattle.tournament_rules.proofs.Fitting.{table_range}
@@ -73,9 +74,6 @@ walk-more (suc count) from seat more one other low high same =
     later : (seat at from : ℕ) → (seat == suc from) ≡ true → suc from < at → (seat == at) ≡ false
     later seat at from is low = grind (arith, nat_tests)
 
-    nothing_more : (n : ℕ) → 0 + n ≡ n
-    nothing_more n = omega arith
-
     higher : (seat from : ℕ) → (seat == suc from) ≡ false → from < seat → suc from < seat
     higher seat from differ low = grind (arith, nat_tests)
 
@@ -87,7 +85,7 @@ walk-more (suc count) from seat more one other low high same =
         let his = same (suc from) ∙ ap (λ (b : Bool). cond {A = ℕ} b more 0 + other (suc from)) is in
         let rest = walk-alike count (suc from) one other (λ at above below.
         same at ∙ (ap (λ (b : Bool). cond {A = ℕ} b more 0 + other at) (later seat at from is above)
-        ∙ nothing_more (other at))) in
+        ∙ zero-add (other at))) in
         let one_sum = here in
         let other_sum = there in
         omega (arith, one_sum, other_sum, his, rest)
@@ -103,16 +101,12 @@ pub none_later : (player : Seated) (players : List Seated) → list_all (sits_be
     → player_at players player.place ≡ None
 none_later player players later = find-none (sits_in player.place) players (by_list players later)
   where
-    another : (a b x y : ℕ) → comes_before (record { table = a; seat = b }) (record { table = x; seat = y }) ≡ true
-        → (x == a && y == b) ≡ false
-    another a b x y before = grind (arith, nat_tests)
-
     by_list : (players : List Seated) → list_all (sits_before player) players ≡ true
         → list_all (λ other. not (sits_in player.place other)) players ≡ true
     by_list [] later = refl
     by_list (other ∷ players) later =
         let parts = and_parts (sits_before player other) (list_all (sits_before player) players) later in
-        let away = another player.place.table player.place.seat other.place.table other.place.seat parts.0 in
+        let away = before-other player.place.table player.place.seat other.place.table other.place.seat parts.0 in
         rw away (by_list players parts.1)
 
 -- What is summed over the seats of a table, of the player in each, is summed over those who sit there.

@@ -1,7 +1,8 @@
 -- Chips are sold by entries alone, and taken away and given by races alone.
-use Rattle.std.proofs.Common.{◌≡◌, ◌≢◌, refl, ℕ, ◌*◌, Bool, true, false, arith}
+use Rattle.std.proofs.Common.{◌≡◌, ◌≢◌, refl, ℕ, Bool, true, false}
 use Rattle.std.specs.Prelude.{if◌then◌else◌, Option, Some, None}
 use Rattle.std.specs.Option.{option_map_or}
+use Rattle.std.proofs.Math.Nat.{zero-mul}
 use Rattle.level_plan.specs.Plans.{PlanTerms}
 use Rattle.level_plan.specs.Drafts.{Draft, plan_of}
 use Rattle.table_engine.specs.Hands.{HandTerms}
@@ -86,10 +87,7 @@ key-after key state event first keeps = by_answer (is_accepted (answer_to state 
 -- No event but an entry sells chips.
 pub sold-after : (state : State) (event : Event) → is_entry event ≡ false → sold (state_after state event) ≡ sold state
 sold-after state event kind =
-    key-after sold_by state event (λ plan. nothing plan.stack) (λ book hand. sold-effect book hand event kind)
-  where
-    nothing : (stack : ℕ) → 0 * stack ≡ 0
-    nothing stack = omega arith
+    key-after sold_by state event (λ plan. zero-mul plan.stack) (λ book hand. sold-effect book hand event kind)
 
 -- No event but a race takes chips away.
 pub removed-after : (state : State) (event : Event) → is_race event ≡ false

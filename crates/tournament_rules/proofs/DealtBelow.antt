@@ -2,6 +2,7 @@
 use Rattle.std.proofs.Common.{◌≡◌, refl, sym, ap, subst, inl, inr, ℕ, ◌+◌, Bool, true, false, cond, ◌==◌, ◌&&◌, List, [], ◌∷◌, arith}
 use Rattle.std.specs.Prelude.{not, ◌||◌, map, nat_le, Some, None}
 use Rattle.std.specs.List.{list_all}
+use Rattle.std.proofs.Math.Bool.{and-false, and-true}
 use Rattle.std.proofs.lemmas.Bool.{and_parts, cases_Bool}
 use Rattle.std.proofs.lemmas.Bool.Decides.{nat_tests}
 use Rattle.button_blinds.specs.SeatSets.{has_seat}
@@ -109,13 +110,9 @@ pub dealt-waiting : (table : ℕ) (waiting : List Bool) (below : ℕ) (players :
 dealt-waiting table waiting below [] waits = refl
 dealt-waiting table waiting below (player ∷ players) waits =
     let test = passed_plain (player.place.table == table) (has_seat waiting) player.place.seat below
-    (rw waits (never ((player.place.table == table) && (player.place.seat == below + 1)))) in
+    (rw waits (and-false ((player.place.table == table) && (player.place.seat == below + 1)))) in
     let rest = dealt-waiting table waiting below players waits in
     rw test (ap (◌∷◌ (cond (is_dealt_below table waiting (below + 1) player) (with_rest player 0) player)) rest)
-  where
-    never : (b : Bool) → (b && false) ≡ false
-    never true = refl
-    never false = refl
 
 -- Where nobody sits in the next seat, nobody more is dealt in.
 pub dealt-empty : (table : ℕ) (waiting : List Bool) (below : ℕ) (players : List Seated)
@@ -151,17 +148,13 @@ dealt-all tables seats table waiting [] within = refl
 dealt-all tables seats table waiting (player ∷ players) within =
     let parts = and_parts (sits_within tables seats player) (list_all (sits_within tables seats) players) within in
     let last : nat_le player.place.seat seats ≡ true = last_seat player.place.table player.place.seat parts.0 in
-    rw (last, whole (is_dealt_in table waiting player)) (ap
+    rw (last, and-true (is_dealt_in table waiting player)) (ap
     (◌∷◌ (cond (is_dealt_in table waiting player) (with_rest player 0) player))
     (dealt-all tables seats table waiting players parts.1))
   where
     last_seat : (at seat : ℕ) → ((nat_le 1 at && nat_le at tables) && (nat_le 1 seat && nat_le seat seats)) ≡ true
         → nat_le seat seats ≡ true
     last_seat at seat there = grind (arith, nat_tests)
-
-    whole : (b : Bool) → (b && true) ≡ b
-    whole true = refl
-    whole false = refl
 
 -- Before any seat nobody is dealt in.
 pub dealt-none : (tables seats table : ℕ) (waiting : List Bool) (players : List Seated)
@@ -170,13 +163,9 @@ dealt-none tables seats table waiting [] within = refl
 dealt-none tables seats table waiting (player ∷ players) within =
     let parts = and_parts (sits_within tables seats player) (list_all (sits_within tables seats) players) within in
     let first : nat_le player.place.seat 0 ≡ false = first_seat player.place.table player.place.seat parts.0 in
-    rw (first, nobody (is_dealt_in table waiting player)) (ap (◌∷◌ player)
+    rw (first, and-false (is_dealt_in table waiting player)) (ap (◌∷◌ player)
     (dealt-none tables seats table waiting players parts.1))
   where
     first_seat : (at seat : ℕ) → ((nat_le 1 at && nat_le at tables) && (nat_le 1 seat && nat_le seat seats)) ≡ true
         → nat_le seat 0 ≡ false
     first_seat at seat there = grind (arith, nat_tests)
-
-    nobody : (b : Bool) → (b && false) ≡ false
-    nobody true = refl
-    nobody false = refl

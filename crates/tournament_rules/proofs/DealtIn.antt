@@ -17,7 +17,7 @@ use Rattle.tournament_rules.specs.Players.{start_seat, with_rest, is_dealt_in, d
 use Rattle.tournament_rules.specs.Units.{is_whole_at, AreWhole}
 use Rattle.tournament_rules.specs.Valid.{is_lent, without_stack}
 use Rattle.tournament_rules.proofs.Restacked.{ChangesStacks}
-use Rattle.tournament_rules.proofs.Paying.{stack_of}
+use Rattle.tournament_rules.proofs.Paying.{sits_elsewhere, stack_of}
 
 -- a player as a hand begins: without his chips, if he is dealt in
 abbrev pub as_dealt : ℕ → List Bool → Seated → Seated
@@ -88,10 +88,6 @@ lent_elsewhere-dealt_in table other waiting [] differ = refl
 lent_elsewhere-dealt_in table other waiting (player ∷ players) differ =
     by_test (is_dealt_in table waiting player) refl (lent_elsewhere-dealt_in table other waiting players differ)
   where
-    sits_elsewhere : (sits table other : ℕ) → (table == other) ≡ false → (sits == table) ≡ true
-        → (sits == other) ≡ false
-    sits_elsewhere sits table other differ same = grind (arith, nat_tests)
-
     by_test : (b : Bool) → is_dealt_in table waiting player ≡ b
         → filter (is_lent other) (dealt_in table waiting players) ≡ filter (is_lent other) players
         → filter (is_lent other) (cond b (with_rest player 0) player ∷ dealt_in table waiting players)

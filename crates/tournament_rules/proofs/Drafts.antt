@@ -3,6 +3,7 @@ use Rattle.std.proofs.Common.{◌≡◌, refl, ℕ, Bool, true, false, ◌&&◌,
 use Rattle.std.specs.Prelude.{not, nat_le, nat_lt, Option, Some, None, is_none, unwrap_or}
 use Rattle.std.proofs.lemmas.Bool.{and_parts, and_from}
 use Rattle.std.proofs.lemmas.Bool.Decides.{nat_tests}
+use Rattle.rulebook.proofs.Checks.{none_holds}
 use Rattle.level_plan.specs.declared.line.PlanLine.{PlanLine}
 use Rattle.level_plan.specs.declared.line.PlanLine.TheVariants as lines
 use Rattle.level_plan.specs.declared.plan.Blind.{Blind}
@@ -10,7 +11,7 @@ use Rattle.level_plan.specs.Items.{is_between, greatest_amount, is_blind, may_fo
 use Rattle.level_plan.specs.Plans.{is_right}
 use Rattle.level_plan.specs.Drafts.{Draft, empty_draft, is_wrong_line, draft_after, plan_of, go_checks, go_fault, is_lawful_if_given, IsLawful}
 use Rattle.level_plan.proofs.Levels.{are_levels_more, level_count_more}
-use Rattle.tournament_rules.proofs.Passed.{none_holds, is_so}
+use Rattle.tournament_rules.proofs.Passed.{is_so}
 
 second_lawful : (given lawful : Bool) → (given || not lawful) ≡ false → lawful ≡ true
 second_lawful true lawful right = cc

@@ -1,8 +1,8 @@
 -- A book is valid before any entry, and after each.
 use Rattle.std.proofs.Common.{◌≡◌, ◌∙◌, refl, sym, ap, ℕ, zero, suc, ◌+◌, ◌%◌, ◌<◌, ◌≤◌, ◌⊎◌, inl, inr, Bool, true, false, cond, ◌==◌, ◌&&◌, eq-eqb, List, [], ◌∷◌, ◌++◌, map, length, arith, length-append}
-use Rattle.std.specs.Prelude.{nat_lt, nat_le, count_by, sum_by, replicate, slice_get, Option, Some, None, is_some}
+use Rattle.std.specs.Prelude.{nat_lt, count_by, sum_by, replicate, slice_get, Option, Some, None, is_some}
 use Rattle.std.specs.Option.{ForSome}
-use Rattle.std.proofs.lemmas.Bool.{and_parts, and_from, cases_lt, eqb-true}
+use Rattle.std.proofs.lemmas.Bool.{and_parts, and_from, cases_lt, eqb-true, leb-true, lt-ltb, ltb-false}
 use Rattle.std.proofs.lemmas.Bool.Decides.{nat_tests}
 use Rattle.std.proofs.lemmas.List.{get_or-replicate, get_or_past, length-replicate}
 use Rattle.std.proofs.lemmas.List.Folds.{sum_by-replicate}
@@ -72,13 +72,10 @@ right_has plan right =
       most_stack = stack.1;
       some_late = late.0;
       most_late = late.1;
-      level_count = at_most (length plan.blinds) six.0;
+      level_count = leb-true (length plan.blinds) 40 six.0;
       levels = seven.0;
       whole = eqb-true (plan.stack % unit_of_level plan.blinds plan.late) 0 eight.1;
     }
-  where
-    at_most : (count : ℕ) → nat_le count 40 ≡ true → count ≤ 40
-    at_most count few = grind (arith, nat_tests)
 
 -- What is so of a fresh table and of one that stands so, is so of each of many that do.
 status_of_many : (P : TableStatus → Type 0) (status : TableStatus) → P fresh_status → P status → (count table : ℕ)
@@ -232,7 +229,7 @@ valid_entered book name table seat valid none =
       tables = record {
         lawful = seating-sit_down book.seating new valid.tables.lawful
             (rw (valid.tables.tables, valid.tables.seats) (and_from _ _ may.there may.within))
-            (below (length book.entries) may.room)
+            (lt-ltb (length book.entries) MOST_ENTRIES may.room)
             may.free
             (none_numbered (length book.entries) book.seating.players
             (let his = valid.entries.once (length book.entries) in
@@ -256,7 +253,7 @@ valid_entered book name table seat valid none =
             (eq-eqb _ _
             (whole_at (status_at book.seating.tables table) book.plan.stack (valid.units.units table may.there)
             (whole_earlier book.plan.blinds book.level book.plan.late book.plan.stack has.levels valid.plan.first
-            (early book.plan.late book.level may.early) has.most_late has.whole)));
+            (ltb-false book.plan.late book.level may.early) has.most_late has.whole)));
         due = due_more book.seating.tables book.seating.players
             (sit_down new book.seating.players) valid.units.due more;
         few = valid.units.few;
@@ -284,12 +281,6 @@ valid_entered book name table seat valid none =
         by_race None none = ap (λ (unit : ℕ). stack % unit) (is.own none) ∙ whole
         by_race (Some new) at = whole_times stack status.unit new (next_times status.unit new (is.from new at).next)
             (ap (λ (unit : ℕ). stack % unit) (is.new new at) ∙ whole)
-
-    below : (count : ℕ) → count < MOST_ENTRIES → nat_lt count MOST_ENTRIES ≡ true
-    below count room = grind (arith, nat_tests)
-
-    early : (late level : ℕ) → nat_lt late level ≡ false → level ≤ late
-    early late level not_late = grind (arith, nat_tests)
 
     not_lent : (here : Bool) (stack : ℕ) → 1 ≤ stack → (here && stack == 0) ≡ false
     not_lent here stack some = grind (arith, nat_tests)

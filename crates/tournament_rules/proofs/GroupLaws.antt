@@ -10,6 +10,7 @@ use Rattle.std.proofs.lemmas.Option.{same_Some}
 use Rattle.std.proofs.lemmas.List.{append-nil, append_assoc}
 use Rattle.std.proofs.lemmas.List.Folds.{list_all-append}
 use Rattle.std.proofs.lemmas.List.Elements.{All-nil, All-cons}
+use Rattle.rulebook.proofs.Tests.{some_there}
 use Rattle.place_list.specs.declared.bust.Bust.{Bust}
 use Rattle.table_engine.specs.declared.start.HandStart.{HandStart}
 use Rattle.table_engine.specs.Hands.{HandTerms}
@@ -24,7 +25,7 @@ use Rattle.tournament_rules.specs.Valid.{IsValidPlay}
 use Rattle.tournament_rules.proofs.Ends.{left-void_first}
 use Rattle.tournament_rules.proofs.Kept.{hands_kept, is_turn, run_keeps}
 use Rattle.tournament_rules.proofs.MoveLaws.{not_refused}
-use Rattle.tournament_rules.proofs.Passed.{passed-parts, settle_passed, some_there}
+use Rattle.tournament_rules.proofs.Passed.{passed-parts, settle_passed}
 use Rattle.tournament_rules.proofs.RoundLaws.{no_turn}
 use Rattle.tournament_rules.proofs.Stayed.{grouped_left, all_in_group, same_group}
 

@@ -1,6 +1,6 @@
 -- What the parts of a valid book say of its players and hands.
 use Rattle.std.proofs.Common.{◌≡◌, ◌∙◌, refl, sym, ap, subst, ℕ, ◌+◌, ◌%◌, ◌<◌, Bool, true, false, cond, ◌==◌, ◌&&◌, eq-eqb, List, [], ◌∷◌, map, length, arith}
-use Rattle.std.specs.Prelude.{nat_lt, filter, count_by, Option, Some, None, option_map}
+use Rattle.std.specs.Prelude.{filter, count_by, Option, Some, None, option_map}
 use Rattle.std.specs.List.{list_all, All}
 use Rattle.std.specs.Option.{option_map_or, ForSome}
 use Rattle.std.proofs.lemmas.Bool.{and_parts, eqb-true}
@@ -27,14 +27,12 @@ use Rattle.tournament_rules.proofs.Passed.{passed-parts}
 use Rattle.tournament_rules.proofs.Steps.{accepted_none}
 use Rattle.tournament_rules.proofs.Begins.{start_is_lawful}
 use Rattle.tournament_rules.proofs.Members.{in_hand-lent}
+use Rattle.tournament_rules.proofs.Outs.{one_owed}
 
 -- Each entered player has exactly one seat or one row of those who are out.
 pub in_or_out : (book : BookState) → IsValid book → (number : ℕ) → number < length book.entries
     → count_by (is_numbered number) book.seating.players + count_by (is_bust_of number) book.busts ≡ 1
-in_or_out book valid number within = valid.entries.once number ∙ owed number (length book.entries) within
-  where
-    owed : (number count : ℕ) → number < count → cond {A = ℕ} (nat_lt number count) 1 0 ≡ 1
-    owed number count within = grind (arith, nat_tests)
+in_or_out book valid number within = valid.entries.once number ∙ one_owed number (length book.entries) within
 
 -- Who is in no hand has a stack above 0.
 pub stacks_above : (book : BookState) → IsValid book

@@ -1,19 +1,14 @@
 -- What holds of a list with one more item.
-use Rattle.std.proofs.Common.{◌≡◌, ◌∙◌, refl, sym, ap, ℕ, Bool, true, false, List, [], ◌∷◌, ◌++◌, map, take, drop}
+use Rattle.std.proofs.Common.{◌≡◌, ◌∙◌, refl, ap, ℕ, Bool, true, false, List, [], ◌∷◌, ◌++◌, map, take, drop}
 use Rattle.std.specs.Prelude.{filter, insert}
 use Rattle.std.specs.List.{list_all, All}
-use Rattle.std.proofs.lemmas.Bool.{and_parts, and_from}
+use Rattle.std.proofs.lemmas.Bool.{and_from}
 use Rattle.std.proofs.lemmas.List.{take-append-drop}
 use Rattle.std.proofs.lemmas.List.Folds.{list_all-append, list_all-map}
 use Rattle.std.proofs.lemmas.List.Elements.{All-append, All-cons, All-take, All-drop}
 use Rattle.rulebook.specs.Pairs.{is_pairwise}
 use Rattle.rulebook.proofs.Pairs.{is_pairwise-between}
-
--- Two lists of which all items pass a test.
-pub list_all-parts : {A : Type 0} (test : A → Bool) (front back : List A) → list_all test (front ++ back) ≡ true
-    → (list_all test front ≡ true) × (list_all test back ≡ true)
-list_all-parts test front back all = and_parts (list_all test front) (list_all test back)
-    (sym (list_all-append test front back) ∙ all)
+use Rattle.seat_book.proofs.Numbers.{list_all-parts}
 
 -- All items pass a test also with one more that does.
 pub list_all-insert : {A : Type 0} (test : A → Bool) (items : List A) (place : ℕ) (item : A)

@@ -1,6 +1,6 @@
 -- What stays of units where no table's unit changes, and no pending race.
 use Rattle.std.proofs.Common.{◌≡◌, ◌∙◌, refl, sym, ap, subst, ℕ, zero, suc, ◌%◌, ◌≤◌, Bool, true, false, ◌==◌, cond, List, [], ◌∷◌, length, get_or, arith}
-use Rattle.std.specs.Prelude.{count_by, Option, Some, None, is_some}
+use Rattle.std.specs.Prelude.{count_by, Option, None, is_some}
 use Rattle.std.specs.List.{list_any}
 use Rattle.std.specs.Option.{ForSome}
 use Rattle.std.proofs.lemmas.Bool.{and_parts, and_from, or_parts}
@@ -15,6 +15,7 @@ use Rattle.tournament_rules.specs.Books.{start_at}
 use Rattle.tournament_rules.specs.Units.{IsRaceTo, IsUnitOf, AreWhole, AreDue, AreUnits, is_due}
 use Rattle.tournament_rules.specs.Valid.{IsStartAt, AreOut}
 use Rattle.tournament_rules.proofs.Fitting.{each_status}
+use Rattle.tournament_rules.proofs.Passed.{none_there}
 
 -- Each table has the unit that it had, and the race.
 pub record KeepsUnits (before after : List TableStatus) : Type 0 where
@@ -97,14 +98,11 @@ pub none_due : (tables : List TableStatus) → list_any is_due tables ≡ false 
 none_due tables none zero = refl
 none_due tables none (suc below) = by_list tables below none
   where
-    no_race : (race : Option ℕ) → is_some race ≡ false → race ≡ None
-    no_race None is = refl
-    no_race (Some unit) is = absurd cc
-
     by_list : (tables : List TableStatus) (below : ℕ) → list_any is_due tables ≡ false
         → (get_or tables below fresh_status).race ≡ None
     by_list [] below none = refl
-    by_list (status ∷ tables) zero none = no_race status.race (or_parts (is_due status) (list_any is_due tables) none).0
+    by_list (status ∷ tables) zero none =
+        none_there status.race (or_parts (is_due status) (list_any is_due tables) none).0
     by_list (status ∷ tables) (suc below) none =
         by_list tables below (or_parts (is_due status) (list_any is_due tables) none).1
 

@@ -1,6 +1,6 @@
 -- The book and the hands by table, as layers of the tournament that they are.
 use Rattle.std.proofs.Common.{◌≡◌, ◌∙◌, refl, sym, ap, ℕ, zero, suc, List, [], ◌∷◌, map, length, get_or, length-set}
-use Rattle.std.specs.Prelude.{replicate, Option, Some, None, option_map}
+use Rattle.std.specs.Prelude.{replicate, Option, Some, None, option_map, slice_index_or}
 use Rattle.std.proofs.Math.ListN.{get_or-map as get_or-map_all}
 use Rattle.std.proofs.Math.Seq.{map-set_same}
 use Rattle.std.proofs.lemmas.List.{map-set, length-map}
@@ -56,6 +56,13 @@ pub map_empty : {A B : Type 0} (f : A → B) (count : ℕ) (item : A)
     → map f (replicate count item) ≡ replicate count (f item)
 map_empty f zero item = refl
 map_empty f (suc count) item = ap (◌∷◌ (f item)) (map_empty f count item)
+
+-- Where nothing is found at any table, all slots are empty.
+pub all_empty : {A : Type 0} (slots : List (Option A)) → ((table : ℕ) → slice_index_or slots table None ≡ None) → slots
+    ≡ replicate (length slots) None
+all_empty [] none = refl
+all_empty (slot ∷ slots) none = let first : slot ≡ None =
+    none 0 in rw (first, ← all_empty slots (λ table. none (suc table))) refl
 
 -- Each table has a place among the hands.
 pub hands_length : (book : BookState) (hands : List (Option HandTerms)) → map start_of hands ≡ book.out

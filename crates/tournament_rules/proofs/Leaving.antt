@@ -6,6 +6,7 @@ use Rattle.std.proofs.lemmas.Bool.{eqb-true, and_parts, not-true}
 use Rattle.std.proofs.lemmas.List.Folds.{list_all-map}
 use Rattle.std.proofs.lemmas.List.Sums.{AllPass-from_list_all}
 use Rattle.rulebook.specs.Pairs.{are_distinct}
+use Rattle.rulebook.proofs.Tests.{eqb-swap}
 use Rattle.seat_book.specs.declared.seated.Seated.{Seated}
 use Rattle.seat_book.specs.Players.{is_numbered, lifted}
 use Rattle.table_engine.specs.declared.start.HandStart.{HandStart}
@@ -13,7 +14,7 @@ use Rattle.table_engine.specs.declared.start.StartSeat.{StartSeat}
 use Rattle.tournament_rules.specs.Books.{BookState, start_at, players_out}
 use Rattle.tournament_rules.specs.Players.{is_among, start_seat, paid, put_back, stayed}
 use Rattle.tournament_rules.specs.Valid.{IsValid, is_lent, without_stack}
-use Rattle.tournament_rules.proofs.Members.{eqb-swap, has_number, any_without}
+use Rattle.tournament_rules.proofs.Members.{has_number, any_without}
 use Rattle.tournament_rules.proofs.Restacked.{any_changed}
 use Rattle.tournament_rules.proofs.Paying.{numbers_of, paid-stacks}
 

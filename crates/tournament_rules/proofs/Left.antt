@@ -1,17 +1,17 @@
 -- Nobody sits at a table once it broke.
-use Rattle.std.proofs.Common.{◌≡◌, ◌∙◌, refl, sym, ap, ℕ, ◌+◌, Bool, true, false, cond, ◌==◌, ◌&&◌, List, [], ◌∷◌, map, length, arith}
+use Rattle.std.proofs.Common.{◌≡◌, refl, ap, ℕ, ◌+◌, Bool, true, false, cond, ◌==◌, ◌&&◌, List, [], ◌∷◌, map, length, arith}
 use Rattle.std.specs.Prelude.{not, find, count_by, nat_lt, Option, Some, None}
 use Rattle.std.specs.List.{list_all}
 use Rattle.std.specs.Str.{bytes_eq}
 use Rattle.std.proofs.lemmas.Bool.{and_parts, and_from, not-true}
 use Rattle.std.proofs.lemmas.List.Sorted.{sum_by-IsPermutation, length_permutation}
 use Rattle.std.proofs.lemmas.Slice.Eq.{bytes_eq-Decides}
+use Rattle.rulebook.proofs.Tests.{count_by-cons, find-passes}
 use Rattle.seat_book.specs.declared.place.Place.{Place}
 use Rattle.seat_book.specs.declared.seated.Seated.{Seated}
 use Rattle.seat_book.specs.Players.{sits_at, players_at}
 use Rattle.seat_book.specs.Counts.{count_at}
 use Rattle.seat_book.specs.Seatings.{Seating}
-use Rattle.seat_book.proofs.Passing.{count_by-cons, found-passes}
 use Rattle.balance_rule.specs.Filling.{is_other_open, names_at}
 use Rattle.break_draw.proofs.FillLaws.{chosen-elsewhere}
 use Rattle.break_draw.proofs.Names.{names-length}
@@ -21,6 +21,7 @@ use Rattle.tournament_rules.specs.Effects.{broken}
 use Rattle.tournament_rules.specs.Moving.{is_called, after_taking, after_all}
 use Rattle.tournament_rules.specs.Valid.{IsValid}
 use Rattle.tournament_rules.proofs.Moved.{sum-moved}
+use Rattle.tournament_rules.proofs.Names.{other_way}
 use Rattle.tournament_rules.proofs.Breaks.{MayBreak, MayTake, all-permuted, find-filter, named-found, taking, taken, taken_book, bare_book, may_take, valid_forgotten}
 
 -- Whether a player of this name sits at a table.
@@ -91,23 +92,14 @@ name_found table name (player ∷ players) none =
         ≡ cond (has_name_at table name player) 1 0 + count_by (has_name_at table name) players
     one = count_by-cons (has_name_at table name) player players
 
-    turned : bytes_eq player.name name ≡ false → bytes_eq name player.name ≡ false
-    turned differ = by_bool (bytes_eq name player.name) refl
-      where
-        by_bool : (b : Bool) → bytes_eq name player.name ≡ b → b ≡ false
-        by_bool true is =
-            let same = (bytes_eq-Decides name player.name).0 is in
-            let his = (bytes_eq-Decides player.name name).1 (sym same) in
-            sym his ∙ differ
-        by_bool false is = refl
-
     by_name : (b : Bool) → is_called name player ≡ b
         → cond b (Some player) (find (is_called name) (players_at players table)) ≡ None
         → (find (is_called name) (players_at players table) ≡ None → count_by (has_name_at table name) players ≡ 0)
         → sits_at table player ≡ true → count_by (has_name_at table name) (player ∷ players) ≡ 0
     by_name true is none rest sits = absurd cc
     by_name false is none rest sits =
-        let here = ap (λ (b : Bool). cond {A = ℕ} (sits_at table player && b) 1 0) (turned is) in
+        let here = ap (λ (b : Bool). cond {A = ℕ} (sits_at table player && b) 1 0)
+        (other_way player.name name is) in
         let off = no_one (sits_at table player) in
         let all = one in
         let zero = rest none in
@@ -161,7 +153,7 @@ left_all book table (name ∷ names) (place ∷ places) valid may away many alik
         let moves = taking book.seating table name place player apart is in
         let there = find-filter (sits_at table) (is_called name) players player is in
         let parts = and_parts (sits_at table player) (is_called name player)
-        (found-passes (λ other. sits_at table other && is_called name other) players player there) in
+        (find-passes (λ other. sits_at table other && is_called name other) players player there) in
         let named : player.name ≡ name = (bytes_eq-Decides player.name name).0 parts.1 in
         let elsewhere = not-true (place.table == table)
         (and_parts (not (place.table == table)) (list_all (λ place. not (place.table == table)) places) away).0 in

@@ -1,13 +1,15 @@
 -- A book is valid once the next level is current.
 use Rattle.std.proofs.Common.{◌≡◌, ◌∙◌, refl, sym, ap, subst, ℕ, zero, suc, ◌+◌, ◌*◌, ◌%◌, ◌<◌, ◌≤◌, inl, inr, Bool, true, false, cond, ◌==◌, List, [], ◌∷◌, map, length, get_or, arith}
-use Rattle.std.specs.Prelude.{nat_lt, nat_le, if◌then◌else◌, Some, None}
+use Rattle.std.specs.Prelude.{nat_lt, if◌then◌else◌, Some, None}
 use Rattle.std.specs.List.{list_all, list_any, enumerate_from}
 use Rattle.std.specs.Option.{ForSome}
-use Rattle.std.proofs.lemmas.Bool.{and_parts, and_from, not-true, cases_lt}
+use Rattle.std.proofs.lemmas.Bool.{and_parts, and_from, not-true, cases_lt, leb-false, lt-ltb, ltb-true}
 use Rattle.std.proofs.lemmas.Bool.Decides.{nat_tests}
 use Rattle.std.proofs.lemmas.List.{get_or_past, get_or-map, length-map}
 use Rattle.std.proofs.lemmas.List.FromFn.{length-enumerate_from, get_or-enumerate_from}
 use Rattle.std.proofs.lemmas.List.Sums.{count_by-le-length}
+use Rattle.rulebook.proofs.Checks.{none_holds}
+use Rattle.rulebook.proofs.Tests.{count_by-cons}
 use Rattle.level_plan.specs.Items.{is_next_unit}
 use Rattle.level_plan.specs.Plans.{unit_of_level}
 use Rattle.level_plan.proofs.Levels.{unit_of_level_above}
@@ -17,7 +19,6 @@ use Rattle.seat_book.specs.Players.{sits_at}
 use Rattle.seat_book.specs.Counts.{count_at, is_open}
 use Rattle.seat_book.specs.Tables.{fresh_status, status_at, IsStatusOf}
 use Rattle.seat_book.specs.Seatings.{Seating}
-use Rattle.seat_book.proofs.Passing.{count_by-cons}
 use Rattle.floor_events.specs.declared.event.Event.TheVariants.{Level}
 use Rattle.tournament_rules.specs.Books.{BookState}
 use Rattle.tournament_rules.specs.Checks.{book_checks, book_refusal}
@@ -28,7 +29,6 @@ use Rattle.tournament_rules.specs.Valid.{IsValid, IsPlanned}
 use Rattle.tournament_rules.proofs.Entries.{right_has}
 use Rattle.tournament_rules.proofs.Fitting.{table_range, fitting_alike}
 use Rattle.tournament_rules.proofs.KeptUnits.{start_kept, one_unit}
-use Rattle.tournament_rules.proofs.Passed.{none_holds}
 use Rattle.tournament_rules.proofs.Remaining.{somebody_out}
 use Rattle.tournament_rules.proofs.Units.{next_times, next_unit}
 
@@ -46,11 +46,8 @@ level_passed book none =
     let last = and_parts _ _ race.1 in
     record {
       no_race = not-true _ race.0;
-      further = below (length book.plan.blinds) book.level (not-true _ last.0);
+      further = leb-false (length book.plan.blinds) book.level (not-true _ last.0);
     }
-  where
-    below : (levels level : ℕ) → nat_le levels level ≡ false → level < levels
-    below levels level further = grind (arith, nat_tests)
 
 -- the tables of a seating once a level with this greater unit is current
 abbrev pub raised_tables : ℕ → Seating → List TableStatus
@@ -110,10 +107,7 @@ open-kept : (unit : ℕ) (seating : Seating) (table : ℕ) → 1 ≤ count_at se
     → (status_at (raised_tables unit seating) table).unit ≡ (status_at seating.tables table).unit
 open-kept unit seating table some =
     each_raised (λ status. status.unit ≡ (status_at seating.tables table).unit) unit seating table
-    (rw (opened (count_at seating.players table) some) refl) refl
-  where
-    opened : (count : ℕ) → 1 ≤ count → nat_lt 0 count ≡ true
-    opened count some = grind (arith, nat_tests)
+    (rw (lt-ltb 0 (count_at seating.players table) some) refl) refl
 
 -- So each stack is a multiple of its table's unit.
 whole-raised : (before after : List TableStatus) (all players : List Seated)
@@ -167,10 +161,7 @@ unit_raised before unit false status own next greater = record {
 
 due_raised : (unit count : ℕ) (opened : Bool) (status : TableStatus) → opened ≡ nat_lt 0 count
     → ForSome (raised_table unit opened status).race (λ new. 1 ≤ count)
-due_raised unit count true status is = λ new at. above count (sym is)
-  where
-    above : (count : ℕ) → nat_lt 0 count ≡ true → 1 ≤ count
-    above count some = grind (arith, nat_tests)
+due_raised unit count true status is = λ new at. ltb-true 0 count (sym is)
 due_raised unit count false status is = λ new at. absurd cc
 
 -- A book is valid once the next level is current.
@@ -240,7 +231,7 @@ valid_leveled book valid none = by_units (nat_lt before unit) refl
         let after = raised_tables unit seating in
         let some = unit_of_level_above book.plan.blinds (book.level + 1)
         (right_has book.plan valid.plan.right).levels in
-        let greater = above before unit more in
+        let greater = ltb-true before unit more in
         let size : length after ≡ length tables = length-map (enumerate_from 1 tables)
         (λ row. raised_table unit (is_open players row.0) row.1) ∙ length-enumerate_from 1 tables in
         record {
@@ -288,9 +279,6 @@ valid_leveled book valid none = by_units (nat_lt before unit) refl
           raised = let raised = valid.raised in omega (arith, raised);
         }
       where
-        above : (one other : ℕ) → nat_lt one other ≡ true → one < other
-        above one other more = grind (arith, nat_tests)
-
         plays : (opened : Bool) (status : TableStatus) → (raised_table unit opened status).playing ≡ status.playing
         plays true status = refl
         plays false status = refl

@@ -1,21 +1,17 @@
 -- Who of the players is one of those with whom a hand started.
-use Rattle.std.proofs.Common.{◌≡◌, ◌∙◌, refl, sym, ap, ℕ, Bool, true, false, cond, ◌==◌, ◌||◌, List, [], ◌∷◌, map, get_or, arith}
+use Rattle.std.proofs.Common.{◌≡◌, ◌∙◌, refl, sym, ap, ℕ, Bool, true, false, cond, ◌==◌, ◌||◌, List, [], ◌∷◌, map, get_or}
 use Rattle.std.specs.Prelude.{not, filter}
 use Rattle.std.specs.List.{list_all, list_any, All}
 use Rattle.std.proofs.lemmas.Bool.{and_parts, or_left, not-true, eq-eqb}
-use Rattle.std.proofs.lemmas.Bool.Decides.{nat_tests}
 use Rattle.std.proofs.lemmas.List.Sums.{AllPass-from_list_all}
 use Rattle.std.proofs.lemmas.List.Elements.{All-nil, All-cons}
+use Rattle.rulebook.proofs.Tests.{eqb-swap}
 use Rattle.seat_book.specs.declared.seated.Seated.{Seated}
 use Rattle.seat_book.specs.Players.{is_numbered, are_apart}
 use Rattle.table_engine.specs.declared.start.StartSeat.{StartSeat}
 use Rattle.tournament_rules.specs.Books.{BookState, start_at, players_out}
 use Rattle.tournament_rules.specs.Players.{is_one_of, is_in_hand, start_seat}
 use Rattle.tournament_rules.specs.Valid.{IsValid, is_lent, without_stack}
-
--- Two numbers are the same whichever is looked at first.
-pub eqb-swap : (one other : ℕ) → (one == other) ≡ (other == one)
-eqb-swap one other = grind (arith, nat_tests)
 
 -- whether a player of a start has this number
 abbrev pub has_number : ℕ → StartSeat → Bool

@@ -1,11 +1,12 @@
 -- Each balance and each break that is not refused is a lawful move, and what holds of tables and of entries.
-use Rattle.std.proofs.Common.{◌≡◌, ◌∙◌, refl, ap, subst, ℕ, zero, suc, ◌+◌, ◌≤◌, ◌<◌, Bool, true, false, cond, ◌==◌, ◌&&◌, List, [], ◌∷◌, arith}
+use Rattle.std.proofs.Common.{◌≡◌, ◌∙◌, refl, ap, subst, ℕ, zero, suc, ◌+◌, ◌≤◌, ◌<◌, Bool, true, false, ◌==◌, ◌&&◌, List, [], ◌∷◌, arith}
 use Rattle.std.specs.Prelude.{not, nat_lt, Option, Some, None}
 use Rattle.std.specs.List.{list_any}
 use Rattle.std.specs.Option.{ForSome}
 use Rattle.std.proofs.lemmas.Bool.{and_parts, eqb-true}
 use Rattle.std.proofs.lemmas.Bool.Decides.{nat_tests}
 use Rattle.button_blinds.specs.declared.marks.Marks.{Marks}
+use Rattle.rulebook.proofs.Tests.{at_most_one, count_by-cons}
 use Rattle.button_blinds.specs.Marks.{AreMarksOf, is_heads_up, leaves_fewer_than_three, waiting_between, marks_after, big_after}
 use Rattle.button_blinds.specs.SeatSets.{has_seat, with_seat, seat_count, AreSeatsOf}
 use Rattle.button_blinds.proofs.Distances.{seat_low}
@@ -16,7 +17,6 @@ use Rattle.seat_book.specs.Players.{taken_seats}
 use Rattle.seat_book.specs.Counts.{count_at, is_open, table_numbers}
 use Rattle.seat_book.specs.Tables.{status_at}
 use Rattle.seat_book.specs.Seatings.{Seating, IsSeating}
-use Rattle.seat_book.proofs.Passing.{count_by-cons}
 use Rattle.seat_book.proofs.TakenSeats.{seats_of_places, taken_count-seating}
 use Rattle.seat_book.proofs.TakenPlaces.{seat_count-one_more}
 use Rattle.balance_rule.specs.declared.balance.Move.{Move}
@@ -109,14 +109,10 @@ few_seats (false ∷ set) zero within =
     later set within (suc below) is = let most = within (suc (suc below)) is in omega (arith, most)
 few_seats (first ∷ set) (suc seats) within =
     let counted = count_by-cons (λ is_in. is_in) first set in
-    let one = most_one first in
+    let one = at_most_one first in
     let rest = few_seats set seats (later set within) in
     omega (arith, counted, one, rest)
   where
-    most_one : (b : Bool) → cond {A = ℕ} b 1 0 ≤ 1
-    most_one true = omega arith
-    most_one false = omega arith
-
     later : (set : List Bool) → ((seat : ℕ) → has_seat (first ∷ set) seat ≡ true → seat ≤ suc seats) → (seat : ℕ)
         → has_seat set seat ≡ true → seat ≤ seats
     later set within zero is = absurd cc

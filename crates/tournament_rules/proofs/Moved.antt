@@ -1,9 +1,9 @@
 -- A book is valid once a player who is in no hand moved to an empty place, with his stack.
-use Rattle.std.proofs.Common.{◌≡◌, ◌∙◌, refl, sym, ap, subst, ℕ, ◌+◌, ◌≤◌, Bool, true, false, cond, ◌==◌, ◌&&◌, List, [], ◌∷◌, ◌++◌, map, ◌%◌, ◌⊎◌, inl, inr, arith}
+use Rattle.std.proofs.Common.{◌≡◌, ◌∙◌, refl, sym, ap, subst, ℕ, ◌+◌, ◌≤◌, Bool, true, false, cond, ◌==◌, List, [], ◌∷◌, ◌++◌, map, ◌%◌, ◌⊎◌, inl, inr, arith}
 use Rattle.std.specs.Prelude.{not, find, filter, count_by, sum_by, Some, None}
 use Rattle.std.specs.List.{list_all, All}
 use Rattle.std.specs.Option.{ForSome}
-use Rattle.std.proofs.lemmas.Bool.{and_parts, cases_Bool, eqb-true}
+use Rattle.std.proofs.lemmas.Bool.{and_parts, cases_Bool, eqb-true, and_right}
 use Rattle.std.proofs.lemmas.Option.{same_Some}
 use Rattle.std.proofs.lemmas.List.Elements.{All-filter, All-head, All-tail, filter-append}
 use Rattle.std.proofs.lemmas.List.Sums.{sum_by-append, sum_by-cons, sum_by-insert}
@@ -126,7 +126,8 @@ All-found P test (item ∷ items) found all is =
         subst P (same_Some item found first) here
     by_test false passes here later = later (rw passes at is)
 
-none_gone : {A : Type 0} (gone : A → Bool) (items : List A)
+-- Whom a test takes away is none of the rest.
+pub none_gone : {A : Type 0} (gone : A → Bool) (items : List A)
     → list_all (λ item. not (gone item)) (without gone items) ≡ true
 none_gone gone [] = refl
 none_gone gone (item ∷ items) = by_test (gone item) refl (none_gone gone items)
@@ -198,8 +199,8 @@ valid_moved book player place valid may =
         starts = valid.hands.starts;
         lent = λ table. ap (map start_seat)
             (filter-moved place player players lawful.apart may.found (is_lent table)
-            (has_some (sits_at table player) player.stack may.rests)
-            (has_some (place.table == table) player.stack may.rests)) ∙ valid.hands.lent table;
+            (and_right (sits_at table player) (player.stack == 0) may.rests)
+            (and_right (place.table == table) (player.stack == 0) may.rests)) ∙ valid.hands.lent table;
       };
       chips =
           let same = sum-moved place player players lawful.apart may.found (λ other. other.stack) in
@@ -219,10 +220,6 @@ valid_moved book player place valid may =
       raised = valid.raised;
     }
   where
-    has_some : (here : Bool) (stack : ℕ) → (stack == 0) ≡ false → (here && stack == 0) ≡ false
-    has_some true stack some = some
-    has_some false stack some = refl
-
     still_one : (table : ℕ) (marks : Marks) → (status_at book.seating.tables table).marks ≡ Some marks
         → ((player.place.table == table) ≡ true) ⊎ ((player.place.table == table) ≡ false)
         → 1 ≤ count_at (moved place player book.seating.players) table

@@ -15,7 +15,8 @@ use Rattle.entry_list.specs.Entries.{is_known}
 use Rattle.seat_book.specs.declared.seated.Seated.{Seated}
 use Rattle.seat_book.specs.Players.{is_numbered, are_apart}
 
-other_way : (name other : List ℕ) → bytes_eq name other ≡ false → bytes_eq other name ≡ false
+-- Two names that differ differ whichever is looked at first.
+pub other_way : (name other : List ℕ) → bytes_eq name other ≡ false → bytes_eq other name ≡ false
 other_way name other differ = by_test (bytes_eq other name) refl
   where
     by_test : (b : Bool) → bytes_eq other name ≡ b → b ≡ false

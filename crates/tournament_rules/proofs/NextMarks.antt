@@ -5,6 +5,7 @@ use Rattle.std.specs.Option.{ForSome}
 use Rattle.std.proofs.lemmas.Bool.{cases_Bool}
 use Rattle.std.proofs.lemmas.Bool.Decides.{nat_tests}
 use Rattle.rulebook.specs.Seats.{seat_after, seat_before, walk, next_occupied_after, nearest_occupied_before, lowest_occupied}
+use Rattle.rulebook.proofs.OccupiedSeats.{seat_after-within}
 use Rattle.button_blinds.specs.SeatSets.{no_seats, has_seat}
 use Rattle.button_blinds.specs.Marks.{AreMarksOf, is_heads_up, first_marks, heads_up_marks, moved_marks, marks_after, waiting_between, leaves_fewer_than_three}
 use Rattle.button_blinds.specs.declared.marks.Marks.{Marks}
@@ -28,12 +29,6 @@ walk_seat seats step occupied each (suc steps) seat fallback here other = by_tes
     by_test true later = each seat here
     by_test false later = later
 
-after_first : (seats seat : ℕ) → 1 ≤ seat → seat ≤ seats → 1 ≤ seat_after seats seat
-after_first seats seat first last = grind (arith, nat_tests)
-
-after_last : (seats seat : ℕ) → 1 ≤ seat → seat ≤ seats → seat_after seats seat ≤ seats
-after_last seats seat first last = grind (arith, nat_tests)
-
 before_first : (seats seat : ℕ) → 1 ≤ seat → seat ≤ seats → 1 ≤ seat_before seats seat
 before_first seats seat first last = grind (arith, nat_tests)
 
@@ -44,8 +39,9 @@ before_last seats seat first last = grind (arith, nat_tests)
 pub next_seat : (seats : ℕ) (occupied : ℕ → Bool) (seat : ℕ) → IsSeatOf seats seat
     → IsSeatOf seats (next_occupied_after seats occupied seat)
 next_seat seats occupied seat here =
-    walk_seat seats (seat_after seats) occupied (λ seat here. record
-    { first = after_first seats seat here.first here.last; last = after_last seats seat here.first here.last })
+    walk_seat seats (seat_after seats) occupied
+    (λ seat here. let within = seat_after-within seats seat (omega (arith, here.first, here.last)) in
+    record { first = within.0; last = within.1 })
     seats seat seat here here
 
 -- The nearest occupied seat before one is a seat of the table.

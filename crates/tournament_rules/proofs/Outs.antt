@@ -6,10 +6,10 @@ use Rattle.std.proofs.lemmas.Bool.{eqb-true}
 use Rattle.std.proofs.lemmas.Bool.Decides.{nat_tests}
 use Rattle.std.proofs.lemmas.List.Sums.{sum_by_push, count_by-le-length}
 use Rattle.rulebook.specs.declared.limits.TheConstants.{MOST_ENTRIES}
+use Rattle.rulebook.proofs.Tests.{at_most_one, count_by-cons}
 use Rattle.place_list.specs.declared.bust.Bust.{Bust}
 use Rattle.seat_book.specs.declared.seated.Seated.{Seated}
 use Rattle.seat_book.specs.Players.{is_numbered, place_of, lifted}
-use Rattle.seat_book.proofs.Passing.{count_by-cons}
 use Rattle.tournament_rules.specs.Valid.{AreOnce, rows_owed, is_bust_of}
 
 -- how many items have a key below a number
@@ -70,6 +70,10 @@ bust_number bust = bust.player
 abbrev seat_number : Seated → ℕ
 seat_number player = player.player
 
+-- The number of an entry is owed one row.
+pub one_owed : (number count : ℕ) → number < count → cond {A = ℕ} (nat_lt number count) 1 0 ≡ 1
+one_owed number count within = grind (arith, nat_tests)
+
 -- Of the first so many entries each has one seat or row.
 first_so_many : (entries : List (List ℕ)) (players : List Seated) (busts : List Bust) (count : ℕ)
     → AreOnce entries players busts → count ≤ length entries
@@ -80,14 +84,11 @@ first_so_many entries players busts (suc count) once within =
     let seats = below_next seat_number count players in
     let rows = below_next bust_number count busts in
     let his = once count in
-    let owed = one count (length entries) (omega arith) in
+    let owed = one_owed count (length entries) (omega arith) in
     let rest = first_so_many entries players busts count once (omega arith) in
     let next : count + 1 ≡ suc count = omega arith in
     let here = ap (λ (n : ℕ). count_below seat_number n players + count_below bust_number n busts) next in
     omega (arith, seats, rows, his, owed, rest, here)
-  where
-    one : (number count : ℕ) → number < count → cond {A = ℕ} (nat_lt number count) 1 0 ≡ 1
-    one number count within = grind (arith, nat_tests)
 
 -- Those who sit and those who are out are as many as entered.
 pub all-counted : (entries : List (List ℕ)) (players : List Seated) (busts : List Bust) → AreOnce entries players busts
@@ -126,11 +127,7 @@ none_counted test items none = by_any (list_any test items) refl
 
 -- each number has one row or none
 pub one_row : (entries : List (List ℕ)) (number : ℕ) → rows_owed entries number ≤ 1
-one_row entries number = by_test (nat_lt number (length entries))
-  where
-    by_test : (b : Bool) → cond {A = ℕ} b 1 0 ≤ 1
-    by_test true = omega arith
-    by_test false = omega arith
+one_row entries number = at_most_one (nat_lt number (length entries))
 
 -- A player may leave his seat: he has one, he is not out, and there is room for him.
 pub record MayLeave (players : List Seated) (busts : List Bust) (number : ℕ) : Type 0 where

@@ -1,15 +1,13 @@
 -- What an event that is not refused tells of its checks.
-use Rattle.std.proofs.Common.{◌≡◌, ◌∙◌, refl, sym, ap, ℕ, ◌<◌, Bool, true, false, cond, ◌&&◌, List, ◌∷◌, [], length, arith}
-use Rattle.std.specs.Prelude.{not, nat_le, Option, Some, None, is_some}
+use Rattle.std.proofs.Common.{◌≡◌, ◌∙◌, refl, sym, ap, ℕ, ◌<◌, Bool, true, false, List, [], length}
+use Rattle.std.specs.Prelude.{not, Option, Some, None, is_some}
 use Rattle.std.specs.Prelude.{option_and_then}
 use Rattle.std.specs.Option.{option_map_or, option_or}
-use Rattle.std.specs.List.{list_all}
-use Rattle.std.proofs.lemmas.Bool.{and_parts, not-true}
-use Rattle.std.proofs.lemmas.Bool.Decides.{nat_tests}
+use Rattle.std.proofs.lemmas.Bool.{and_parts, leb-false, not-true}
 use Rattle.rulebook.specs.Checks.{first_that_holds}
 use Rattle.seat_book.specs.Players.{player_at}
 use Rattle.entry_list.specs.Entries.{is_known}
-use Rattle.rulebook.proofs.Checks.{first_that_holds-append}
+use Rattle.rulebook.proofs.Checks.{first_that_holds-append, none_holds}
 use Rattle.rulebook.specs.declared.limits.TheConstants.{MOST_ENTRIES}
 use Rattle.level_plan.specs.declared.line.PlanLine.{PlanLine}
 use Rattle.betting_round.specs.declared.act.Act.{Act}
@@ -21,18 +19,6 @@ use Rattle.tournament_rules.specs.Checks.{book_checks, hand_checks, before_hand_
 use Rattle.tournament_rules.specs.States.{PlayState, hand_of, refusal_of}
 use Rattle.tournament_rules.specs.Apart.{hand_refusal}
 
--- Where no check holds first, none holds.
-pub none_holds : {A : Type 0} (checks : List (A × Bool)) → first_that_holds checks ≡ None
-    → list_all (λ check. not check.1) checks ≡ true
-none_holds [] none = refl
-none_holds (check ∷ checks) none = by_test check.1 none (none_holds checks)
-  where
-    by_test : (holds : Bool) → cond holds (Some check.0) (first_that_holds checks) ≡ None
-        → (first_that_holds checks ≡ None → list_all (λ check. not check.1) checks ≡ true)
-        → (not holds && list_all (λ check. not check.1) checks) ≡ true
-    by_test true none rest = cc
-    by_test false none rest = rest none
-
 pub is_so : (b : Bool) → not (not b) ≡ true → b ≡ true
 is_so true so = refl
 is_so false so = so
@@ -40,10 +26,6 @@ is_so false so = so
 pub none_there : {A : Type 0} (found : Option A) → is_some found ≡ false → found ≡ None
 none_there None absent = refl
 none_there (Some x) absent = cc
-
-pub some_there : {A : Type 0} (found : Option A) → is_some found ≡ true → (x : A) × (found ≡ Some x)
-some_there None there = absurd cc
-some_there (Some x) there = (x, refl)
 
 -- What is so of an entry that is not refused.
 pub record MayEnter (book : BookState) (name : List ℕ) (table seat : ℕ) : Type 0 where
@@ -76,11 +58,8 @@ entry_passed book name table seat none =
       free = none_there _ (not-true _ free.0);
       fewest = not-true _ fewest.0;
       early = not-true _ early.0;
-      room = below (length book.entries) (not-true _ room.0);
+      room = leb-false MOST_ENTRIES (length book.entries) (not-true _ room.0);
     }
-  where
-    below : (count : ℕ) → nat_le MOST_ENTRIES count ≡ false → count < MOST_ENTRIES
-    below count full = grind (arith, nat_tests)
 
 -- Where one refusal or else another tells of none, neither does.
 pub none_of_two : {A : Type 0} (one other : Option A) → option_or one other ≡ None → (one ≡ None) × (other ≡ None)

@@ -3,10 +3,11 @@ use Rattle.std.proofs.Common.{◌≡◌, ◌∙◌, refl, sym, ap, ℕ, ◌+◌,
 use Rattle.std.specs.Prelude.{not, nat_lt, filter, find, fold, drop, sum_by, Option, Some, None}
 use Rattle.std.specs.List.{list_all, list_any}
 use Rattle.std.specs.Option.{option_map_or}
-use Rattle.std.proofs.lemmas.Bool.{and_parts, and_from, not-true, or_parts, eq-eqb, eqb-true}
+use Rattle.std.proofs.lemmas.Bool.{and_parts, and_from, not-true, or_parts, eq-eqb, eqb-true, and_left}
 use Rattle.std.proofs.lemmas.Bool.Decides.{nat_tests}
 use Rattle.std.proofs.lemmas.List.Sums.{sum_by-cons}
 use Rattle.rulebook.specs.Pairs.{are_distinct}
+use Rattle.rulebook.proofs.Tests.{eqb-swap}
 use Rattle.seat_book.specs.declared.seated.Seated.{Seated}
 use Rattle.seat_book.specs.declared.table_status.TableStatus.{TableStatus}
 use Rattle.seat_book.specs.Players.{sits_at, is_numbered, are_apart}
@@ -16,7 +17,7 @@ use Rattle.table_engine.specs.Starts.{chips_of}
 use Rattle.tournament_rules.specs.Players.{start_seat, with_rest, paid, put_back, pay_one}
 use Rattle.tournament_rules.specs.Units.{is_whole_at, AreWhole}
 use Rattle.tournament_rules.specs.Valid.{is_lent}
-use Rattle.tournament_rules.proofs.Members.{eqb-swap, has_number, none_picked}
+use Rattle.tournament_rules.proofs.Members.{has_number, none_picked}
 use Rattle.tournament_rules.proofs.Restacked.{ChangesStacks}
 
 -- the stack that a player has at rest
@@ -211,6 +212,11 @@ pub none_lent : (table : ℕ) (players : List Seated) (payees : List StartSeat) 
 none_lent table players payees apart those above = rw (put_back-in_turn (is_lent table) players payees apart those)
     (none_lent-in_turn table players payees above those.numbers)
 
+-- Who sits at one table sits at no other.
+pub sits_elsewhere : (sits table other : ℕ) → (table == other) ≡ false → (sits == table) ≡ true
+    → (sits == other) ≡ false
+sits_elsewhere sits table other differ same = grind (arith, nat_tests)
+
 lent_elsewhere-step : (table other : ℕ) (player : Seated) (players : List Seated) (payees : List StartSeat) (b : Bool)
     → is_lent table player ≡ b → (table == other) ≡ false
     → ((payees : List StartSeat) → filter (is_lent other) (paid_in_turn (is_lent table) payees players)
@@ -221,20 +227,13 @@ lent_elsewhere-step : (table other : ℕ) (player : Seated) (players : List Seat
 lent_elsewhere-step table other player players payees true is differ rest =
     let away = sits_elsewhere player.place.table table other differ
     (and_parts (sits_at table player) (player.stack == 0) is).0 in
-    rw (not_lent payees, not_there away player.stack) (rest (drop 1 payees))
+    rw (not_lent payees, and_left (sits_at other player) (player.stack == 0) away) (rest (drop 1 payees))
   where
-    sits_elsewhere : (sits table other : ℕ) → (table == other) ≡ false → (sits == table) ≡ true
-        → (sits == other) ≡ false
-    sits_elsewhere sits table other differ same = grind (arith, nat_tests)
-
-    not_there : (sits_at other player) ≡ false → (stack : ℕ) → (sits_at other player && stack == 0) ≡ false
-    not_there away stack = rw away refl
-
     not_lent : (payees : List StartSeat) → is_lent other (first_paid payees player) ≡ false
-    not_lent [] = not_there (sits_elsewhere player.place.table table other differ
-        (and_parts (sits_at table player) (player.stack == 0) is).0) player.stack
-    not_lent (payee ∷ payees) = not_there (sits_elsewhere player.place.table table other differ
-        (and_parts (sits_at table player) (player.stack == 0) is).0) payee.stack
+    not_lent [] = and_left (sits_at other player) (player.stack == 0) (sits_elsewhere player.place.table table other
+        differ (and_parts (sits_at table player) (player.stack == 0) is).0)
+    not_lent (payee ∷ payees) = and_left (sits_at other player) (payee.stack == 0) (sits_elsewhere player.place.table
+        table other differ (and_parts (sits_at table player) (player.stack == 0) is).0)
 lent_elsewhere-step table other player players payees false is differ rest =
     ap (λ (found : List Seated). cond (is_lent other player) (player ∷ found) found) (rest payees)
 

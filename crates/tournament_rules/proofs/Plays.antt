@@ -6,6 +6,7 @@ use Rattle.std.specs.Option.{option_map_or, ForSome}
 use Rattle.std.proofs.lemmas.Bool.{cases_Bool, eqb-true}
 use Rattle.std.proofs.lemmas.List.{get_or-set_same, get_or-set_other, length-replicate}
 use Rattle.std.proofs.lemmas.Option.{same_Some}
+use Rattle.rulebook.proofs.Tests.{some_there}
 use Rattle.floor_text.specs.declared.refusal.Refusal.{Refusal}
 use Rattle.card_set.specs.declared.card.CardRow.{CardRow}
 use Rattle.betting_round.specs.declared.act.Act.{Act}
@@ -28,7 +29,7 @@ use Rattle.tournament_rules.specs.Valid.{IsValidPlay, IsStartAt}
 use Rattle.tournament_rules.specs.Apart.{hand_refusal}
 use Rattle.tournament_rules.proofs.Fitting.{table_range, other_number, table_out}
 use Rattle.tournament_rules.proofs.Ends.{left-void_first, valid_settled, valid_stopped, none_out-stopped}
-use Rattle.tournament_rules.proofs.Passed.{passed-parts, act_passed, time_passed, settle_passed, end_passed, plan_late, go_late, some_there}
+use Rattle.tournament_rules.proofs.Passed.{passed-parts, act_passed, time_passed, settle_passed, end_passed, plan_late, go_late}
 use Rattle.tournament_rules.proofs.Entries.{valid_first, valid_entered, start_none}
 use Rattle.tournament_rules.proofs.Begins.{may_begin, valid_begun}
 use Rattle.tournament_rules.proofs.Balances.{valid_balanced}

@@ -1,7 +1,7 @@
 -- A race changes its own table alone, and between two levels a table races once at most.
-use Rattle.std.proofs.Common.{◌≡◌, ◌≢◌, ◌∙◌, refl, sym, ap, ℕ, zero, suc, ◌+◌, ◌-◌, Bool, true, false, cond, ◌==◌, List, [], ◌∷◌, map, get_or, arith}
+use Rattle.std.proofs.Common.{◌≡◌, ◌≢◌, ◌∙◌, refl, sym, ap, ℕ, zero, suc, ◌+◌, ◌-◌, Bool, true, false, cond, ◌==◌, List, [], ◌∷◌, map, get_or}
 use Rattle.std.specs.Prelude.{nat_lt, slice_set, if◌then◌else◌, Option, Some, None}
-use Rattle.std.proofs.lemmas.Bool.Decides.{nat_tests}
+use Rattle.std.proofs.lemmas.Bool.{ne_eqb}
 use Rattle.floor_text.specs.declared.refusal.Refusal.TheVariants.{NoPlan}
 use Rattle.card_set.specs.declared.card.CardRow.{CardRow}
 use Rattle.level_plan.specs.Plans.{unit_of_level}
@@ -21,10 +21,8 @@ use Rattle.tournament_rules.proofs.Fitting.{status_elsewhere}
 use Rattle.tournament_rules.proofs.Kept.{IsKept, status_kept, run_keeps, run_some}
 use Rattle.tournament_rules.proofs.MoveLaws.{not_refused}
 use Rattle.tournament_rules.proofs.Passed.{passed-parts}
+use Rattle.tournament_rules.proofs.Paying.{sits_elsewhere}
 use Rattle.tournament_rules.proofs.Races.{race_passed}
-
-differ : (one other : ℕ) → other ≢ one → (one == other) ≡ false
-differ one other apart = grind (arith, nat_tests)
 
 -- A race leaves the status of each other table.
 pub race-tables : (play : PlayState) (table other : ℕ) (row : CardRow) → other ≢ table
@@ -32,7 +30,7 @@ pub race-tables : (play : PlayState) (table other : ℕ) (row : CardRow) → oth
 race-tables play table other row apart =
     kept_after (λ play. status_at play.book.seating.tables other) play (Race table row)
     (status_elsewhere play.book.seating.tables table other (raced_off (status_at play.book.seating.tables table))
-    (differ table other apart))
+    (ne_eqb table other (λ same. apart (sym same))))
 
 -- A race leaves the players of each other table.
 pub race-players : (play : PlayState) (table other : ℕ) (row : CardRow) → other ≢ table
@@ -41,12 +39,9 @@ pub race-players : (play : PlayState) (table other : ℕ) (row : CardRow) → ot
 race-players play table other row apart =
     kept_after (λ play. players_at play.book.seating.players other) play (Race table row)
     (by_list (race_at play.book.seating table row.cards).stacks play.book.seating.players
-    (differ other table (λ same. apart (sym same))))
+    (ne_eqb table other (λ same. apart (sym same))))
   where
-    away : (sits : ℕ) → (other == table) ≡ false → (sits == table) ≡ true → (sits == other) ≡ false
-    away sits differ same = grind (arith, nat_tests)
-
-    by_list : (stacks : List ℕ) (players : List Seated) → (other == table) ≡ false
+    by_list : (stacks : List ℕ) (players : List Seated) → (table == other) ≡ false
         → players_at (map (restacked table stacks) players) other ≡ players_at players other
     by_list stacks [] differ = refl
     by_list stacks (player ∷ players) differ =
@@ -56,7 +51,7 @@ race-players play table other row apart =
             → players_at (map (restacked table stacks) players) other ≡ players_at players other
             → players_at (cond b (with_rest player (get_or stacks (player.place.seat - 1) 0)) player
             ∷ map (restacked table stacks) players) other ≡ players_at (player ∷ players) other
-        by_table true is rest = rw (away player.place.table differ is, rest) refl
+        by_table true is rest = rw (sits_elsewhere player.place.table table other differ is, rest) refl
         by_table false is rest = rw rest refl
 
 -- A race leaves each hand that is out.

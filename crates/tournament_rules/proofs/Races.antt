@@ -9,8 +9,11 @@ use Rattle.std.proofs.lemmas.List.{length-map}
 use Rattle.std.proofs.lemmas.List.FromFn.{length-enumerate_from}
 use Rattle.std.proofs.lemmas.List.Sums.{sum_by-cons, sum_by-set, sum_by-le, sum_by-le-sum_by}
 use Rattle.std.proofs.Math.Nat.{mul-mod_right}
+use Rattle.std.proofs.Math.Bool.{and-false}
 use Rattle.rulebook.specs.Seats.{walk}
 use Rattle.rulebook.specs.Pairs.{is_pairwise}
+use Rattle.rulebook.proofs.Checks.{none_holds}
+use Rattle.rulebook.proofs.Tests.{eqb-swap, some_there}
 use Rattle.card_set.specs.declared.card.Card.{Card}
 use Rattle.card_set.specs.declared.card.CardRow.{CardRow}
 use Rattle.card_set.specs.Decks.{IsDeck}
@@ -45,7 +48,7 @@ use Rattle.tournament_rules.proofs.DealtIn.{none_first, nothing_whole}
 use Rattle.tournament_rules.proofs.Entries.{right_has}
 use Rattle.tournament_rules.proofs.Fitting.{table_range, status_here, status_elsewhere, each_status, seating_changed}
 use Rattle.tournament_rules.proofs.Paying.{stack_of}
-use Rattle.tournament_rules.proofs.Passed.{none_holds, is_so, some_there}
+use Rattle.tournament_rules.proofs.Passed.{is_so}
 use Rattle.tournament_rules.proofs.Restacked.{ChangesStacks, count_changed, entered_changed}
 use Rattle.tournament_rules.proofs.SitDown.{sits_before, in_order-pairs}
 use Rattle.tournament_rules.proofs.Units.{next_times, small_unit}
@@ -180,17 +183,13 @@ lent-raced stacks table other (player ∷ players) none above =
     (list_all (λ player. not (sits_at table player && by_seat stacks player == 0)) players) above in
     by_table (sits_at table player) lent.0 parts.0 (lent-raced stacks table other players lent.1 parts.1)
   where
-    no_one : (b : Bool) → (b && false) ≡ false
-    no_one true = refl
-    no_one false = refl
-
     by_table : (b : Bool) → (b && player.stack == 0) ≡ false → not (b && by_seat stacks player == 0) ≡ true
         → filter (is_lent other) (map (restacked table stacks) players) ≡ filter (is_lent other) players
         → filter (is_lent other) (cond b (with_rest player (by_seat stacks player)) player
         ∷ map (restacked table stacks) players) ≡ filter (is_lent other) (player ∷ players)
     by_table true before after rest =
         let now = not-true (by_seat stacks player == 0) after in
-        let off = no_one (sits_at other player) in
+        let off = and-false (sits_at other player) in
         rw (now, before, off) rest
     by_table false before after rest = rw rest refl
 
@@ -210,9 +209,6 @@ whole-raced tables after table stacks (player ∷ players) same whole size withi
     (arith, size, seat.0, seat.1))))
     (whole-raced tables after table stacks players same whole size here.1 parts.1)
   where
-    turned : (one other : ℕ) → (one == other) ≡ false → (other == one) ≡ false
-    turned one other differ = grind (arith, nat_tests)
-
     by_table : (b : Bool) → sits_at table player ≡ b → is_whole_at tables player ≡ true
         → by_seat stacks player % (status_at after table).unit ≡ 0
         → is_whole_at after (cond b (with_rest player (by_seat stacks player)) player) ≡ true
@@ -221,7 +217,7 @@ whole-raced tables after table stacks (player ∷ players) same whole size withi
         ap (λ (number : ℕ). by_seat stacks player % (status_at after number).unit == 0) at ∙ eq-eqb _ 0 now
     by_table false is his now =
         ap (λ (unit : ℕ). player.stack % unit == 0)
-        (same player.place.table (turned player.place.table table is)) ∙ his
+        (same player.place.table (eqb-swap table player.place.table ∙ is)) ∙ his
 
 -- A race from the old unit to the new one may be made of these stacks.
 pub record CanRace (stacks : List ℕ) (old new : ℕ) : Type 0 where

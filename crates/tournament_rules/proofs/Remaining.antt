@@ -1,14 +1,14 @@
 -- Somebody stays at a table when a hand there is settled.
 use Rattle.std.proofs.Common.{◌≡◌, ◌∙◌, refl, ap, ℕ, suc, ◌%◌, ◌<◌, ◌≤◌, Bool, true, false, cond, ◌==◌, ◌&&◌, List, [], ◌∷◌, map, length, arith}
 use Rattle.std.specs.Prelude.{filter, count_by, nat_lt, Option, Some}
-use Rattle.std.proofs.lemmas.Bool.{and_parts, eqb-true}
+use Rattle.std.proofs.lemmas.Bool.{and_parts, eqb-true, ltb-true}
 use Rattle.std.proofs.lemmas.Bool.Decides.{nat_tests}
 use Rattle.std.proofs.lemmas.List.{length-map}
 use Rattle.std.proofs.lemmas.List.Sums.{sum_by-cons}
+use Rattle.rulebook.proofs.Tests.{count_by-cons}
 use Rattle.seat_book.specs.declared.seated.Seated.{Seated}
 use Rattle.seat_book.specs.Players.{sits_at, are_apart}
 use Rattle.seat_book.specs.Counts.{count_at}
-use Rattle.seat_book.proofs.Passing.{count_by-cons}
 use Rattle.table_engine.specs.declared.start.HandStart.{HandStart}
 use Rattle.table_engine.specs.declared.start.StartSeat.{StartSeat}
 use Rattle.table_engine.specs.Starts.{chips_of, have_playable_stacks, is_playable_stack}
@@ -91,11 +91,8 @@ some_chips unit (starter ∷ starters) playable two =
     let parts = and_parts (is_playable_stack unit starter.stack) (have_playable_stacks unit starters) playable in
     let his = and_parts (nat_lt 0 starter.stack) (starter.stack % unit == 0) parts.0 in
     let whole = sum_by-cons (λ (starter : StartSeat). starter.stack) starter starters in
-    let some = above starter.stack his.0 in
+    let some = ltb-true 0 starter.stack his.0 in
     omega (arith, whole, some)
-  where
-    above : (stack : ℕ) → nat_lt 0 stack ≡ true → 0 < stack
-    above stack is = grind (arith, nat_tests)
 
 -- Where chips went back to those who had nothing at rest at a table, somebody there has some.
 pub somebody_stays : (table : ℕ) (players : List Seated) (payees : List StartSeat) (unit : ℕ)

@@ -1,7 +1,8 @@
 -- In a round of hand-for-hand no table begins twice.
 use Rattle.std.proofs.Common.{◌≡◌, ◌≢◌, ◌∙◌, refl, sym, ap, ℕ, zero, suc, Bool, true, false, List, [], ◌∷◌, map, get_or, arith}
 use Rattle.std.specs.Prelude.{Some, None}
-use Rattle.std.proofs.lemmas.Bool.{and_parts, not-true}
+use Rattle.std.proofs.lemmas.Bool.{and_parts, not-true, both_ways}
+use Rattle.rulebook.proofs.Checks.{none_holds}
 use Rattle.card_set.specs.declared.card.CardRow.{CardRow}
 use Rattle.seat_book.specs.declared.table_status.TableStatus.{TableStatus}
 use Rattle.seat_book.specs.Tables.{fresh_status, status_at}
@@ -21,7 +22,7 @@ use Rattle.tournament_rules.proofs.Begins.{may_begin}
 use Rattle.tournament_rules.proofs.Fitting.{table_range, status_here}
 use Rattle.tournament_rules.proofs.Kept.{IsKept, status_kept, hands_kept, is_turn, run_keeps, run_some}
 use Rattle.tournament_rules.proofs.MoveLaws.{not_refused}
-use Rattle.tournament_rules.proofs.Passed.{none_holds, passed-parts}
+use Rattle.tournament_rules.proofs.Passed.{passed-parts}
 
 begun-playing : (tables : List TableStatus) (table : ℕ)
     → (status_at (map (begun_by (begins_with true)) tables) table).begun ≡ (status_at tables table).playing
@@ -42,10 +43,7 @@ not_on_again book on none =
     let all = none_holds (book_checks book (events.Hands true)) none in
     let going = and_parts _ _ all in
     let off = not-true book.seating.hands (and_parts _ _ going.1).0 in
-    both_ways on off
-  where
-    both_ways : {b : Bool} → b ≡ true → b ≡ false → ⊥
-    both_ways one other = let both = sym one ∙ other in absurd cc
+    both_ways book.seating.hands off on
 
 -- No event but the end of a round switches hand-for-hand, or ends a round, while it is on.
 pub no_turn : (play : PlayState) (event : Event) → ends_round event ≡ false → refusal_of play event ≡ None

@@ -13,6 +13,8 @@ use Rattle.seat_book.specs.Places.{comes_before}
 use Rattle.seat_book.specs.Players.{sits_in, is_numbered, player_at, sit_down, are_in_order, are_apart}
 use Rattle.seat_book.specs.Seatings.{Seating, IsSeating, sits_within, is_entry}
 use Rattle.rulebook.proofs.Pairs.{is_pairwise-between}
+use Rattle.rulebook.proofs.Tests.{eqb-swap}
+use Rattle.seat_book.proofs.PlaceOrder.{before-back, before-before}
 use Rattle.tournament_rules.proofs.Insertions.{list_all-insert, is_pairwise-insert}
 
 -- The place of a player comes before that of another.
@@ -40,16 +42,6 @@ after_other : (a b x y : ℕ) → ((a == x) && (b == y)) ≡ false
     → comes_before (record { table = x; seat = y }) (record { table = a; seat = b }) ≡ true
 after_other a b x y differ late = grind (arith, nat_tests)
 
-comes_before_all : (a b x y v w : ℕ)
-    → comes_before (record { table = a; seat = b }) (record { table = x; seat = y }) ≡ true
-    → comes_before (record { table = x; seat = y }) (record { table = v; seat = w }) ≡ true
-    → comes_before (record { table = a; seat = b }) (record { table = v; seat = w }) ≡ true
-comes_before_all a b x y v w first second = grind (arith, nat_tests)
-
-not_back : (a b x y : ℕ) → comes_before (record { table = a; seat = b }) (record { table = x; seat = y }) ≡ true
-    → comes_before (record { table = x; seat = y }) (record { table = a; seat = b }) ≡ false
-not_back a b x y first = grind (arith, nat_tests)
-
 -- whoever comes before a player comes before all who come after that one
 before_later : (new first : Seated) (players : List Seated) → sits_before new first ≡ true
     → list_all (sits_before first) players ≡ true → list_all (sits_before new) players ≡ true
@@ -61,7 +53,7 @@ before_later new first (next ∷ players) before later =
     before_all : (new first next : Seated) → sits_before new first ≡ true → sits_before first next ≡ true
         → sits_before new next ≡ true
     before_all new first next before later =
-        comes_before_all new.place.table new.place.seat first.place.table first.place.seat next.place.table
+        before-before new.place.table new.place.seat first.place.table first.place.seat next.place.table
         next.place.seat before later
 
 -- the first of a list counts for one, or for none
@@ -76,7 +68,7 @@ none_back : (new : Seated) (players : List Seated) → list_all (sits_before new
 none_back new [] later = refl
 none_back new (next ∷ players) later =
     let parts = and_parts (sits_before new next) (list_all (sits_before new) players) later in
-    let back = not_back new.place.table new.place.seat next.place.table next.place.seat parts.0 in
+    let back = before-back new.place.table new.place.seat next.place.table next.place.seat parts.0 in
     let one = count-first (λ other. sits_before other new) next players false back in
     omega (arith, one, none_back new players parts.1)
 
@@ -136,10 +128,7 @@ other_way : (new : Seated) (players : List Seated) → list_all (differs new) pl
 other_way new [] all = refl
 other_way new (player ∷ players) all =
     let parts = and_parts (differs new player) (list_all (differs new) players) all in
-    and_from _ _ (back new.player player.player parts.0) (other_way new players parts.1)
-  where
-    back : (a b : ℕ) → not (b == a) ≡ true → not (a == b) ≡ true
-    back a b differ = grind (arith, nat_tests)
+    and_from _ _ (ap not (eqb-swap new.player player.player) ∙ parts.0) (other_way new players parts.1)
 
 -- A player with a new number leaves the numbers apart.
 pub apart-sit_down : (new : Seated) (players : List Seated) → are_apart players ≡ true

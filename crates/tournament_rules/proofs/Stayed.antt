@@ -2,19 +2,19 @@
 use Rattle.std.proofs.Common.{◌≡◌, ◌∙◌, refl, sym, ap, ℕ, ◌+◌, ◌≤◌, Bool, true, false, cond, ◌==◌, ◌&&◌, List, [], ◌∷◌, ◌++◌, map, get_or, arith}
 use Rattle.std.specs.Prelude.{not, nat_le, drop, filter, count_by, sum_by, slice_get, Option, Some}
 use Rattle.std.specs.List.{list_all, list_any, All}
-use Rattle.std.proofs.lemmas.Bool.{and_parts, and_from}
+use Rattle.std.proofs.lemmas.Bool.{and_parts, and_from, le-leb}
 use Rattle.std.proofs.lemmas.Bool.Decides.{nat_tests}
 use Rattle.std.proofs.lemmas.List.Folds.{list_all-append}
 use Rattle.std.proofs.lemmas.List.Sums.{sum_by-append, sum_by-cons}
 use Rattle.std.proofs.lemmas.List.Elements.{All-filter, All-head, All-tail}
 use Rattle.rulebook.specs.Pairs.{is_pairwise}
+use Rattle.rulebook.proofs.Tests.{count_by-cons, list_all-kept}
 use Rattle.level_plan.specs.Plans.{PlanTerms}
 use Rattle.place_list.specs.declared.bust.Bust.{Bust}
 use Rattle.seat_book.specs.declared.seated.Seated.{Seated}
 use Rattle.seat_book.specs.Players.{sits_at, is_numbered, are_apart}
 use Rattle.seat_book.specs.Counts.{count_at}
 use Rattle.seat_book.specs.Seatings.{Seating, IsSeating, sits_within, is_entry}
-use Rattle.seat_book.proofs.Passing.{count_by-cons}
 use Rattle.table_engine.specs.declared.start.HandStart.{HandStart}
 use Rattle.table_engine.specs.declared.start.StartSeat.{StartSeat}
 use Rattle.table_engine.proofs.Chips.{sum_by-map}
@@ -36,15 +36,7 @@ who_stay table players = without (is_lent table) players
 -- What all pass, those who stay pass.
 pub all_stay : {A : Type 0} (test gone : A → Bool) (items : List A) → list_all test items ≡ true
     → list_all test (without gone items) ≡ true
-all_stay test gone [] all = refl
-all_stay test gone (item ∷ items) all =
-    let parts = and_parts (test item) (list_all test items) all in
-    by_test (gone item) parts.0 (all_stay test gone items parts.1)
-  where
-    by_test : (b : Bool) → test item ≡ true → list_all test (without gone items) ≡ true
-        → list_all test (cond (not b) (item ∷ without gone items) (without gone items)) ≡ true
-    by_test true here rest = rest
-    by_test false here rest = and_from _ _ here rest
+all_stay test gone items all = list_all-kept test (λ item. not (gone item)) items all
 
 -- What holds between each two holds between those who stay.
 pub pairs_stay : {A : Type 0} (test : A → A → Bool) (gone : A → Bool) (items : List A)
@@ -289,9 +281,6 @@ once_left entries table group leaving players busts once same = λ number.
     let before = once number in
     omega (arith, parts, out, rows, before)
 
-no_later : (group next : ℕ) → group ≤ next → nat_le group next ≡ true
-no_later group next most = grind (arith, nat_tests)
-
 pub same_group : (group : ℕ) → nat_le group group ≡ true
 same_group group = grind (arith, nat_tests)
 
@@ -319,7 +308,7 @@ grouped_left group next leaving busts most grouped = record {
   groups = pairs busts grouped.groups grouped.past;
   past = list_all-append (λ (bust : Bust). nat_le bust.group next) busts (map (bust_of group) leaving)
       ∙ and_from _ _ (past_later busts group next most grouped.past)
-      (all_in_group (λ other. nat_le other next) group leaving (no_later group next most));
+      (all_in_group (λ other. nat_le other next) group leaving (le-leb group next most));
 }
   where
     in_one : (leaving : List StartSeat)

@@ -3,10 +3,11 @@ use Rattle.std.proofs.Common.{◌≡◌, ◌≢◌, ◌∙◌, refl, sym, ap, �
 use Rattle.std.specs.Prelude.{not, nat_lt, filter, count_by, Option, Some, None}
 use Rattle.std.specs.List.{list_all, list_any}
 use Rattle.std.specs.Option.{option_map_or, ForSome}
-use Rattle.std.proofs.lemmas.Bool.{and_parts, not-true, eqb-true}
+use Rattle.std.proofs.lemmas.Bool.{and_parts, not-true, eqb-true, or_right}
 use Rattle.std.proofs.lemmas.Bool.Decides.{nat_tests}
 use Rattle.std.proofs.lemmas.List.Sums.{sum_by-insert}
 use Rattle.card_set.specs.declared.card.CardRow.{CardRow}
+use Rattle.rulebook.proofs.Tests.{at_most_one}
 use Rattle.button_blinds.specs.declared.marks.Marks.{Marks}
 use Rattle.seat_book.specs.declared.place.Place.{Place}
 use Rattle.seat_book.specs.declared.seated.Seated.{Seated}
@@ -63,11 +64,7 @@ lent_sits number table (player ∷ players) among = by_test (is_lent table playe
         let parts = and_parts (sits_at table player) (player.stack == 0) lent in
         either (player.player == number) (list_any (sits_numbered number table) players) (sits_at table player)
         (list_any (has_number number) (map start_seat (filter (is_lent table) players))) some parts.0 rest
-    by_test false lent some rest = later (sits_numbered number table player) (rest some)
-      where
-        later : (b : Bool) {c : Bool} → c ≡ true → (b || c) ≡ true
-        later true is = refl
-        later false is = is
+    by_test false lent some rest = or_right (sits_numbered number table player) _ (rest some)
 
 -- Where none has a number, none of that number sits at a table.
 none_sits : (number table : ℕ) (players : List Seated) → list_all (λ other. not (is_numbered number other)) players
@@ -206,7 +203,7 @@ entered_few state play name table seat other is accepted could =
     let behind = count_by (λ other. comes_before other.place new.place) book.seating.players in
     let here = sum_by-insert (λ player. cond {A = ℕ} (sits_at table player) 1 0) book.seating.players behind new in
     let there = sum_by-insert (λ player. cond {A = ℕ} (sits_at other player) 1 0) book.seating.players behind new in
-    let one = most_one (table == table) in
+    let one = at_most_one (table == table) in
     let taken = ap is_accepted accepted in
     let next : (state_after state (Enter name table seat)).play ≡ Some (play_effect play (Enter name table seat)) = rw
     (taken, is) refl in
@@ -217,10 +214,6 @@ entered_few state play name table seat other is accepted could =
   where
     no_fewer : (may : Bool) (count mine : ℕ) → may ≡ true → (may && nat_lt count mine) ≡ false → mine ≤ count
     no_fewer may count mine could none = grind (arith, nat_tests)
-
-    most_one : (b : Bool) → cond {A = ℕ} b 1 0 ≤ 1
-    most_one true = omega arith
-    most_one false = omega arith
 
 -- Nobody sits at a table that an accepted break broke.
 pub left_after : (state : State) (play : PlayState) (table : ℕ) (places : List Place) (names : List (List ℕ))

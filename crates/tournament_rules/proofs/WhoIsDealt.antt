@@ -4,7 +4,7 @@ use Rattle.std.specs.Prelude.{not, count_by, filter}
 use Rattle.std.specs.List.{list_all, list_any}
 use Rattle.std.proofs.lemmas.Bool.{and_parts, and_from, or_left, or_right, or_cases, cases_Bool, eq-eqb, eqb-true}
 use Rattle.rulebook.specs.Pairs.{are_rising, are_distinct}
-use Rattle.rulebook.proofs.Tests.{list_all-filter}
+use Rattle.rulebook.proofs.Tests.{list_all-filter, eqb-swap, list_all-kept}
 use Rattle.button_blinds.specs.SeatSets.{no_seats, has_seat, with_seat, with_seats, seat_count}
 use Rattle.button_blinds.proofs.SeatSetLaws.{has_seat-with_seat, no_seats-none}
 use Rattle.button_blinds.proofs.Distances.{dominated}
@@ -14,7 +14,6 @@ use Rattle.seat_book.specs.Players.{sits_at, is_numbered, taken_seats, places_of
 use Rattle.seat_book.proofs.TakenSeats.{sits_in_seats, seats_at, seats_rise, taken_count}
 use Rattle.table_engine.specs.declared.start.StartSeat.{StartSeat}
 use Rattle.tournament_rules.specs.Players.{start_seat, is_dealt_in, dealt_seats}
-use Rattle.tournament_rules.proofs.Members.{eqb-swap}
 use Rattle.tournament_rules.proofs.SitDown.{count-first}
 
 -- some of the players are in order too
@@ -27,17 +26,6 @@ ordered_filter keep (player ∷ players) ordered =
     elim (cases_Bool (keep player)) [
       | inl kept ↦ rw kept (and_from _ _
           (list_all-filter (comes_before player.place) (λ player. player.place) keep players parts.0) rest)
-      | inr left ↦ rw left rest
-    ]
-
-within_filter : (seats : ℕ) (keep : Seated → Bool) (players : List Seated)
-    → list_all (sits_in_seats seats) players ≡ true → list_all (sits_in_seats seats) (filter keep players) ≡ true
-within_filter seats keep [] within = refl
-within_filter seats keep (player ∷ players) within =
-    let parts = and_parts (sits_in_seats seats player) (list_all (sits_in_seats seats) players) within in
-    let rest = within_filter seats keep players parts.1 in
-    elim (cases_Bool (keep player)) [
-      | inl kept ↦ rw kept (and_from _ _ parts.0 rest)
       | inr left ↦ rw left rest
     ]
 
@@ -157,7 +145,8 @@ few_wait : (table : ℕ) (waiting : List Bool) (players : List Seated) → are_i
 few_wait table waiting players ordered within =
     let those = filter (λ (player : Seated). has_seat waiting player.place.seat) players in
     let counted = taken_count table those (ordered_filter (λ player. has_seat waiting player.place.seat) players
-    ordered) (within_filter 10 (λ player. has_seat waiting player.place.seat) players within) in
+    ordered) (list_all-kept (sits_in_seats 10) (λ player. has_seat waiting player.place.seat) players
+    within) in
     let fewer = dominated (taken_seats those table) waiting (λ k there.
     from_other no_seats waiting (seats_at table those) (λ seat put. let none = no_seats-none seat in absurd cc)
     (all_wait table waiting players) (suc k) there) in

@@ -6,6 +6,8 @@ use Rattle.std.specs.Str.{bytes_eq}
 use Rattle.std.proofs.lemmas.Bool.{and_parts, not-true, eq-eqb}
 use Rattle.std.proofs.lemmas.List.Elements.{All-head, All-tail}
 use Rattle.rulebook.specs.Pairs.{are_distinct}
+use Rattle.rulebook.proofs.Checks.{none_holds}
+use Rattle.rulebook.proofs.Tests.{some_there}
 use Rattle.card_set.specs.declared.card.Card.{Card}
 use Rattle.betting_round.specs.declared.act.Act.{Act}
 use Rattle.place_list.proofs.Counts.{count_by-some}
@@ -27,7 +29,7 @@ use Rattle.tournament_rules.proofs.Members.{has_number, none_picked, any_without
 use Rattle.tournament_rules.proofs.Outs.{one_row}
 use Rattle.tournament_rules.proofs.SitDown.{none_numbered}
 use Rattle.tournament_rules.proofs.Names.{IsNamed, names_differ}
-use Rattle.tournament_rules.proofs.Passed.{none_holds, is_so, some_there, passed-parts, act_passed}
+use Rattle.tournament_rules.proofs.Passed.{is_so, passed-parts, act_passed}
 use Rattle.tournament_rules.proofs.Steps.{accepted_none}
 
 -- Who is out has no seat.

@@ -1,7 +1,7 @@
 use Rattle.std.proofs.Common.{◌∙◌, sym}
 use Rattle.rulebook.specs.Seats.{seat_after}
+use Rattle.rulebook.proofs.Walks.{find_passed}
 use Rattle.betting_round.specs.WhoIsDue.{is_there, may_be_due, player_at}
-use Rattle.betting_round.proofs.Walks.{find_passed}
 use Rattle.betting_round.proofs.turn.first_to_act.Goals as goal
 
 pub loop-step-preserved : goal.loop-step-preserved

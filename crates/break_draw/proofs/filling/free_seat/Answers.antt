@@ -1,6 +1,7 @@
 use Rattle.std.proofs.Common.{◌≡◌, ◌∙◌, ◌||◌, ◌&&◌, refl, sym, ap, Bool, true, false, not, length, arith}
 use Rattle.std.specs.List.{list_any}
 use Rattle.std.specs.Option.{is_some}
+use Rattle.std.proofs.Math.Bool.{or-false}
 use Rattle.std.proofs.lemmas.List.{take_all}
 use Rattle.button_blinds.specs.SeatSets.{has_seat}
 use Rattle.seat_book.specs.Players.{player_at}
@@ -8,10 +9,6 @@ use Rattle.seat_book.proofs.TakenPlaces.{has_seat-taken, taken-size}
 use Rattle.balance_rule.specs.Filling.{is_same_place, is_free}
 use Rattle.balance_rule.proofs.FreeSeats.{first-alike}
 use Rattle.break_draw.proofs.filling.free_seat.Goals as goal
-
-or_false : (b : Bool) → (b || false) ≡ b
-or_false true = refl
-or_false false = refl
 
 neither : (one other : Bool) → not (one || other) ≡ (not one && not other)
 neither true other = refl
@@ -21,7 +18,7 @@ pub loop-place-init : goal.loop-place-init
 loop-place-init c = record {
   taken = λ seat first last. ap (λ set. has_seat set seat) c.occupied-taken.ensures.taken
       ∙ (has_seat-taken c.args.table seat first last c.args.book.now.players
-      ∙ sym (or_false (is_some (player_at c.args.book.now.players (record { table = c.args.table; seat = seat })))));
+      ∙ sym (or-false (is_some (player_at c.args.book.now.players (record { table = c.args.table; seat = seat })))));
   few = omega (arith, c.occupied-taken.ensures.count);
   size = ap length c.occupied-taken.ensures.taken ∙ taken-size c.args.book.now.players c.args.table;
 }

@@ -1,7 +1,8 @@
 use Rattle.std.proofs.Common.{◌≡◌, ◌∙◌, get_or, length, ap, arith}
+use Rattle.std.proofs.lemmas.List.{get_or_default}
 use Rattle.std.proofs.lemmas.List.Edits.{map_over_more}
 use Rattle.pot_layers.specs.Standings.{grown}
-use Rattle.pot_layers.proofs.Raised.{no_standing, total-within, at-turn, same-item, length-at_turn}
+use Rattle.pot_layers.proofs.Raised.{no_standing, total-within, at-turn, length-at_turn}
 use Rattle.pot_layers.proofs.standing.grow.Goals as goal
 
 pub grown-requires-clause-fits : goal.grown-requires-clause-fits
@@ -21,5 +22,5 @@ loop-index-preserved c =
     rw c.grown.ensures
     (map_over_more (grown c.args.before c.args.after) c.args.standings.now c.loop-index.standings c.loop-index.index
     (get_or c.loop-index.standings c.loop-index.index no_standing) (omega arith) c.loop-index.invariant
-    (same-item c.loop-index.standings c.loop-index.index no_standing
+    (get_or_default c.loop-index.standings c.loop-index.index no_standing
     (get_or c.loop-index.standings c.loop-index.index no_standing) (omega (arith, same))))

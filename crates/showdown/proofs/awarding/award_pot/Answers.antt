@@ -1,6 +1,7 @@
-use Rattle.std.proofs.Common.{◌≡◌, ◌∙◌, ◌≤◌, ℕ, List, Bool, true, false, length, refl, ap, sym, subst, arith}
+use Rattle.std.proofs.Common.{◌≡◌, ◌∙◌, ◌≤◌, ℕ, List, true, false, length, ap, sym, subst, arith}
 use Rattle.std.specs.Prelude.{◌==◌, ◌||◌, sum}
 use Rattle.std.specs.List.{list_all}
+use Rattle.std.proofs.lemmas.Bool.{or_right}
 use Rattle.std.proofs.lemmas.Bool.Decides.{nat_tests}
 use Rattle.button_blinds.specs.SeatSets.{seat_count}
 use Rattle.pot_layers.specs.Layers.{are_same_seats}
@@ -21,10 +22,6 @@ zero-count n count is none = grind (arith, nat_tests)
 some-count : (n count : ℕ) → count ≡ n → (count ≡ 0 → ⊥) → (n == 0) ≡ false
 some-count n count is some = grind (arith, nat_tests)
 
-or-right : (a b : Bool) → b ≡ true → (a || b) ≡ true
-or-right true b is = refl
-or-right false b is = is
-
 pub returns-then-count-eq0 : goal.returns-then-count-eq0
 returns-then-count-eq0 c =
     let highs = c.winners-highs.ensures ∙ ap (winners High) c.in_play-rivals.ensures.rivals in
@@ -36,7 +33,7 @@ returns-then-count-eq0 c =
       | then-count-eq0-via-then-count-eq0 w ↦
           rw (zero-count (seat_count c.winners-lows.result) c.count.result c.count.ensures.count w.if-count-eq0.true)
       | then-count-eq0-via-else-count-eq0+then-eq w ↦
-          or-right (seat_count c.winners-lows.result == 0) (are_same_seats c.winners-highs.result c.winners-lows.result)
+          or_right (seat_count c.winners-lows.result == 0) (are_same_seats c.winners-highs.result c.winners-lows.result)
           (sym (pointwise-same c.winners-highs.result c.winners-lows.result) ∙ sym w.eq.ensures ∙ w.if-eq.true)
     ]) in
     c.split.ensures

@@ -1,5 +1,5 @@
 use Rattle.std.proofs.Common.{◌≡◌, ◌∙◌, None, true, false, get_or, length, ap, sym, add-one, arith}
-use Rattle.pot_layers.proofs.Raised.{same-item}
+use Rattle.std.proofs.lemmas.List.{get_or_default}
 use Rattle.button_blinds.specs.SeatSets.{has_seat}
 use Rattle.showdown.specs.Winners.{in_play}
 use Rattle.showdown.proofs.Writes.{written-next, written-all, length-in_play, get_or-in_play}
@@ -17,7 +17,7 @@ loop-index-preserved c =
       | then-has w ↦
           let sits : get_or c.args.eligible c.loop-index.index false ≡ true = cc (c.has.ensures, w.if-has.true, seat) in
           w.rivals-is ∙ sym (own
-          ∙ rw sits (same-item c.args.hands.now c.loop-index.index None w.index-hands-index.result
+          ∙ rw sits (get_or_default c.args.hands.now c.loop-index.index None w.index-hands-index.result
           (omega (arith, c.requires))))
       | else-has w ↦
           let nobody : get_or c.args.eligible c.loop-index.index false ≡ false =

@@ -1,9 +1,9 @@
-use Rattle.std.proofs.Common.{◌≡◌, ◌∙◌, ◌≤◌, true, false, Bool, ◌&&◌, not, refl, sym, subst, arith}
+use Rattle.std.proofs.Common.{◌∙◌, ◌≤◌, sym, subst, arith}
 use Rattle.hand_rank.specs.Sets.{has_rank}
 use Rattle.hand_rank.specs.SoMany.{IsGreatestWith}
 use Rattle.hand_rank.proofs.PickLaws.{highest-is, highest-none}
 use Rattle.hand_rank.proofs.Sections.{falling-none}
-use Rattle.hand_rank.proofs.SoManyLaws.{some-rank, both-are, taken-none, taken-more, taken-all, taken-greatest, greatest-none}
+use Rattle.hand_rank.proofs.SoManyLaws.{some-rank, both-are, none-left, taken-none, taken-more, taken-all, taken-greatest, greatest-none}
 use Rattle.hand_rank.proofs.rank_set.RankSet.greatest_with.Goals as goal
 
 pub returns-then-not-is_empty : goal.returns-then-not-is_empty
@@ -18,15 +18,10 @@ returns-then-not-is_empty c =
 pub loop-init : goal.loop-init
 loop-init c =
     taken-none (has_rank c.args.self.bits) (has_rank c.args.forced.bits) (has_rank c.minus-free.result.bits)
-    (λ r below is. has_all (has_rank c.args.forced.bits r) (has_rank c.args.self.bits r)
+    (λ r below is. none-left (has_rank c.args.forced.bits r) (has_rank c.args.self.bits r)
     (sym (c.minus.ensures r below)
     ∙ falling-none (has_rank c.minus.result.bits) 16 r (c.is_empty.ensures.none c.if-not-is_empty.false) below) is)
     c.minus-free.ensures
-  where
-    has_all : (a b : Bool) → (a && not b) ≡ false → a ≡ true → b ≡ true
-    has_all true true fails is = refl
-    has_all true false fails is = absurd cc
-    has_all false b fails is = absurd cc
 
 pub returns-in_err-missing : goal.returns-in_err-missing
 returns-in_err-missing c =

@@ -1,6 +1,6 @@
 use Rattle.std.proofs.Common.{◌≡◌, ◌∙◌, ◌+◌, ◌-◌, get_or, ap, arith}
+use Rattle.std.proofs.lemmas.Bool.{not-true, not-false}
 use Rattle.pot_layers.specs.Tallies.{put_in_at, folded_at}
-use Rattle.pot_layers.proofs.ListTests.{not-true, not-false}
 use Rattle.pot_layers.proofs.Raised.{no_put}
 use Rattle.pot_layers.proofs.Told.{live-told, folded-told}
 use Rattle.pot_layers.proofs.pot_tally.PotTally.of.Goals.{then-not-put, else-not-put}
