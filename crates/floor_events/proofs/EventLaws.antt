@@ -9,6 +9,7 @@ use Rattle.std.proofs.lemmas.Bool.Decides.{nat_tests}
 use Rattle.std.proofs.lemmas.List.Splits.{join_with_byte-slice_split}
 use Rattle.std.proofs.lemmas.Slice.Eq.{bytes_eq-Decides}
 use Rattle.floor_text.specs.declared.limits.TheConstants.{LONGEST_LINE}
+use Rattle.card_set.proofs.Steps.{map_found}
 use Rattle.level_plan.specs.declared.line.PlanLine.TheVariants as lines
 use Rattle.floor_events.specs.declared.event.Event.{Event}
 use Rattle.floor_events.specs.declared.event.Event.TheVariants as events
@@ -17,9 +18,9 @@ use Rattle.floor_events.specs.declared.event.Item.TheVariants as found
 use Rattle.floor_events.specs.Words.{words_of_line}
 use Rattle.floor_events.specs.Grammar.{Reader, grammar, event_by, event_of_words, item_of_words, item_of_bytes}
 use Rattle.floor_events.specs.Spelling.{event_words, event_text, item_text, HasLineParts, IsWritable}
-use Rattle.floor_events.proofs.FieldLaws.{map_found, test_found, number_field, name_field, game_field, switch_field, row_field, act_rest}
+use Rattle.floor_events.proofs.FieldLaws.{test_found, number_field, name_field, game_field, switch_field, row_field, act_rest, last}
 use Rattle.floor_events.proofs.PieceLaws.{shares_rest, places_field, names_field}
-use Rattle.floor_events.proofs.RowLaws.{Spells, Reads, row0, row1, row2, row3, row0_rest, row2_rest, fields0_again, fields1_again, fields2_again, fields3_again, rest0_again, rest2_again}
+use Rattle.floor_events.proofs.RowLaws.{Spells, Reads, row0, row1, row2, row3, fields0_again, fields1_again, fields2_again, fields3_again}
 use Rattle.floor_events.proofs.Spaces.{pieces_again}
 
 abbrev IsOwnRow : List ℕ × Reader → Type 0
@@ -33,67 +34,70 @@ row ▸ rows = (row, rows)
 -- each row reads what is spelled so
 own_rows : AllByRecursion IsOwnRow grammar
 own_rows =
-    row0_rest (codes "shares") shares_rest (λ shares. events.Plan (lines.Shares shares))
+    row1 (codes "shares") shares_rest (λ shares. events.Plan (lines.Shares shares))
     (λ a p. record { spelling = refl; parts = p }) ▸
-    row3 (codes "break") number_field places_field names_field events.Break
+    row3 (codes "break") number_field places_field (last names_field) events.Break
     (λ a b c p q r. record { spelling = refl; parts = (p, q, r) }) ▸
-    row2_rest (codes "act") number_field name_field act_rest events.Act
+    row3 (codes "act") number_field name_field act_rest events.Act
     (λ a b c p q r. record { spelling = refl; parts = (q, p, r) }) ▸
-    row2 (codes "begin") number_field row_field events.Begin (λ a b p q. record { spelling = refl; parts = p }) ▸
-    row1 (codes "settle") number_field events.Settle (λ a p. record { spelling = refl; parts = p }) ▸
-    row3 (codes "enter") name_field number_field number_field events.Enter
+    row2 (codes "begin") number_field (last row_field) events.Begin (λ a b p q. record { spelling = refl; parts = p }) ▸
+    row1 (codes "settle") (last number_field) events.Settle (λ a p. record { spelling = refl; parts = p }) ▸
+    row3 (codes "enter") name_field number_field (last number_field) events.Enter
     (λ a b c p q r. record { spelling = refl; parts = (p, q, r) }) ▸
-    row1 (codes "time") number_field events.Time (λ a p. record { spelling = refl; parts = p }) ▸
-    row2 (codes "balance") number_field number_field events.Balance
+    row1 (codes "time") (last number_field) events.Time (λ a p. record { spelling = refl; parts = p }) ▸
+    row2 (codes "balance") number_field (last number_field) events.Balance
     (λ a b p q. record { spelling = refl; parts = (p, q) }) ▸
     row0 (codes "level") events.Level (record { spelling = refl; parts = tt }) ▸
-    row2 (codes "race") number_field row_field events.Race (λ a b p q. record { spelling = refl; parts = p }) ▸
-    row1 (codes "hands") switch_field events.Hands (λ a p. record { spelling = refl; parts = p }) ▸
+    row2 (codes "race") number_field (last row_field) events.Race (λ a b p q. record { spelling = refl; parts = p }) ▸
+    row1 (codes "hands") (last switch_field) events.Hands (λ a p. record { spelling = refl; parts = p }) ▸
     row0 (codes "round") events.Round (record { spelling = refl; parts = tt }) ▸
     row0 (codes "stop") events.Stop (record { spelling = refl; parts = tt }) ▸
-    row1 (codes "game") game_field (λ game. events.Plan (lines.Game game))
+    row1 (codes "game") (last game_field) (λ game. events.Plan (lines.Game game))
     (λ a p. record { spelling = refl; parts = p }) ▸
-    row1 (codes "tables") number_field (λ n. events.Plan (lines.Tables n))
+    row1 (codes "tables") (last number_field) (λ n. events.Plan (lines.Tables n))
     (λ a p. record { spelling = refl; parts = p }) ▸
-    row1 (codes "seats") number_field (λ n. events.Plan (lines.Seats n))
+    row1 (codes "seats") (last number_field) (λ n. events.Plan (lines.Seats n))
     (λ a p. record { spelling = refl; parts = p }) ▸
-    row1 (codes "stack") number_field (λ n. events.Plan (lines.Stack n))
+    row1 (codes "stack") (last number_field) (λ n. events.Plan (lines.Stack n))
     (λ a p. record { spelling = refl; parts = p }) ▸
-    row1 (codes "buyin") number_field (λ n. events.Plan (lines.Buyin n))
+    row1 (codes "buyin") (last number_field) (λ n. events.Plan (lines.Buyin n))
     (λ a p. record { spelling = refl; parts = p }) ▸
-    row1 (codes "late") number_field (λ n. events.Plan (lines.Late n)) (λ a p. record { spelling = refl; parts = p }) ▸
-    row3 (codes "blinds") number_field number_field number_field (λ s b u. events.Plan (lines.Blinds s b u))
+    row1 (codes "late") (last number_field) (λ n. events.Plan (lines.Late n))
+    (λ a p. record { spelling = refl; parts = p }) ▸
+    row3 (codes "blinds") number_field number_field (last number_field) (λ s b u. events.Plan (lines.Blinds s b u))
     (λ a b c p q r. record { spelling = refl; parts = (p, q, r) }) ▸
     row0 (codes "go") events.Go (record { spelling = refl; parts = tt }) ▸
     tt
 
 -- each event is read from its words
 again : (event : Event) → HasLineParts event → event_of_words (event_words event) ≡ Some event
-again (events.Plan (lines.Game game)) parts = fields1_again game_field (λ g. events.Plan (lines.Game g)) game parts
-again (events.Plan (lines.Tables n)) parts = fields1_again number_field (λ k. events.Plan (lines.Tables k)) n parts
-again (events.Plan (lines.Seats n)) parts = fields1_again number_field (λ k. events.Plan (lines.Seats k)) n parts
-again (events.Plan (lines.Stack n)) parts = fields1_again number_field (λ k. events.Plan (lines.Stack k)) n parts
-again (events.Plan (lines.Buyin n)) parts = fields1_again number_field (λ k. events.Plan (lines.Buyin k)) n parts
-again (events.Plan (lines.Late n)) parts = fields1_again number_field (λ k. events.Plan (lines.Late k)) n parts
-again (events.Plan (lines.Blinds s b u)) parts = fields3_again number_field number_field number_field
+again (events.Plan (lines.Game game)) parts =
+    fields1_again (last game_field) (λ g. events.Plan (lines.Game g)) game parts
+again (events.Plan (lines.Tables n)) parts =
+    fields1_again (last number_field) (λ k. events.Plan (lines.Tables k)) n parts
+again (events.Plan (lines.Seats n)) parts = fields1_again (last number_field) (λ k. events.Plan (lines.Seats k)) n parts
+again (events.Plan (lines.Stack n)) parts = fields1_again (last number_field) (λ k. events.Plan (lines.Stack k)) n parts
+again (events.Plan (lines.Buyin n)) parts = fields1_again (last number_field) (λ k. events.Plan (lines.Buyin k)) n parts
+again (events.Plan (lines.Late n)) parts = fields1_again (last number_field) (λ k. events.Plan (lines.Late k)) n parts
+again (events.Plan (lines.Blinds s b u)) parts = fields3_again number_field number_field (last number_field)
     (λ s b u. events.Plan (lines.Blinds s b u)) s b u parts.0 parts.1 parts.2
 again (events.Plan (lines.Shares shares)) parts =
-    rest0_again shares_rest (λ ns. events.Plan (lines.Shares ns)) shares parts
+    fields1_again shares_rest (λ ns. events.Plan (lines.Shares ns)) shares parts
 again events.Go parts = fields0_again events.Go
 again (events.Enter name table seat) parts =
-    fields3_again name_field number_field number_field events.Enter name table seat parts.0 parts.1 parts.2
-again (events.Begin table row) parts = fields2_again number_field row_field events.Begin table row parts tt
+    fields3_again name_field number_field (last number_field) events.Enter name table seat parts.0 parts.1 parts.2
+again (events.Begin table row) parts = fields2_again number_field (last row_field) events.Begin table row parts tt
 again (events.Act table name act) parts =
-    rest2_again number_field name_field act_rest events.Act table name act parts.1 parts.0 parts.2
-again (events.Time table) parts = fields1_again number_field events.Time table parts
-again (events.Settle table) parts = fields1_again number_field events.Settle table parts
+    fields3_again number_field name_field act_rest events.Act table name act parts.1 parts.0 parts.2
+again (events.Time table) parts = fields1_again (last number_field) events.Time table parts
+again (events.Settle table) parts = fields1_again (last number_field) events.Settle table parts
 again (events.Balance from to) parts =
-    fields2_again number_field number_field events.Balance from to parts.0 parts.1
+    fields2_again number_field (last number_field) events.Balance from to parts.0 parts.1
 again (events.Break table seats names) parts =
-    fields3_again number_field places_field names_field events.Break table seats names parts.0 parts.1 parts.2
+    fields3_again number_field places_field (last names_field) events.Break table seats names parts.0 parts.1 parts.2
 again events.Level parts = fields0_again events.Level
-again (events.Race table row) parts = fields2_again number_field row_field events.Race table row parts tt
-again (events.Hands on) parts = fields1_again switch_field events.Hands on parts
+again (events.Race table row) parts = fields2_again number_field (last row_field) events.Race table row parts tt
+again (events.Hands on) parts = fields1_again (last switch_field) events.Hands on parts
 again events.Round parts = fields0_again events.Round
 again events.Stop parts = fields0_again events.Stop
 

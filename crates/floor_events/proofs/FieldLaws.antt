@@ -1,5 +1,5 @@
 -- A field that is read is spelled so, and a field that is spelled so is read.
-use Rattle.std.proofs.Common.{◌≡◌, ℕ, Bool, true, false, cond, List, [], ◌∷◌, Option, Some, None, option_map, IsTrue, refl, sym, ap, ◌∙◌, subst}
+use Rattle.std.proofs.Common.{◌≡◌, ℕ, Bool, true, false, cond, List, [], ◌∷◌, Option, Some, None, IsTrue, refl, sym, ap, ◌∙◌, subst}
 use Rattle.std.specs.Fmt.{decimal}
 use Rattle.std.specs.List.{list_all, AllByRecursion}
 use Rattle.std.specs.Str.{bytes_eq}
@@ -13,23 +13,12 @@ use Rattle.card_set.specs.declared.game.Game.{Game}
 use Rattle.card_set.specs.declared.game.Game.TheVariants.{Holdem, Omaha, Hilo}
 use Rattle.card_set.specs.Cards.{row_text, row_of}
 use Rattle.card_set.proofs.RowReading.{row_found, row_again}
+use Rattle.card_set.proofs.Steps.{bind_found, map_found}
 use Rattle.betting_round.specs.declared.act.Act.{Act}
 use Rattle.betting_round.specs.declared.act.Act.TheVariants.{Fold, Check, Call, AllIn, Bet, Raise}
 use Rattle.floor_events.specs.Spelling.{game_word, switch_word, act_words, HasLineAmount}
-use Rattle.floor_events.specs.Fields.{◌>>=◌, meaning, game_list, game_of, switch_list, switch_of, act_list, amount_list, act_of, name_of, next_by}
+use Rattle.floor_events.specs.Fields.{meaning, game_list, game_of, switch_list, switch_of, act_list, amount_list, act_of, name_of, next_by, last_by}
 use Rattle.floor_events.proofs.Spaces.{lacks, decimal_spaceless, name_spaceless, row_spaceless}
-
--- the value of a step that found something
-pub bind_found : {A B : Type 0} (o : Option A) (f : A → Option B) (y : B) → (o >>= f) ≡ Some y → (x : A)
-    × (o ≡ Some x) × (f x ≡ Some y)
-bind_found None f y h = absurd cc
-bind_found (Some x) f y h = (x, refl, h)
-
--- the value that was mapped to this one
-pub map_found : {A B : Type 0} (f : A → B) (o : Option A) (y : B) → option_map f o ≡ Some y → (x : A) × (o ≡ Some x)
-    × (f x ≡ y)
-map_found f None y h = absurd cc
-map_found f (Some x) y h = (x, refl, same_Some (f x) y h)
 
 -- a test that let something through
 pub test_found : {A : Type 0} (b : Bool) (o : Option A) (x : A) → cond b o None ≡ Some x → (b ≡ true) × (o ≡ Some x)
@@ -197,3 +186,22 @@ pub next_again : {A : Type 0} (read : List ℕ → Option A) (write : A → List
     ≡ Some (value, words)
 unfolding next_by
 next_again read write Fits field value words fits = rw (field.again value fits) refl
+
+last_found : {A : Type 0} (read : List ℕ → Option A) (write : A → List ℕ) (Fits : A → Type 0)
+    → IsField read write Fits → (words : List (List ℕ)) (value : A) → last_by read words ≡ Some value
+    → (words ≡ write value ∷ []) × Fits value
+unfolding last_by
+last_found read write Fits field [] value h = absurd cc
+last_found read write Fits field (word ∷ []) value h =
+    let found = field.found word value h in (ap (λ (w : List ℕ). w ∷ []) found.0, found.1)
+last_found read write Fits field (word ∷ more ∷ words) value h = absurd cc
+
+-- a field of the only word that is left
+pub last : {A : Type 0} {read : List ℕ → Option A} {write : A → List ℕ} {Fits : A → Type 0}
+    → IsField read write Fits → IsRest (last_by read) (λ a. write a ∷ []) Fits
+unfolding last_by
+last {A} {read} {write} {Fits} field = record {
+  found = last_found read write Fits field;
+  again = field.again;
+  spaceless = λ a fits. rw (field.spaceless a fits) refl;
+}

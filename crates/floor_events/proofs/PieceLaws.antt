@@ -2,21 +2,23 @@
 use Rattle.std.proofs.Common.{◌≡◌, ℕ, ◌≤◌, ◌<◌, true, false, ◌&&◌, not, cond, leb, List, [], ◌∷◌, map, length, Option, Some, None, IsTrue, refl, sym, ap, ◌∙◌, subst, arith}
 use Rattle.std.specs.Fmt.{decimal}
 use Rattle.std.specs.List.{list_all, join_with_byte, AllByRecursion}
+use Rattle.std.proofs.lemmas.Bool.{and_parts}
 use Rattle.std.proofs.lemmas.Bool.Decides.{nat_tests}
 use Rattle.std.proofs.lemmas.List.Folds.{list_all-append}
 use Rattle.std.proofs.lemmas.List.Splits.{join_with_byte-slice_split}
 use Rattle.std.proofs.lemmas.Option.{same_Some}
 use Rattle.floor_text.specs.Names.{is_name}
 use Rattle.floor_text.specs.Numbers.{IsLineNumber, number_of}
+use Rattle.card_set.proofs.Steps.{bind_found}
 use Rattle.level_plan.specs.declared.bounds.TheConstants.{MOST_TABLES, MOST_SEATS, MOST_SHARES}
 use Rattle.seat_book.specs.declared.place.Place.{Place}
 use Rattle.seat_book.specs.Places.{IsPlaceOf, is_place_of}
-use Rattle.floor_events.specs.Words.{pieces_of, no_word}
+use Rattle.floor_events.specs.Words.{pieces_of}
 use Rattle.floor_events.specs.Spelling.{place_text, list_text, AreFew, AreLineShares, AreLinePlaces, AreLineNames}
-use Rattle.floor_events.specs.Fields.{◌>>=◌, each_of, few_of, shares_of, name_of, place_at, place_of, members_of, next_by}
-use Rattle.floor_events.proofs.FieldLaws.{IsField, IsRest, bind_found, test_found, number_field, name_field, next_found, next_again}
+use Rattle.floor_events.specs.Fields.{◌>>=◌, each_of, few_of, shares_of, name_of, place_at, place_of, members_of, next_by, last_by}
+use Rattle.floor_events.proofs.FieldLaws.{IsField, IsRest, test_found, number_field, name_field, next_found, next_again, last}
 use Rattle.floor_events.proofs.WordSplits.{is_byte}
-use Rattle.floor_events.proofs.Spaces.{and_parts, lacks, pieces_again, decimal_lacks, name_lacks}
+use Rattle.floor_events.proofs.Spaces.{lacks, pieces_again, decimal_lacks, name_lacks}
 
 module _ {A : Type 0} {read : List ℕ → Option A} {write : A → List ℕ} {Fits : A → Type 0}
     (field : IsField read write Fits) where
@@ -107,10 +109,6 @@ place_lacks byte low place fits =
       decimal_lacks byte (omega (arith, low)) place.seat (seat_number place.seat fits.last),
     ) refl)
 
-none_left : (words : List (List ℕ)) → no_word words ≡ true → words ≡ []
-none_left [] h = refl
-none_left (word ∷ words) h = absurd cc
-
 -- the test of a place, and what it tells
 fits_there : (place : Place) → is_place_of MOST_TABLES MOST_SEATS place ≡ true → IsPlaceOf MOST_TABLES MOST_SEATS place
 fits_there place h =
@@ -128,18 +126,15 @@ place_found : (word : List ℕ) (place : Place) → place_of word ≡ Some place
     × IsPlaceOf MOST_TABLES MOST_SEATS place
 unfolding place_of
 place_found word place h =
-    let first = bind_found (next_by number_of (pieces_of 46 word)) (λ t. next_by number_of t.1 >>= λ s. cond
-    (no_word s.1) (place_at t.0 s.0) None) place h in
-    let second = bind_found (next_by number_of first.0.1) (λ s. cond (no_word s.1) (place_at first.0.0 s.0) None) place
-    first.2 in
-    let done = test_found (no_word second.0.1) (place_at first.0.0 second.0.0) place second.2 in
-    let here : Place = record { table = first.0.0; seat = second.0.0 } in
-    let test = test_found (is_place_of MOST_TABLES MOST_SEATS here) (Some here) place done.1 in
+    let first = bind_found (next_by number_of (pieces_of 46 word)) (λ t. last_by number_of t.1 >>= λ seat. place_at t.0
+    seat) place h in
+    let second = bind_found (last_by number_of first.0.1) (λ seat. place_at first.0.0 seat) place first.2 in
+    let here : Place = record { table = first.0.0; seat = second.0 } in
+    let test = test_found (is_place_of MOST_TABLES MOST_SEATS here) (Some here) place second.2 in
     let table = next_found number_of decimal IsLineNumber number_field (pieces_of 46 word) first.0 first.1 in
-    let seat = next_found number_of decimal IsLineNumber number_field first.0.1 second.0 second.1 in
-    let pieces : pieces_of 46 word ≡ decimal first.0.0 ∷ decimal second.0.0 ∷ [] = table.spelling
-    ∙ ap (λ (ws : List (List ℕ)). decimal first.0.0 ∷ ws) seat.spelling
-    ∙ ap (λ (ws : List (List ℕ)). decimal first.0.0 ∷ decimal second.0.0 ∷ ws) (none_left second.0.1 done.0) in
+    let seat = (last number_field).found first.0.1 second.0 second.1 in
+    let pieces : pieces_of 46 word ≡ decimal first.0.0 ∷ decimal second.0 ∷ [] = table.spelling
+    ∙ ap (λ (ws : List (List ℕ)). decimal first.0.0 ∷ ws) seat.0 in
     let text : word ≡ place_text here = sym (join_with_byte-slice_split 46 word) ∙ ap (join_with_byte 46) pieces in
     subst (λ (p : Place). (word ≡ place_text p) × IsPlaceOf MOST_TABLES MOST_SEATS p) (same_Some here place test.1)
     (text, fits_there here test.0)
@@ -158,7 +153,7 @@ place_again place fits =
     rw (
       pieces,
       next_again number_of decimal IsLineNumber number_field place.table (decimal place.seat ∷ []) table,
-      next_again number_of decimal IsLineNumber number_field place.seat [] seat,
+      (last number_field).again place.seat seat,
       place_test place fits,
     ) refl
 

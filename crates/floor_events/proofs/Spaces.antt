@@ -5,6 +5,7 @@ use Rattle.std.specs.Prelude.{zero, suc, slice_index, codes}
 use Rattle.std.specs.Fmt.{decimal}
 use Rattle.std.specs.List.{list_all, AllByRecursion, join_with_byte}
 use Rattle.std.specs.Str.{all_ascii_digits}
+use Rattle.std.proofs.lemmas.Bool.{and_parts}
 use Rattle.std.proofs.lemmas.Bool.Decides.{nat_tests}
 use Rattle.std.proofs.lemmas.List.Elements.{All-from_recursion}
 use Rattle.std.proofs.lemmas.List.Splits.{slice_split_none, slice_split_at}
@@ -32,11 +33,6 @@ no_part : (between : ℕ) (bytes : List ℕ) → lacks between bytes ≡ true
     → All (λ byte. is_byte between byte ≡ false) bytes
 no_part between bytes h =
     All-from_recursion (λ byte. is_byte between byte ≡ false) bytes (other_bytes between bytes h)
-
--- two tests that hold together
-pub and_parts : (a b : Bool) → (a && b) ≡ true → (a ≡ true) × (b ≡ true)
-and_parts true b h = (refl, h)
-and_parts false b h = absurd cc
 
 -- pieces that lack the byte between them are the pieces of what they are joined to
 pub pieces_again : (between : ℕ) (piece : List ℕ) (pieces : List (List ℕ))

@@ -11,7 +11,7 @@ use Rattle.betting_round.specs.declared.act.Act.{Act}
 use Rattle.betting_round.specs.declared.act.Act.TheVariants.{Fold, Check, Call, AllIn, Bet, Raise}
 use Rattle.seat_book.specs.declared.place.Place.{Place}
 use Rattle.seat_book.specs.Places.{is_place_of}
-use Rattle.floor_events.specs.Words.{pieces_of, no_word}
+use Rattle.floor_events.specs.Words.{pieces_of}
 
 -- a step, and what follows where it found something
 infixl 10 ◌>>=◌
@@ -47,6 +47,12 @@ name_of word = if is_name word then Some word else None
 unfoldable pub next_by : {A : Type 0} → (List ℕ → Option A) → List (List ℕ) → Option (A × List (List ℕ))
 next_by read [] = None
 next_by read (word ∷ words) = option_map (λ value. (value, words)) (read word)
+
+-- the only word that is left, read as a field
+unfoldable pub last_by : {A : Type 0} → (List ℕ → Option A) → List (List ℕ) → Option A
+last_by read [] = None
+last_by read (word ∷ []) = read word
+last_by read (word ∷ more ∷ words) = None
 
 -- the words of the acts without an amount
 abbrev pub act_list : List (List ℕ × Act)
@@ -91,8 +97,8 @@ place_at table seat =
 unfoldable pub place_of : List ℕ → Option Place
 place_of word = do
   table ← next_by number_of (pieces_of 46 word)
-  seat ← next_by number_of table.1
-  if no_word seat.1 then place_at table.0 seat.0 else None
+  seat ← last_by number_of table.1
+  place_at table.0 seat
 
 -- the members of the list that a word is, with a comma between each two: 1 to 10
 unfoldable pub members_of : {A : Type 0} → (List ℕ → Option A) → List ℕ → Option (List A)

@@ -11,7 +11,7 @@ use Rattle.floor_events.specs.declared.event.Event.TheVariants as events
 use Rattle.floor_events.specs.declared.event.Item.{Item}
 use Rattle.floor_events.specs.declared.event.Item.TheVariants as found
 use Rattle.floor_events.specs.Words.{words_of_line, no_word}
-use Rattle.floor_events.specs.Fields.{game_of, switch_of, name_of, next_by, act_of, shares_of, place_of, members_of}
+use Rattle.floor_events.specs.Fields.{game_of, switch_of, name_of, next_by, last_by, act_of, shares_of, place_of, members_of}
 
 -- what reads the words behind the first
 abbrev pub Reader : Type 0
@@ -21,51 +21,37 @@ Reader = List (List ℕ) → Option Event
 unfoldable pub fields0 : Event → Reader
 fields0 event words = then_some (no_word words) event
 
--- one field of one word
-unfoldable pub fields1 : {A : Type 0} → (List ℕ → Option A) → (A → Event) → Reader
-fields1 first make words = option_and_then (λ read. fields0 (make read.0) read.1) (next_by first words)
+-- one field, of all words that are left
+unfoldable pub fields1 : {A : Type 0} → (List (List ℕ) → Option A) → (A → Event) → Reader
+fields1 last make words = option_map make (last words)
 
--- two fields of one word each
-unfoldable pub fields2 : {A B : Type 0} → (List ℕ → Option A) → (List ℕ → Option B) → (A → B → Event) → Reader
-fields2 first second make words = option_and_then (λ read. fields1 second (make read.0) read.1) (next_by first words)
-
--- three fields of one word each
-unfoldable pub fields3 : {A B C : Type 0} → (List ℕ → Option A) → (List ℕ → Option B) → (List ℕ → Option C)
-    → (A → B → C → Event) → Reader
-fields3 first second third make words =
-    option_and_then (λ read. fields2 second third (make read.0) read.1) (next_by first words)
-
--- one field of all words that are left
-unfoldable pub rest0 : {A : Type 0} → (List (List ℕ) → Option A) → (A → Event) → Reader
-rest0 last make words = option_map make (last words)
-
--- one field of one word, and one of all words that are left
-unfoldable pub rest1 : {A B : Type 0} → (List ℕ → Option A) → (List (List ℕ) → Option B) → (A → B → Event) → Reader
-rest1 first last make words = option_and_then (λ read. rest0 last (make read.0) read.1) (next_by first words)
+-- a field of one word, and one of all words that are left
+unfoldable pub fields2 : {A B : Type 0} → (List ℕ → Option A) → (List (List ℕ) → Option B) → (A → B → Event) → Reader
+fields2 first last make words = option_and_then (λ read. fields1 last (make read.0) read.1) (next_by first words)
 
 -- two fields of one word each, and one of all words that are left
-unfoldable pub rest2 : {A B C : Type 0} → (List ℕ → Option A) → (List ℕ → Option B) → (List (List ℕ) → Option C)
+unfoldable pub fields3 : {A B C : Type 0} → (List ℕ → Option A) → (List ℕ → Option B) → (List (List ℕ) → Option C)
     → (A → B → C → Event) → Reader
-rest2 first second last make words =
-    option_and_then (λ read. rest1 second last (make read.0) read.1) (next_by first words)
+fields3 first second last make words =
+    option_and_then (λ read. fields2 second last (make read.0) read.1) (next_by first words)
 
 -- the rows of the events that hold a list, for which memory is wanted
 abbrev pub list_rows : List (List ℕ × Reader)
 list_rows =
-    (codes "shares", rest0 shares_of (λ shares. events.Plan (lines.Shares shares))) ∷
-    (codes "break", fields3 number_of (members_of place_of) (members_of name_of) events.Break) ∷ []
+    (codes "shares", fields1 shares_of (λ shares. events.Plan (lines.Shares shares))) ∷
+    (codes "break", fields3 number_of (members_of place_of) (last_by (members_of name_of)) events.Break) ∷ []
 
 -- the rows of the other lines of a plan
 abbrev pub plan_rows : List (List ℕ × Reader)
 plan_rows =
-    (codes "game", fields1 game_of (λ game. events.Plan (lines.Game game))) ∷
-    (codes "tables", fields1 number_of (λ n. events.Plan (lines.Tables n))) ∷
-    (codes "seats", fields1 number_of (λ n. events.Plan (lines.Seats n))) ∷
-    (codes "stack", fields1 number_of (λ n. events.Plan (lines.Stack n))) ∷
-    (codes "buyin", fields1 number_of (λ n. events.Plan (lines.Buyin n))) ∷
-    (codes "late", fields1 number_of (λ n. events.Plan (lines.Late n))) ∷ (
+    (codes "game", fields1 (last_by game_of) (λ game. events.Plan (lines.Game game))) ∷
+    (codes "tables", fields1 (last_by number_of) (λ n. events.Plan (lines.Tables n))) ∷
+    (codes "seats", fields1 (last_by number_of) (λ n. events.Plan (lines.Seats n))) ∷
+    (codes "stack", fields1 (last_by number_of) (λ n. events.Plan (lines.Stack n))) ∷
+    (codes "buyin", fields1 (last_by number_of) (λ n. events.Plan (lines.Buyin n))) ∷
+    (codes "late", fields1 (last_by number_of) (λ n. events.Plan (lines.Late n))) ∷ (
       codes "blinds",
-      fields3 number_of number_of number_of
+      fields3 number_of number_of (last_by number_of)
           (λ small big unit. events.Plan (lines.Blinds small big unit)),
     ) ∷
     (codes "go", fields0 events.Go) ∷ []
@@ -73,15 +59,15 @@ plan_rows =
 -- the rows of all other events
 abbrev pub play_rows : List (List ℕ × Reader)
 play_rows =
-    (codes "act", rest2 number_of name_of act_of events.Act) ∷
-    (codes "begin", fields2 number_of row_of events.Begin) ∷
-    (codes "settle", fields1 number_of events.Settle) ∷
-    (codes "enter", fields3 name_of number_of number_of events.Enter) ∷
-    (codes "time", fields1 number_of events.Time) ∷
-    (codes "balance", fields2 number_of number_of events.Balance) ∷
+    (codes "act", fields3 number_of name_of act_of events.Act) ∷
+    (codes "begin", fields2 number_of (last_by row_of) events.Begin) ∷
+    (codes "settle", fields1 (last_by number_of) events.Settle) ∷
+    (codes "enter", fields3 name_of number_of (last_by number_of) events.Enter) ∷
+    (codes "time", fields1 (last_by number_of) events.Time) ∷
+    (codes "balance", fields2 number_of (last_by number_of) events.Balance) ∷
     (codes "level", fields0 events.Level) ∷
-    (codes "race", fields2 number_of row_of events.Race) ∷
-    (codes "hands", fields1 switch_of events.Hands) ∷
+    (codes "race", fields2 number_of (last_by row_of) events.Race) ∷
+    (codes "hands", fields1 (last_by switch_of) events.Hands) ∷
     (codes "round", fields0 events.Round) ∷
     (codes "stop", fields0 events.Stop) ∷ []
 

@@ -1,49 +1,20 @@
 //! Items that stand in a line, one word each, without memory of the heap.
 
-ghost use Rattle.std.specs.Prelude.{◌≡◌, ◌≤◌, ◌<◌, ◌==◌, ℕ, List, [], ◌∷◌, ◌++◌, length, Option, IfOk};
-ghost use Rattle.floor_text.specs.Numbers.{number_of};
-ghost use Rattle.floor_events.specs.Fields.{name_of, place_of, few_of};
+ghost use Rattle.std.specs.Prelude.{◌≡◌, ◌≤◌, ◌<◌, ◌==◌, [], ◌∷◌, ◌++◌, length, IfOk};
+ghost use Rattle.floor_events.specs.Fields.{few_of, members_of};
 
-use crate::fields::{read_name, read_place};
+use crate::fields::Spelled;
 use crate::line_words::Words;
-use floor_text::{List, Name, read_number};
-use seat_book::Place;
+use floor_text::List;
+use level_plan::MOST_SEATS;
 use std::alloc::{AllocError, Global};
 use std::marker::Model;
 
-/// What a word of a line may spell.
-pub trait Spelled: Copy {
-    /// What each word spells, if it does.
-    ghost spelled: { List ℕ → Option Self };
+/// The byte between two members of a list.
+const COMMA: u8 = b',';
 
-    /// Reads a word. `None` exactly where it spells nothing.
-    fn read(word: &[u8]) -> Option<Self>
-        ensures { result ≡ spelled word.now };
-}
-
-impl Spelled for u64 {
-    ghost spelled = { number_of };
-
-    fn read(word: &[u8]) -> Option<u64> {
-        read_number(word)
-    }
-}
-
-impl Spelled for Name {
-    ghost spelled = { name_of };
-
-    fn read(word: &[u8]) -> Option<Name> {
-        read_name(word)
-    }
-}
-
-impl Spelled for Place {
-    ghost spelled = { place_of };
-
-    fn read(word: &[u8]) -> Option<Place> {
-        read_place(word)
-    }
-}
+/// How many members a list may have: one for each seat of a table.
+pub const MOST_MEMBERS: usize = MOST_SEATS as usize;
 
 /// At most `MOST` items, with at least one. Contracts see it as the list of its items.
 #[derive(Debug, Drop)]
@@ -96,7 +67,7 @@ impl<T: Copy, const MOST: usize> Few<T, MOST> {
 }
 
 /// Reads all words that are left as items. `None` exactly where they are not 1 to `MOST` of them.
-pub fn read_few<T: Spelled, const MOST: usize>(line: &mut Words<'_>) -> Option<Few<T, MOST>>
+pub fn read_few<T: Spelled + Copy, const MOST: usize>(line: &mut Words<'_>) -> Option<Few<T, MOST>>
     requires { 1 ≤ MOST }
     ensures { result ≡ few_of MOST T.spelled line.old }
 {
@@ -108,4 +79,14 @@ pub fn read_few<T: Spelled, const MOST: usize>(line: &mut Words<'_>) -> Option<F
         few.push(T::read(word)?);
     }
     Some(few)
+}
+
+/// The members of a list.
+impl<T: Spelled + Copy> Spelled for Few<T, MOST_MEMBERS> {
+    ghost spelled = { members_of T.spelled };
+
+    #[tactic(auto, unfolding(crate::specs::Fields::members_of))]
+    fn read(word: &[u8]) -> Option<Few<T, MOST_MEMBERS>> {
+        read_few(&mut Words::between(COMMA, word))
+    }
 }

@@ -1,10 +1,8 @@
 //! Lines are read as items.
 
-ghost use Rattle.std.specs.Prelude.{◌≡◌, Some, IfOk, OnErr, IfSome, IsSome, option_and_then};
-ghost use Rattle.std.specs.Bool.{then_some};
+ghost use Rattle.std.specs.Prelude.{◌≡◌, Some, IfOk, OnErr, IfSome, IsSome};
 ghost use Rattle.std.specs.Str.{bytes_eq};
 ghost use Rattle.floor_events.specs.declared.event.Item.{Item};
-ghost use Rattle.floor_events.specs.Words.{no_word};
 ghost use Rattle.floor_events.specs.Grammar.{plan_rows, plain_rows, grammar, event_by, item_of_words, item_of_bytes};
 ghost use Rattle.floor_events.specs.Spelling.{IsWritable, item_text};
 
@@ -21,78 +19,68 @@ fn is(word: &[u8], text: &[u8]) -> bool
     word == text
 }
 
-/// Reads a line of a plan that has no list by its first word, and leaves the words behind its fields.
+/// Reads a line of a plan that has no list by its first word.
 #[tactic(auto, unfolding(crate::specs::Grammar::fields0, crate::specs::Grammar::fields1, crate::specs::Grammar::fields2, crate::specs::Grammar::fields3))]
 fn read_plan_fields(word: &[u8], line: &mut Words<'_>) -> Option<Event>
-    ensures { option_and_then (λ event. then_some (no_word line.new) event) result
-        ≡ event_by plan_rows word.now line.old }
+    ensures { result ≡ event_by plan_rows word.now line.old }
 {
     match word {
-        _ if is(word, b"game") => Some(Event::Plan(PlanLine::Game(line.game()?))),
-        _ if is(word, b"tables") => Some(Event::Plan(PlanLine::Tables(line.number()?))),
-        _ if is(word, b"seats") => Some(Event::Plan(PlanLine::Seats(line.number()?))),
-        _ if is(word, b"stack") => Some(Event::Plan(PlanLine::Stack(line.number()?))),
-        _ if is(word, b"buyin") => Some(Event::Plan(PlanLine::Buyin(line.number()?))),
-        _ if is(word, b"late") => Some(Event::Plan(PlanLine::Late(line.number()?))),
+        _ if is(word, b"game") => Some(Event::Plan(PlanLine::Game(line.last_field()?))),
+        _ if is(word, b"tables") => Some(Event::Plan(PlanLine::Tables(line.last_field()?))),
+        _ if is(word, b"seats") => Some(Event::Plan(PlanLine::Seats(line.last_field()?))),
+        _ if is(word, b"stack") => Some(Event::Plan(PlanLine::Stack(line.last_field()?))),
+        _ if is(word, b"buyin") => Some(Event::Plan(PlanLine::Buyin(line.last_field()?))),
+        _ if is(word, b"late") => Some(Event::Plan(PlanLine::Late(line.last_field()?))),
         _ if is(word, b"blinds") => Some(Event::Plan(PlanLine::Blinds {
-            small: line.number()?,
-            big: line.number()?,
-            unit: line.number()?,
+            small: line.field()?,
+            big: line.field()?,
+            unit: line.last_field()?,
         })),
-        _ if is(word, b"go") => Some(Event::Go),
+        _ if is(word, b"go") => line.is_done().then_some(Event::Go),
         _ => None,
     }
 }
 
-/// Reads an event without a list by its first word, the most frequent words first, and leaves the words behind its
-/// fields.
-#[tactic(auto, unfolding(crate::specs::Grammar::fields0, crate::specs::Grammar::fields1, crate::specs::Grammar::fields2, crate::specs::Grammar::fields3, crate::specs::Grammar::rest0, crate::specs::Grammar::rest1, crate::specs::Grammar::rest2))]
+/// Reads an event without a list by its first word, the most frequent words first.
+#[tactic(auto, unfolding(crate::specs::Grammar::fields0, crate::specs::Grammar::fields1, crate::specs::Grammar::fields2, crate::specs::Grammar::fields3))]
 fn read_fields(word: &[u8], line: &mut Words<'_>) -> Option<Event>
-    ensures { option_and_then (λ event. then_some (no_word line.new) event) result
-        ≡ event_by plain_rows word.now line.old }
+    ensures { result ≡ event_by plain_rows word.now line.old }
 {
     match word {
         _ if is(word, b"act") => Some(Event::Act {
-            table: line.number()?,
-            name: line.name()?,
+            table: line.field()?,
+            name: line.field()?,
             act: line.act()?,
         }),
         _ if is(word, b"begin") => Some(Event::Begin {
-            table: line.number()?,
-            row: line.row()?,
+            table: line.field()?,
+            row: line.last_field()?,
         }),
         _ if is(word, b"settle") => Some(Event::Settle {
-            table: line.number()?,
+            table: line.last_field()?,
         }),
         _ if is(word, b"enter") => Some(Event::Enter {
-            name: line.name()?,
-            table: line.number()?,
-            seat: line.number()?,
+            name: line.field()?,
+            table: line.field()?,
+            seat: line.last_field()?,
         }),
         _ if is(word, b"time") => Some(Event::Time {
-            table: line.number()?,
+            table: line.last_field()?,
         }),
         _ if is(word, b"balance") => Some(Event::Balance {
-            from: line.number()?,
-            to: line.number()?,
+            from: line.field()?,
+            to: line.last_field()?,
         }),
-        _ if is(word, b"level") => Some(Event::Level),
+        _ if is(word, b"level") => line.is_done().then_some(Event::Level),
         _ if is(word, b"race") => Some(Event::Race {
-            table: line.number()?,
-            row: line.row()?,
+            table: line.field()?,
+            row: line.last_field()?,
         }),
-        _ if is(word, b"hands") => Some(Event::Hands(line.switch()?)),
-        _ if is(word, b"round") => Some(Event::Round),
-        _ if is(word, b"stop") => Some(Event::Stop),
+        _ if is(word, b"hands") => Some(Event::Hands(line.last_field()?)),
+        _ if is(word, b"round") => line.is_done().then_some(Event::Round),
+        _ if is(word, b"stop") => line.is_done().then_some(Event::Stop),
         _ => read_plan_fields(word, line),
     }
-}
-
-fn read_plain(word: &[u8], line: &mut Words<'_>) -> Option<Event>
-    ensures { result ≡ event_by plain_rows word.now line.old }
-{
-    let event = read_fields(word, line)?;
-    line.is_done().then_some(event)
 }
 
 fn read_event(alloc: Global, word: &[u8], line: &mut Words<'_>) -> Result<Option<Event>, AllocError>
@@ -105,7 +93,7 @@ fn read_event(alloc: Global, word: &[u8], line: &mut Words<'_>) -> Result<Option
     if is(word, b"break") {
         return read_break(alloc, line);
     }
-    Ok(read_plain(word, line))
+    Ok(read_fields(word, line))
 }
 
 #[tactic(auto, unfolding(crate::specs::Grammar::item_of_words))]

@@ -2,28 +2,17 @@
 
 ghost use Rattle.std.specs.Prelude.{◌≡◌, ◌==◌, Some, None, [], ◌∷◌, MatchOption};
 ghost use Rattle.std.specs.List.{position};
-ghost use Rattle.floor_text.specs.Numbers.{number_of};
-ghost use Rattle.card_set.specs.Cards.{row_of};
 ghost use Rattle.floor_events.specs.Words.{pieces_of, words_of_line, no_word};
-ghost use Rattle.floor_events.specs.Fields.{name_of, game_of, switch_of, act_of, members_of, next_by};
+ghost use Rattle.floor_events.specs.Fields.{act_of, next_by, last_by};
 
-use crate::few::{Few, Spelled, read_few};
-use crate::fields::{read_act, read_act_with, read_game, read_name, read_switch};
+use crate::fields::{Spelled, read_act, read_act_with};
 use betting_round::Act;
-use card_set::{CardRow, Game, read_row};
-use floor_text::{Name, read_number};
-use level_plan::MOST_SEATS;
+use floor_text::read_number;
 use memchr::memchr;
 use std::marker::Model;
 
 /// The byte between two words of a line.
 const SPACE: u8 = b' ';
-
-/// The byte between two members of a list.
-const COMMA: u8 = b',';
-
-/// How many members a list may have: one for each seat of a table.
-pub const MOST_MEMBERS: usize = MOST_SEATS as usize;
 
 fn first_of(between: u8, bytes: &[u8]) -> Option<usize>
     ensures { result ≡ position (λ byte. byte == between) bytes.now }
@@ -90,58 +79,22 @@ impl<'a> Words<'a> {
         }
     }
 
-    /// Takes the next word as a number.
+    /// Takes the next word as a field.
     #[tactic(auto, unfolding(crate::specs::Fields::next_by))]
-    pub fn number(&mut self) -> Option<u64>
-        ensures { MatchOption result (next_by number_of self.old ≡ None)
-            (λ n. next_by number_of self.old ≡ Some (n, self.new)) }
+    pub fn field<T: Spelled>(&mut self) -> Option<T>
+        ensures { MatchOption result (next_by T.spelled self.old ≡ None)
+            (λ field. next_by T.spelled self.old ≡ Some (field, self.new)) }
     {
-        read_number(self.next_word()?)
+        T::read(self.next_word()?)
     }
 
-    /// Takes the next word as a player's name.
-    #[tactic(auto, unfolding(crate::specs::Fields::next_by))]
-    pub fn name(&mut self) -> Option<Name>
-        ensures { MatchOption result (next_by name_of self.old ≡ None)
-            (λ name. next_by name_of self.old ≡ Some (name, self.new)) }
+    /// Takes the only word that is left as a field.
+    #[tactic(auto, unfolding(crate::specs::Fields::last_by))]
+    pub fn last_field<T: Spelled>(&mut self) -> Option<T>
+        ensures { result ≡ last_by T.spelled self.old }
     {
-        read_name(self.next_word()?)
-    }
-
-    /// Takes the next word as a game.
-    #[tactic(auto, unfolding(crate::specs::Fields::next_by))]
-    pub fn game(&mut self) -> Option<Game>
-        ensures { MatchOption result (next_by game_of self.old ≡ None)
-            (λ game. next_by game_of self.old ≡ Some (game, self.new)) }
-    {
-        read_game(self.next_word()?)
-    }
-
-    /// Takes the next word as on or off.
-    #[tactic(auto, unfolding(crate::specs::Fields::next_by))]
-    pub fn switch(&mut self) -> Option<bool>
-        ensures { MatchOption result (next_by switch_of self.old ≡ None)
-            (λ on. next_by switch_of self.old ≡ Some (on, self.new)) }
-    {
-        read_switch(self.next_word()?)
-    }
-
-    /// Takes the next word as a row of cards.
-    #[tactic(auto, unfolding(crate::specs::Fields::next_by))]
-    pub fn row(&mut self) -> Option<CardRow>
-        ensures { MatchOption result (next_by row_of self.old ≡ None)
-            (λ row. next_by row_of self.old ≡ Some (row, self.new)) }
-    {
-        read_row(self.next_word()?)
-    }
-
-    /// Takes the next word as the members of a list.
-    #[tactic(auto, unfolding(crate::specs::Fields::next_by, crate::specs::Fields::members_of))]
-    pub fn members<T: Spelled>(&mut self) -> Option<Few<T, MOST_MEMBERS>>
-        ensures { MatchOption result (next_by (members_of T.spelled) self.old ≡ None)
-            (λ items. next_by (members_of T.spelled) self.old ≡ Some (items, self.new)) }
-    {
-        read_few(&mut Words::between(COMMA, self.next_word()?))
+        let word = self.next_word()?;
+        if self.is_done() { T::read(word) } else { None }
     }
 
     /// Takes all words that are left as an act.

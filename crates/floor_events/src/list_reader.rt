@@ -5,12 +5,12 @@ ghost use Rattle.std.specs.Prelude.{◌≡◌, IfOk, OnErr, IsSome, option_map};
 ghost use Rattle.floor_text.specs.Numbers.{number_of};
 ghost use Rattle.level_plan.specs.declared.line.PlanLine.TheVariants as lines;
 ghost use Rattle.floor_events.specs.declared.event.Event.TheVariants as events;
-ghost use Rattle.floor_events.specs.Fields.{shares_of, name_of, place_of, members_of};
-ghost use Rattle.floor_events.specs.Grammar.{fields3, rest0};
+ghost use Rattle.floor_events.specs.Fields.{shares_of, name_of, place_of, members_of, last_by};
+ghost use Rattle.floor_events.specs.Grammar.{fields1, fields3};
 
 use crate::event::Event;
-use crate::few::{Few, read_few};
-use crate::line_words::{MOST_MEMBERS, Words};
+use crate::few::{Few, MOST_MEMBERS, read_few};
+use crate::line_words::Words;
 use floor_text::Name;
 use level_plan::{MOST_SHARES, PlanLine};
 use seat_book::Place;
@@ -18,11 +18,11 @@ use std::alloc::{AllocError, Global};
 
 /// Reads all words that are left as the shares of the prizes. `None` exactly where they are not 1 to 64 numbers;
 /// memory is wanted only where they are.
-#[tactic(auto, unfolding(crate::specs::Fields::shares_of, crate::specs::Grammar::rest0))]
+#[tactic(auto, unfolding(crate::specs::Fields::shares_of, crate::specs::Grammar::fields1))]
 pub fn read_shares(alloc: Global, line: &mut Words<'_>) -> Result<Option<Event>, AllocError>
     ensures exact { IfOk result
-        (λ found. found ≡ rest0 shares_of (λ shares. events.Plan (lines.Shares shares)) line.old) }
-    ensures err { OnErr result (IsSome (rest0 shares_of (λ shares. events.Plan (lines.Shares shares)) line.old)) }
+        (λ found. found ≡ fields1 shares_of (λ shares. events.Plan (lines.Shares shares)) line.old) }
+    ensures err { OnErr result (IsSome (fields1 shares_of (λ shares. events.Plan (lines.Shares shares)) line.old)) }
 {
     let Some(shares) = read_few::<u64, MOST_SHARES>(line) else {
         return Ok(None);
@@ -36,21 +36,20 @@ type BreakParts = (u64, Few<Place, MOST_MEMBERS>, Few<Name, MOST_MEMBERS>);
 #[tactic(auto, unfolding(crate::specs::Grammar::fields0, crate::specs::Grammar::fields1, crate::specs::Grammar::fields2, crate::specs::Grammar::fields3))]
 fn read_break_parts(line: &mut Words<'_>) -> Option<BreakParts>
     ensures { option_map (λ parts. events.Break parts.0 parts.1 parts.2) result
-        ≡ fields3 number_of (members_of place_of) (members_of name_of) events.Break line.old }
+        ≡ fields3 number_of (members_of place_of) (last_by (members_of name_of)) events.Break line.old }
 {
-    let table = line.number()?;
-    let seats = line.members()?;
-    let names = line.members()?;
-    line.is_done().then_some((table, seats, names))
+    let table = line.field()?;
+    let seats = line.field()?;
+    Some((table, seats, line.last_field()?))
 }
 
 /// Reads all words that are left as the table that breaks, the seats that are filled and who takes them. `None`
 /// exactly where they are not these; memory is wanted only where they are.
 pub fn read_break(alloc: Global, line: &mut Words<'_>) -> Result<Option<Event>, AllocError>
     ensures exact { IfOk result (λ found. found
-        ≡ fields3 number_of (members_of place_of) (members_of name_of) events.Break line.old) }
+        ≡ fields3 number_of (members_of place_of) (last_by (members_of name_of)) events.Break line.old) }
     ensures err { OnErr result
-        (IsSome (fields3 number_of (members_of place_of) (members_of name_of) events.Break line.old)) }
+        (IsSome (fields3 number_of (members_of place_of) (last_by (members_of name_of)) events.Break line.old)) }
 {
     let Some((table, seats, names)) = read_break_parts(line) else {
         return Ok(None);
