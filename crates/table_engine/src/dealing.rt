@@ -8,7 +8,6 @@ ghost use Rattle.table_engine.specs.Hands.{players_by_seat};
 ghost use Rattle.table_engine.specs.Deals.{board_card, board_of, dealt_seats, hole_card, hole_count, listed, tabled};
 ghost use Rattle.table_engine.specs.Results.{live_on};
 
-use crate::standing::players_by_seat;
 use crate::start::{HandStart, StartSeat};
 use betting_round::Round;
 use button_blinds::SeatSet;
@@ -16,12 +15,12 @@ use card_set::{Card, Game};
 use deal_order::{board_place, hole_place};
 use showdown::Live;
 
-/// Gives the seats that are dealt in.
-pub(crate) fn dealt_seats(start: &HandStart) -> SeatSet
+/// Gives the seats that are dealt in, where the players stand by the seats 1 to 10.
+pub(crate) fn dealt_seats(start: &HandStart, players: &[Option<StartSeat>; 10]) -> SeatSet
+    requires { players.now ≡ players_by_seat start.now }
     ensures { result ≡ dealt_seats start.now }
 {
     let mut dealt = SeatSet::empty();
-    let players = players_by_seat(start);
     for (index, player) in players.iter().enumerate() {
         if player.is_some() {
             dealt = dealt.with(index as u8 + 1);
@@ -146,21 +145,27 @@ fn live_on(
 }
 
 /// Gives the live players with their hole cards, by the seats 1 to 10.
-pub(crate) fn all_live(start: &HandStart, dealt: SeatSet, round: &Round) -> [Option<Live>; 10]
+pub(crate) fn all_live(
+    start: &HandStart,
+    players: &[Option<StartSeat>; 10],
+    dealt: SeatSet,
+    round: &Round,
+) -> [Option<Live>; 10]
     requires lawful { IsLawfulStart start.now }
+    requires players { players.now ≡ players_by_seat start.now }
     requires dealt { dealt ≡ dealt_seats start.now }
     ensures { result ≡ map (live_on start.now round.now) (players_by_seat start.now) }
 {
     [
-        live_on(start, dealt, round, start.player_of(1)),
-        live_on(start, dealt, round, start.player_of(2)),
-        live_on(start, dealt, round, start.player_of(3)),
-        live_on(start, dealt, round, start.player_of(4)),
-        live_on(start, dealt, round, start.player_of(5)),
-        live_on(start, dealt, round, start.player_of(6)),
-        live_on(start, dealt, round, start.player_of(7)),
-        live_on(start, dealt, round, start.player_of(8)),
-        live_on(start, dealt, round, start.player_of(9)),
-        live_on(start, dealt, round, start.player_of(10)),
+        live_on(start, dealt, round, players[0]),
+        live_on(start, dealt, round, players[1]),
+        live_on(start, dealt, round, players[2]),
+        live_on(start, dealt, round, players[3]),
+        live_on(start, dealt, round, players[4]),
+        live_on(start, dealt, round, players[5]),
+        live_on(start, dealt, round, players[6]),
+        live_on(start, dealt, round, players[7]),
+        live_on(start, dealt, round, players[8]),
+        live_on(start, dealt, round, players[9]),
     ]
 }

@@ -10,9 +10,9 @@ ghost use Rattle.table_engine.specs.Plays.{IsLawfulPlay, IsCompletePlay};
 
 use crate::awards::Awards;
 use crate::dealing::{all_live, board_of, dealt_seats};
-use crate::players::pay;
+use crate::players::{pay, players_by_seat};
 use crate::record::{ActFault, ActOf, HandRecord};
-use crate::standing::{Standing, players_by_seat};
+use crate::standing::Standing;
 use crate::start::HandStart;
 use crate::telling::{first_puts, tell};
 use betting_round::{Act, Done};
@@ -50,6 +50,7 @@ impl Model for Hand {
 
 impl Hand {
     /// Makes a hand before any act. It takes the room for its end; want of memory hands the start back.
+    #[inline(never)]
     pub fn new(alloc: Global, start: HandStart) -> Result<Hand, HandStart>
         requires { IsLawfulStart start }
         ensures hand { IfOk result (λ hand. hand ≡ record { start = start; acts = [] }) }
@@ -210,8 +211,9 @@ impl Hand {
         ensures awards { result ≡ showdown_awards self.now }
         ensures few { sum result < 2 ^ 53 }
     {
-        let dealt = dealt_seats(&self.start);
-        let live = all_live(&self.start, dealt, &self.standing.round);
+        let players = players_by_seat(&self.start);
+        let dealt = dealt_seats(&self.start, &players);
+        let live = all_live(&self.start, &players, dealt, &self.standing.round);
         award(
             &self.tally.pots(),
             &live,
@@ -237,6 +239,7 @@ impl Hand {
 
     /// Ends a hand that is over: where one player alone is live he gets everything, else each pot goes to the best
     /// hands of those who are eligible for it. It takes no memory.
+    #[inline(never)]
     pub fn finish(self) -> HandRecord
         requires { IsTrue (is_over self) }
         ensures start { result.start ≡ self.start }

@@ -1,16 +1,43 @@
-//! The players of a hand with other stacks.
+//! The players of a hand by their seats, and with other stacks.
 
-ghost use Rattle.std.specs.Prelude.{◌≡◌, ◌+◌, ◌<◌, ◌≤◌, ◌^◌, true, length, map};
+ghost use Rattle.std.specs.Prelude.{◌≡◌, ◌==◌, ◌+◌, ◌<◌, ◌≤◌, ◌^◌, None, true, find, length, map, replicate};
 ghost use Rattle.std.specs.List.{list_all};
+ghost use Rattle.rulebook.specs.Seats.{walk};
 ghost use Rattle.betting_round.specs.StreetActs.{chips_on};
 ghost use Rattle.betting_round.specs.WhoIsDue.{player_in};
 ghost use Rattle.level_plan.specs.Items.{is_between};
+ghost use Rattle.table_engine.specs.Starts.{IsLawfulStart};
+ghost use Rattle.table_engine.specs.Hands.{players_by_seat};
 ghost use Rattle.table_engine.specs.Awards.{most_awarded, stack_after};
 ghost use Rattle.table_engine.specs.Results.{with_stacks};
 
 use crate::awards::Awards;
-use crate::start::StartSeat;
+use crate::start::{HandStart, StartSeat};
 use betting_round::Round;
+
+/// Puts players into the slots of their seats. Where two had one seat, the first would have it.
+fn place_players(players: &[StartSeat], slots: &mut [Option<StartSeat>; 10])
+    requires seats { list_all (λ player. is_between 1 10 player.seat) players.now ≡ true }
+    requires empty { slots.old ≡ replicate 10 None }
+    ensures { slots.new ≡ map (λ seat. find (λ player. player.seat == seat) players.now)
+        (walk (λ seat. seat + 1) 10 0) }
+{
+    let [first, rest @ ..] = players else {
+        return;
+    };
+    place_players(rest, slots);
+    slots[usize::from(first.seat) - 1] = Some(*first);
+}
+
+/// Gives the players who are dealt in, by the seats 1 to 10.
+pub(crate) fn players_by_seat(start: &HandStart) -> [Option<StartSeat>; 10]
+    requires { IsLawfulStart start.now }
+    ensures { result ≡ players_by_seat start.now }
+{
+    let mut slots = [None; 10];
+    place_players(start.seats.items(), &mut slots);
+    slots
+}
 
 /// Tells what the player in a seat has after a hand, in chips: what he has behind, and what he gets.
 fn stack_after(round: &Round, seat: u8, awards: &Awards) -> u64

@@ -96,24 +96,6 @@ fn all_seated(start: &HandStart, players: &[Option<StartSeat>; 10]) -> [Option<B
     ]
 }
 
-/// Gives the players who are dealt in, by the seats 1 to 10.
-pub(crate) fn players_by_seat(start: &HandStart) -> [Option<StartSeat>; 10]
-    ensures { result ≡ players_by_seat start.now }
-{
-    [
-        start.player_of(1),
-        start.player_of(2),
-        start.player_of(3),
-        start.player_of(4),
-        start.player_of(5),
-        start.player_of(6),
-        start.player_of(7),
-        start.player_of(8),
-        start.player_of(9),
-        start.player_of(10),
-    ]
-}
-
 /// Tells what the short blinds of these players lack, in chips.
 fn all_lacking(start: &HandStart, players: &[Option<StartSeat>]) -> u64
     requires { sum_over (lacking start.now) players.now < 2 ^ 60 }

@@ -1,7 +1,7 @@
 //! How a hand starts.
 
 ghost use Rattle.std.specs.Prelude.{◌≡◌, Some, IsTrue, IfOk};
-ghost use Rattle.table_engine.specs.Hands.{player_of, seat_of_name, name_in_seat};
+ghost use Rattle.table_engine.specs.Hands.{seat_of_name, name_in_seat};
 ghost use Rattle.table_engine.specs.Results.{with_stack};
 
 use button_blinds::Marks;
@@ -74,14 +74,6 @@ impl HandStart {
             game: self.game,
             deck: self.deck,
         })
-    }
-
-    /// Gives the player who is dealt in at a seat, if one is.
-    pub(crate) fn player_of(&self, seat: u8) -> Option<StartSeat>
-        ensures { result ≡ player_of self.now seat }
-    {
-        let mut seats = self.seats.items().iter().copied();
-        seats.find(|player| player.seat == seat)
     }
 
     /// Gives the seat of the player of this name.

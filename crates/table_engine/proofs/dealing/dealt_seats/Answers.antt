@@ -12,20 +12,20 @@ loop-index-preserved c =
     elim c.if-is_some.branch [
       | then-is_some w ↦
           w.dealt-is ∙ w.with-dealt.ensures.same
-          ∙ so_far-yes is_some c.players_by_seat-players.result c.loop-index.index c.loop-index.dealt
-          c.player-item.result
-          (omega arith) c.type_inv.player-items c.loop-index.invariant (sym c.is_some.ensures ∙ w.if-is_some.true)
+          ∙ so_far-yes is_some c.args.players.now c.loop-index.index c.loop-index.dealt
+          c.index-players-index.result
+          (omega arith) c.type_inv.players c.loop-index.invariant (sym c.is_some.ensures ∙ w.if-is_some.true)
       | else-is_some w ↦
           w.dealt-is
-          ∙ so_far-no is_some c.players_by_seat-players.result c.loop-index.index c.loop-index.dealt
-          c.player-item.result
-          (omega arith) c.type_inv.player-items c.loop-index.invariant (sym c.is_some.ensures ∙ w.if-is_some.false)
+          ∙ so_far-no is_some c.args.players.now c.loop-index.index c.loop-index.dealt
+          c.index-players-index.result
+          (omega arith) c.type_inv.players c.loop-index.invariant (sym c.is_some.ensures ∙ w.if-is_some.false)
     ]
 
 pub returns : goal.returns
 unfolding dealt_seats
 returns c =
     c.loop-index.invariant
-    ∙ seats-all is_some c.players_by_seat-players.result c.loop-index.index (10 - c.loop-index.index) (omega arith)
+    ∙ seats-all is_some c.args.players.now c.loop-index.index (10 - c.loop-index.index) (omega arith)
     (omega arith)
-    ∙ ap (map is_some) c.players_by_seat-players.ensures
+    ∙ ap (map is_some) c.requires
