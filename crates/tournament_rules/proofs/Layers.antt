@@ -1,14 +1,14 @@
 -- The book and the hands by table, as layers of the tournament that they are.
 use Rattle.std.proofs.Common.{◌≡◌, ◌∙◌, refl, sym, ap, ℕ, zero, suc, List, [], ◌∷◌, map, length, get_or, length-set}
 use Rattle.std.specs.Prelude.{replicate, Option, Some, None, option_map, slice_index_or}
+use Rattle.std.specs.Option.{option_and_then}
 use Rattle.std.proofs.Math.ListN.{get_or-map as get_or-map_all}
 use Rattle.std.proofs.Math.Seq.{map-set_same}
 use Rattle.std.proofs.lemmas.List.{map-set, length-map}
 use Rattle.table_engine.specs.Hands.{HandTerms}
 use Rattle.floor_events.specs.declared.event.Event.{Event}
-use Rattle.floor_events.specs.declared.event.Event.TheVariants as events
 use Rattle.tournament_rules.specs.Books.{BookState, start_at}
-use Rattle.tournament_rules.specs.States.{acts_at, hand_at, hand_of}
+use Rattle.tournament_rules.specs.States.{acts_at, hand_at, hand_table, hand_of}
 use Rattle.tournament_rules.specs.Apart.{hand_in, hand_for, start_of, acts_of, seen_of}
 
 -- The hand that the tournament has at a table is the hand at that table.
@@ -36,20 +36,13 @@ acts_read hands table = get_or-map_all acts_of hands table None
 -- The hand that an event is about is the same.
 pub hand_for-read : (book : BookState) (hands : List (Option HandTerms)) (event : Event) → map start_of hands ≡ book.out
     → hand_of (seen_of (record { book = book; hands = hands })) event ≡ hand_for hands event
-hand_for-read book hands (events.Plan line) tied = refl
-hand_for-read book hands events.Go tied = refl
-hand_for-read book hands (events.Enter name table seat) tied = refl
-hand_for-read book hands (events.Begin table row) tied = refl
-hand_for-read book hands (events.Act table name act) tied = hand_read book hands table tied
-hand_for-read book hands (events.Time table) tied = hand_read book hands table tied
-hand_for-read book hands (events.Settle table) tied = hand_read book hands table tied
-hand_for-read book hands (events.Balance from to) tied = refl
-hand_for-read book hands (events.Break table places names) tied = refl
-hand_for-read book hands events.Level tied = refl
-hand_for-read book hands (events.Race table row) tied = refl
-hand_for-read book hands (events.Hands on) tied = refl
-hand_for-read book hands events.Round tied = refl
-hand_for-read book hands events.Stop tied = refl
+hand_for-read book hands event tied = by_table (hand_table event)
+  where
+    by_table : (table : Option ℕ)
+        → option_and_then (hand_at (seen_of (record { book = book; hands = hands }))) table
+        ≡ option_and_then (hand_in hands) table
+    by_table None = refl
+    by_table (Some table) = hand_read book hands table tied
 
 -- No hand is played at any table.
 pub map_empty : {A B : Type 0} (f : A → B) (count : ℕ) (item : A)

@@ -16,7 +16,7 @@ use Rattle.tournament_rules.specs.Books.{BookState, no_hands}
 use Rattle.tournament_rules.specs.Checks.{book_refusal, hand_checks}
 use Rattle.tournament_rules.specs.Dealing.{next_start}
 use Rattle.tournament_rules.specs.Effects.{first_book, book_effect}
-use Rattle.tournament_rules.specs.States.{PlayState, answered}
+use Rattle.tournament_rules.specs.States.{PlayState, hand_table, answered}
 
 pub record Apart : Type 0 where
   pub book : BookState
@@ -43,22 +43,9 @@ acts_of hand = option_map_or (λ hand. hand.acts) hand []
 abbrev pub seen_of : Apart → PlayState
 seen_of apart = record { book = apart.book; acts = map acts_of apart.hands }
 
--- the hand that an event is about
+-- the hand that an event is about, if it is out
 abbrev pub hand_for : List (Option HandTerms) → Event → Option HandTerms
-hand_for hands (events.Plan line) = None
-hand_for hands events.Go = None
-hand_for hands (events.Enter name table seat) = None
-hand_for hands (events.Begin table row) = None
-hand_for hands (events.Act table name act) = hand_in hands table
-hand_for hands (events.Time table) = hand_in hands table
-hand_for hands (events.Settle table) = hand_in hands table
-hand_for hands (events.Balance from to) = None
-hand_for hands (events.Break table places names) = None
-hand_for hands events.Level = None
-hand_for hands (events.Race table row) = None
-hand_for hands (events.Hands on) = None
-hand_for hands events.Round = None
-hand_for hands events.Stop = None
+hand_for hands event = option_and_then (hand_in hands) (hand_table event)
 
 -- why a hand refuses an event, if it does
 abbrev pub hand_refusal : Event → HandTerms → Option Refusal

@@ -1,6 +1,6 @@
 -- The state of a tournament, what an event is answered, and what it makes of the state. This project's own.
 use Rattle.std.specs.Prelude.{ℕ, ◌+◌, Bool, true, false, List, [], ◌∷◌, ◌++◌, length, replicate, slice_index_or, slice_set, Option, Some, None, is_none, option_map, if◌then◌else◌}
-use Rattle.std.specs.Option.{option_map_or}
+use Rattle.std.specs.Option.{option_map_or, option_and_then}
 use Rattle.rulebook.specs.Checks.{first_that_holds}
 use Rattle.floor_text.specs.declared.refusal.Refusal.{Refusal}
 use Rattle.floor_text.specs.declared.refusal.Refusal.TheVariants.{NoPlan}
@@ -53,22 +53,26 @@ abbrev pub hand_at : PlayState → ℕ → Option HandTerms
 hand_at play table =
     option_map (λ start. record { start = start; acts = acts_at play.acts table }) (start_at play.book.out table)
 
+-- the table of the hand that an event is about, if it is about one
+abbrev pub hand_table : Event → Option ℕ
+hand_table (events.Plan line) = None
+hand_table events.Go = None
+hand_table (events.Enter name table seat) = None
+hand_table (events.Begin table row) = None
+hand_table (events.Act table name act) = Some table
+hand_table (events.Time table) = Some table
+hand_table (events.Settle table) = Some table
+hand_table (events.Balance from to) = None
+hand_table (events.Break table places names) = None
+hand_table events.Level = None
+hand_table (events.Race table row) = None
+hand_table (events.Hands on) = None
+hand_table events.Round = None
+hand_table events.Stop = None
+
 -- the hand that an event is about, if there is one
 abbrev pub hand_of : PlayState → Event → Option HandTerms
-hand_of play (events.Plan line) = None
-hand_of play events.Go = None
-hand_of play (events.Enter name table seat) = None
-hand_of play (events.Begin table row) = None
-hand_of play (events.Act table name act) = hand_at play table
-hand_of play (events.Time table) = hand_at play table
-hand_of play (events.Settle table) = hand_at play table
-hand_of play (events.Balance from to) = None
-hand_of play (events.Break table places names) = None
-hand_of play events.Level = None
-hand_of play (events.Race table row) = None
-hand_of play (events.Hands on) = None
-hand_of play events.Round = None
-hand_of play events.Stop = None
+hand_of play event = option_and_then (hand_at play) (hand_table event)
 
 -- the table of an event that is an act of a player or a called time, if it is one
 abbrev pub act_table : Event → Option ℕ
