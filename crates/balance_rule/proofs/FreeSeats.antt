@@ -5,6 +5,7 @@ use Rattle.std.specs.Prelude.{not, ◌&&◌, ◌||◌, find, unwrap_or, slice_in
 use Rattle.std.proofs.lemmas.Bool.{both_ways, cases_lt, eq-eqb, eqb-true, and_parts, not-true}
 use Rattle.std.proofs.lemmas.Bool.Decides.{nat_tests}
 use Rattle.rulebook.specs.Seats.{seat_after, walk, clockwise_after}
+use Rattle.rulebook.proofs.Found.{none-by_test}
 use Rattle.rulebook.proofs.OccupiedSeats.{seat_after-within, walk-higher, walk-round}
 use Rattle.rulebook.proofs.Tests.{count_by-cons, eqb-swap, find-passes}
 use Rattle.button_blinds.specs.SeatSets.{has_seat, with_seat, seat_count}
@@ -124,8 +125,5 @@ worst-empty seats is_empty (Some marks) seat is =
 -- Nobody sits in an empty seat.
 pub empty-nobody : (players : List Seated) (table seat : ℕ) → is_empty_seat players table seat ≡ true
     → player_at players (record { table = table; seat = seat }) ≡ None
-empty-nobody players table seat empty = none (player_at players (record { table = table; seat = seat })) empty
-  where
-    none : (found : Option Seated) → not (is_some found) ≡ true → found ≡ None
-    none None is = refl
-    none (Some seated) is = cc
+empty-nobody players table seat empty =
+    none-by_test (player_at players (record { table = table; seat = seat })) empty

@@ -12,7 +12,7 @@ use Rattle.card_set.proofs.DeckLaws.{repeats_none-from_AllPairs}
 use Rattle.card_choices.specs.Choices.{AreDistinct}
 use Rattle.hand_rank.specs.Values.{ranks_down, count_of_rank, ranks_that_occur, distinct_ranks, are_of_one_suit}
 use Rattle.hand_rank.specs.Made.{count_of_suit, AreOnce}
-use Rattle.hand_rank.proofs.Chosen.{count_by-cons}
+use Rattle.rulebook.proofs.Tests.{count_by-cons}
 use Rattle.hand_rank.proofs.CountLaws.{count_of_rank-cons}
 use Rattle.hand_rank.specs.Shown.{falling}
 use Rattle.hand_rank.proofs.Sections.{sections, total, total-same}

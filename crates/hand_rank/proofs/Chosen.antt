@@ -4,10 +4,10 @@ use Rattle.std.specs.Prelude.{count_by, filter}
 use Rattle.std.specs.List.{list_all}
 use Rattle.std.proofs.Math.Nat.{le-add_left}
 use Rattle.std.proofs.lemmas.Bool.Decides.{nat_tests}
-use Rattle.std.proofs.lemmas.List.Sums.{sum_by-cons}
 use Rattle.card_choices.proofs.Combined.{combined, choices-cons}
 use Rattle.card_choices.proofs.ListOrder.{Upto, upto_through, max-within, max-above_left, max-above_right}
 use Rattle.card_choices.specs.Choices.{choices}
+use Rattle.rulebook.proofs.Tests.{count_by-cons}
 use Rattle.hand_rank.specs.BestHigh.{greater}
 use Rattle.hand_rank.proofs.ChangeLaws.{greater-combining}
 
@@ -21,10 +21,6 @@ IsChoice (c ∷ cs) (x ∷ xs) = ((c ≡ x) × IsChoice cs xs) ⊎ IsChoice (c �
 pub skip : {A : Type 0} (c : List A) (x : A) (xs : List A) → IsChoice c xs → IsChoice c (x ∷ xs)
 skip [] x xs is = tt
 skip (c ∷ cs) x xs is = inr is
-
-pub count_by-cons : {A : Type 0} (p : A → Bool) (x : A) (xs : List A)
-    → count_by p (x ∷ xs) ≡ cond (p x) 1 0 + count_by p xs
-count_by-cons p x xs = sum_by-cons (λ y. cond (p y) 1 0) x xs
 
 -- a choice has no more things that pass a test
 pub count-choice : {A : Type 0} (p : A → Bool) (c xs : List A) → IsChoice c xs → count_by p c ≤ count_by p xs

@@ -1,11 +1,11 @@
 -- How often ranks occur among some cards.
-use Rattle.std.proofs.Common.{◌≡◌, ℕ, zero, suc, ltb, ◌+◌, ◌-◌, ◌<◌, ◌≤◌, Bool, true, false, cond, eqb, List, [], ◌∷◌, ◌++◌, length, take, drop, get_or, refl, sym, ap, ap₂, ◌∙◌, arith, length-append, append_assoc, append-nil}
+use Rattle.std.proofs.Common.{◌≡◌, ℕ, zero, suc, ltb, ◌+◌, ◌-◌, ◌<◌, ◌≤◌, Bool, true, false, cond, eqb, List, [], ◌∷◌, ◌++◌, length, take, drop, get_or, refl, sym, ap, ap₂, ◌∙◌, le_of_eq, arith, length-append, append_assoc, append-nil}
 use Rattle.std.specs.Prelude.{Option, map, filter, count_by, sum_by}
 use Rattle.std.specs.List.{list_all}
 use Rattle.std.proofs.lemmas.Bool.{and_parts, ltb-true}
 use Rattle.std.proofs.lemmas.Bool.Decides.{nat_tests}
 use Rattle.std.proofs.lemmas.List.{drop_all, take_all, map-append}
-use Rattle.std.proofs.lemmas.List.Sums.{sum_by-cons, length-filter}
+use Rattle.std.proofs.lemmas.List.Sums.{sum_by-cons, sum_by-le-sum_by, length-filter}
 use Rattle.card_set.specs.declared.card.Card.{Card}
 use Rattle.hand_rank.specs.declared.category.Category.{Category}
 use Rattle.card_choices.proofs.Filters.{left_of, left_of-taken, left_of-passed}
@@ -16,11 +16,6 @@ sum_by-add f g [] = refl
 sum_by-add f g (x ∷ xs) =
     let later = sum_by-add f g xs in
     rw (sum_by-cons (λ x. f x + g x) x xs, sum_by-cons f x xs, sum_by-cons g x xs) (omega arith)
-
-sum_by-same : (f g : ℕ → ℕ) (xs : List ℕ) → ((x : ℕ) → f x ≡ g x) → sum_by f xs ≡ sum_by g xs
-sum_by-same f g [] same = refl
-sum_by-same f g (x ∷ xs) same =
-    rw (sum_by-cons f x xs, sum_by-cons g x xs) (ap₂ (λ a b. a + b) (same x) (sum_by-same f g xs same))
 
 sum_by-zero : (xs : List ℕ) → sum_by (λ x. 0) xs ≡ 0
 sum_by-zero [] = refl
@@ -42,10 +37,13 @@ counts-sum (card ∷ cards) =
     let to = card.up_to_ace in
     let later = counts-sum cards in
     let one = one_rank card.rank from to in
-    let split = sum_by-same (count_of_rank (card ∷ cards))
-    (λ r. cond (eqb card.rank r) 1 0 + count_of_rank cards r) ranks_down (count_of_rank-cons card cards) in
+    let with_one : ℕ → ℕ = λ r. cond (eqb card.rank r) 1 0 + count_of_rank cards r in
+    let up = sum_by-le-sum_by (count_of_rank (card ∷ cards)) with_one ranks_down
+    (λ r. le_of_eq (count_of_rank-cons card cards r)) in
+    let down = sum_by-le-sum_by with_one (count_of_rank (card ∷ cards)) ranks_down
+    (λ r. le_of_eq (sym (count_of_rank-cons card cards r))) in
     let both = sum_by-add (λ r. cond (eqb card.rank r) 1 0) (count_of_rank cards) ranks_down in
-    omega (arith, split, both, one, later)
+    omega (arith, up, down, both, one, later)
 
 at_most_once : (n : ℕ) → cond (eqb n 4) 1 0 + cond (eqb n 3) 1 0 + cond (eqb n 2) 1 0 + cond (eqb n 1) 1 0 ≤ n
 at_most_once n = grind (arith, nat_tests)

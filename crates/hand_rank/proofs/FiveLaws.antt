@@ -5,12 +5,13 @@ use Rattle.std.proofs.lemmas.Bool.Decides.{nat_tests}
 use Rattle.std.proofs.lemmas.List.{map-append}
 use Rattle.std.proofs.lemmas.List.Sums.{sum_by-append}
 use Rattle.card_set.specs.declared.card.Card.{Card}
+use Rattle.rulebook.proofs.Tests.{count_by-cons}
 use Rattle.hand_rank.specs.Runs.{highest_run}
 use Rattle.hand_rank.specs.Sets.{has_rank}
 use Rattle.hand_rank.specs.Shown.{falling, ranks_of}
 use Rattle.hand_rank.specs.Values.{count_of_rank, distinct_ranks, run_top}
 use Rattle.hand_rank.proofs.CardCounts.{other-rank, distinct_ranks-sections, total-cards}
-use Rattle.hand_rank.proofs.Chosen.{occurs, count_by-cons}
+use Rattle.hand_rank.proofs.Chosen.{occurs}
 use Rattle.hand_rank.proofs.MadeLaws.{ones, shown-run}
 use Rattle.hand_rank.proofs.Needs.{has-only}
 use Rattle.hand_rank.proofs.RunLaws.{occurring, run-found, IsRunTo, run-is, run-ranks, run-five}

@@ -15,10 +15,10 @@ use Rattle.hand_rank.specs.Made.{count_of_suit, AreOnce}
 use Rattle.hand_rank.specs.Shown.{shown_value, IsSized}
 use Rattle.hand_rank.specs.Values.{category_number, category_of, count_of_rank, distinct_ranks, run_top, are_of_one_suit, value_by, five_card_value}
 use Rattle.hand_rank.proofs.CardCounts.{other-rank, once-few, total-cards}
-use Rattle.hand_rank.proofs.Chosen.{IsChoice, count-choice, occurs, choice-with, chosen-within, chosen-above}
+use Rattle.hand_rank.proofs.Chosen.{IsChoice, whole, count-choice, occurs, choice-with, chosen-within, chosen-above}
 use Rattle.hand_rank.proofs.CountLaws.{count_of_rank-cons, value-by}
 use Rattle.hand_rank.proofs.Needs.{times, length-times, occurs-times}
-use Rattle.hand_rank.proofs.OmahaLaws.{choice-joined, choice-once, itself}
+use Rattle.hand_rank.proofs.OmahaLaws.{choice-joined, choice-once}
 use Rattle.hand_rank.proofs.PartLaws.{count-joined}
 use Rattle.hand_rank.proofs.Sections.{total, total-same}
 use Rattle.hand_rank.proofs.ShownValues.{AreShown, head}
@@ -50,7 +50,7 @@ two-ranks (card ∷ cards) a b apart =
 pub is-hand : (hole board three : List Card) → IsChoice three board → length three ≡ 3 → length hole ≡ 2
     → AreOnce (hole ++ board) → IsHandOf hole board (hole ++ three)
 is-hand hole board three is count two once =
-    let all = choice-joined hole hole three board (itself hole) is in
+    let all = choice-joined hole hole three board (whole hole) is in
     record {
       shown = record {
         count = let both = length-append hole three in omega arith;

@@ -5,6 +5,7 @@ use Rattle.std.proofs.lemmas.Bool.{eqb-false}
 use Rattle.std.proofs.lemmas.Bool.Decides.{nat_tests}
 use Rattle.card_set.specs.declared.card.Card.{Card}
 use Rattle.card_choices.proofs.ListOrder.{Upto}
+use Rattle.rulebook.proofs.Tests.{at_most_one}
 use Rattle.hand_rank.specs.declared.held.Held.{Held}
 use Rattle.hand_rank.specs.declared.rank_set.RankSet.{RankSet}
 use Rattle.hand_rank.specs.declared.shown.Shown.{Shown}
@@ -415,10 +416,6 @@ led-none number k j c held hole board most from rank found best form is below is
       | false ↦ λ is_not. grind (arith, nat_tests)
     ] refl
 
-    bit-few : (b : Bool) → bit b ≤ 1
-    bit-few true = lit≤ tt
-    bit-few false = lit≤ tt
-
     often : (three : List Card) (ranks : List ℕ) → IsHandOf hole board (hole ++ three)
         → (led : IsLed (hole ++ three) k j c ranks) → (r : ℕ) → 1 ≤ count_of_rank (hole ++ three) r
         → j ≤ count_of_rank (hole ++ board) r
@@ -460,7 +457,7 @@ led-none number k j c held hole board most from rank found best form is below is
         let there : bit (q led.rank) ≡ 1 = ap bit (le-leb 1 (count led.rank) (omega arith)) in
         let second = falling-but_one q w rank 16 below (λ r apart. but_one-other (q r) r rank apart) in
         let gone : bit (w rank) ≡ 0 = ap bit (but_one-itself (q rank) rank) in
-        let small = bit-few (q rank) in
+        let small = at_most_one (q rank) in
         let fewer = falling-fewer w (λ r. has_rank from.bits r && not (has_rank most.bits r)) 16 (λ r under has.
         let parts = both-are (q r) (eqb r rank) has in
         ap₂ (λ a b. a && not b) (is_from.at r under ∙ le-leb j (count_of_rank (hole ++ board) r)

@@ -2,9 +2,10 @@
 use Rattle.std.proofs.Common.{◌≡◌, ℕ, zero, suc, ◌+◌, ◌<◌, ◌≤◌, ◌⊎◌, inl, inr, true, false, cond, eqb, List, [], ◌∷◌, length, refl, sym, subst, zero-le, eqb-true, eq-eqb, arith}
 use Rattle.std.proofs.lemmas.Bool.Decides.{nat_tests}
 use Rattle.card_set.specs.declared.card.Card.{Card}
+use Rattle.rulebook.proofs.Tests.{count_by-cons}
 use Rattle.hand_rank.specs.Values.{count_of_rank}
 use Rattle.hand_rank.specs.Picks.{without}
-use Rattle.hand_rank.proofs.Chosen.{IsChoice, count_by-cons, occurs, choice-with}
+use Rattle.hand_rank.proofs.Chosen.{IsChoice, occurs, choice-with}
 use Rattle.hand_rank.proofs.PickLaws.{Has, Falls, without-other, without-less, has-more}
 use Rattle.hand_rank.proofs.Sections.{total, total-without, added}
 

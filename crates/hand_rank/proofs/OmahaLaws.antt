@@ -65,10 +65,6 @@ choice-joined (c ∷ cs) [] d ys one other = absurd one
 choice-joined (c ∷ cs) (x ∷ xs) d ys (inl at) other = inl (at.0, choice-joined cs xs d ys at.1 other)
 choice-joined (c ∷ cs) (x ∷ xs) d ys (inr after) other = inr (choice-joined (c ∷ cs) xs d ys after other)
 
-pub itself : {A : Type 0} (xs : List A) → IsChoice xs xs
-itself [] = tt
-itself (x ∷ xs) = inl (refl, itself xs)
-
 -- a choice of cards has each rank of each suit no more often
 pub choice-once : (c xs : List Card) → IsChoice c xs → AreOnce xs → AreOnce c
 choice-once c xs is once suit r =

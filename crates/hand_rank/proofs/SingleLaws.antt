@@ -9,6 +9,7 @@ use Rattle.std.proofs.lemmas.List.{nil_from_length}
 use Rattle.std.proofs.lemmas.List.Folds.{list_all-append}
 use Rattle.card_set.specs.declared.card.Card.{Card}
 use Rattle.card_choices.proofs.ListOrder.{Upto}
+use Rattle.rulebook.proofs.Found.{some-found}
 use Rattle.hand_rank.specs.declared.held.Held.{Held}
 use Rattle.hand_rank.specs.declared.rank_set.RankSet.{RankSet}
 use Rattle.hand_rank.specs.declared.shown.Shown.{Shown}
@@ -471,7 +472,7 @@ pub flush-best : (held : Held) (hole board : List Card) (shown : Shown) → IsHe
 flush-best held hole board shown is category none greatest =
     let p = has_rank shown.others.bits in
     let found = greatest.are shown.others refl in
-    let suit = some_suit (suit_of hole) refl in
+    let suit = some-found (suit_of hole) no_suit in
     let all_suited = suit-all hole suit.0 suit.1 in
     let of_suit : HasRanks held.suited.bits 1 (count_of_suit (hole ++ board) suit.0) =
     subst (λ s. HasRanks held.suited.bits 1 (count_of_some_suit s (hole ++ board))) suit.1 is.suited in
@@ -524,9 +525,8 @@ flush-best held hole board shown is category none greatest =
     above (Some top) ranks others up = inl (lit≤ tt)
     above None ranks others up = inr (refl, up)
 
-    some_suit : (suit : Option ℕ) → suit_of hole ≡ suit → (s : ℕ) × (suit_of hole ≡ Some s)
-    some_suit (Some s) at = (s, at)
-    some_suit None at =
+    no_suit : suit_of hole ≡ None → ⊥
+    no_suit at =
         let nothing : HasRanks held.suited.bits 1 (λ r. 0) =
         subst (λ s. HasRanks held.suited.bits 1 (count_of_some_suit s (hole ++ board))) at is.suited in
         let found = greatest.are shown.others refl in

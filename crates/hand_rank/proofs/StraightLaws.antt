@@ -5,6 +5,7 @@ use Rattle.std.proofs.lemmas.Bool.Decides.{nat_tests}
 use Rattle.std.proofs.lemmas.Option.{same_Some}
 use Rattle.card_set.specs.declared.card.Card.{Card}
 use Rattle.card_choices.proofs.ListOrder.{Upto}
+use Rattle.rulebook.proofs.Found.{some-found}
 use Rattle.hand_rank.specs.declared.held.Held.{Held}
 use Rattle.hand_rank.specs.declared.shown.Shown.{Shown}
 use Rattle.hand_rank.specs.Held.{hands, count_of_some_suit, IsHeld, RunsWith, IsHighestRunWith, IsBestIn}
@@ -197,7 +198,7 @@ pub straight_flush-best : (held : Held) (hole board : List Card) (shown : Shown)
     → result ≡ Some top → IsBestIn 8 (Some shown) (hands hole board)
 straight_flush-best held hole board shown top result is category most others highest found =
     let run = highest.is top found in
-    let suit = some_suit (suit_of hole) refl in
+    let suit = some-found (suit_of hole) no_suit in
     let all_suited = suit-all hole suit.0 suit.1 in
     let count = count_of_suit (hole ++ board) suit.0 in
     let of_suit : RunsWith top count hole =
@@ -239,9 +240,8 @@ straight_flush-best held hole board shown top result is category most others hig
     (subst (λ rs. Upto (8 ∷ rs) (8 ∷ top ∷ [])) (sym told.1.2)
     (subst (λ t. Upto (8 ∷ told.1.0 ∷ []) (8 ∷ t ∷ [])) same (upto-one 8 told.1.0 with.0 with.2))))
   where
-    some_suit : (suit : Option ℕ) → suit_of hole ≡ suit → (s : ℕ) × (suit_of hole ≡ Some s)
-    some_suit (Some s) at = (s, at)
-    some_suit None at =
+    no_suit : suit_of hole ≡ None → ⊥
+    no_suit at =
         let run = subst (λ s. RunsWith top (count_of_some_suit s (hole ++ board)) hole) at (highest.is top found) in
         let low = run.low in
         let some = run-there hole (λ r. 0) top top run refl

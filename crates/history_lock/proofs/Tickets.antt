@@ -1,5 +1,5 @@
 -- Tickets that are drawn and spent, and views that are added.
-use Rattle.std.proofs.Common.{◌≡◌, ◌≢◌, ◌⊎◌, ℕ, zero, suc, ◌+◌, ◌%◌, ◌^◌, ◌<◌, ◌≤◌, Bool, true, false, List, [], ◌∷◌, ◌++◌, length, set, refl, sym, ap, ◌∙◌, subst, inl, inr, ⊎_elim, arith, is_some, cond, Option, Some, None}
+use Rattle.std.proofs.Common.{◌≡◌, ◌≢◌, ◌⊎◌, ℕ, zero, suc, ◌+◌, ◌%◌, ◌^◌, ◌<◌, ◌≤◌, true, false, List, [], ◌∷◌, ◌++◌, length, set, refl, sym, ap, ◌∙◌, subst, inl, inr, ⊎_elim, arith, is_some, cond, Option, Some, None}
 use Rattle.std.proofs.lemmas.List.Sums.{sum_by_push}
 use mathlib.Core.Logic.{dite}
 use mathlib.Core.Option.{some}
@@ -43,11 +43,8 @@ module _ {E : Type 0} where
       bounded a [] e idle' = let one_if : Option ℕ → ℕ = λ t. cond (is_some t) 1 0 in let none : has_ticket a ≡ 0 =
           ap one_if (idle' e) in omega arith
       bounded a (z ∷ zs) e idle' = let some_there : length a.shares ≡ length zs + 1 = ap length e
-          ∙ omega arith in let small : has_ticket a ≤ 1 = one_at_most (is_some a.ticket) in omega arith
-        where
-          one_at_most : (b : Bool) → cond b 1 0 ≤ 1
-          one_at_most true = omega arith
-          one_at_most false = omega arith
+          ∙ omega arith in let small : has_ticket a ≤ 1 =
+          elim (is_some a.ticket) as (λ b. cond b 1 0 ≤ 1) [ true ↦ omega arith | false ↦ omega arith ] in omega arith
 
   -- a view draws the next ticket
   pub tickets_drawn : (n ticket serving found : ℕ) (views : List (View E)) (id : ℕ) (v w : View E) → HasView views id v

@@ -1,4 +1,5 @@
 pub mod Checks
+pub mod Found
 pub mod OccupiedSeats
 pub mod Pairs
 pub mod Rewrites

@@ -5,6 +5,7 @@ use Rattle.std.specs.List.{list_any, list_all}
 use Rattle.std.specs.Option.{is_some}
 use Rattle.std.proofs.lemmas.Bool.{and_parts, and_from, or_left, or_right, cases_Bool}
 use Rattle.std.proofs.lemmas.Bool.Decides.{nat_tests}
+use Rattle.std.proofs.lemmas.List.Folds.{list_all-map}
 use Rattle.std.proofs.lemmas.List.Sums.{sum_by-cons}
 use Rattle.std.proofs.lemmas.Option.{same_Some}
 
@@ -44,18 +45,6 @@ pub list_all-follows : {A : Type 0} (one other : A → Bool) (items : List A)
 list_all-follows one other items follows first =
     list_all-both one one other items (λ item passes again. follows item passes) first first
 
--- What passes a test for all of a list does for some of it.
-pub list_all-filter : {A K : Type 0} (test : K → Bool) (key : A → K) (keep : A → Bool) (items : List A)
-    → list_all test (map key items) ≡ true → list_all test (map key (filter keep items)) ≡ true
-list_all-filter test key keep [] all = refl
-list_all-filter test key keep (item ∷ items) all =
-    let parts = and_parts (test (key item)) (list_all test (map key items)) all in
-    let rest = list_all-filter test key keep items parts.1 in
-    elim (cases_Bool (keep item)) [
-      | inl kept ↦ rw kept (and_from _ _ parts.0 rest)
-      | inr left ↦ rw left rest
-    ]
-
 -- What passes for all of a list passes for those of it that another test keeps.
 pub list_all-kept : {A : Type 0} (test keep : A → Bool) (items : List A) → list_all test items ≡ true
     → list_all test (filter keep items) ≡ true
@@ -67,6 +56,13 @@ list_all-kept test keep (item ∷ items) all =
       | inl kept ↦ rw kept (and_from _ _ parts.0 rest)
       | inr left ↦ rw left rest
     ]
+
+-- What passes a test by its key for all of a list does for those of it that are kept.
+pub list_all-filter : {A K : Type 0} (test : K → Bool) (key : A → K) (keep : A → Bool) (items : List A)
+    → list_all test (map key items) ≡ true → list_all test (map key (filter keep items)) ≡ true
+list_all-filter test key keep items all =
+    list_all-map test key (filter keep items)
+    ∙ list_all-kept (λ item. test (key item)) keep items (sym (list_all-map test key items) ∙ all)
 
 -- One more item, between those in front and those behind.
 pub list_all-between : {A : Type 0} (test : A → Bool) (front : List A) (item : A) (behind : List A)

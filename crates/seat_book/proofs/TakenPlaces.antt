@@ -37,24 +37,24 @@ pub taken-size : (players : List Seated) (table : ℕ) → length (taken_seats p
 taken-size players table =
     all_same_size no_seats (map (λ seated. seated.place.seat) (filter (sits_at table) players))
 
-at_most_one : (set : List Bool) (at : ℕ) → count_by (λ is_in. is_in) (slice_set set at true)
+one_seat_more : (set : List Bool) (at : ℕ) → count_by (λ is_in. is_in) (slice_set set at true)
     ≤ count_by (λ is_in. is_in) set + 1
-at_most_one [] at = omega arith
-at_most_one (true ∷ set) zero = omega arith
-at_most_one (false ∷ set) zero =
+one_seat_more [] at = omega arith
+one_seat_more (true ∷ set) zero = omega arith
+one_seat_more (false ∷ set) zero =
     let before = count_by-cons (λ is_in. is_in) false set in
     let now = count_by-cons (λ is_in. is_in) true set in
     omega (arith, before, now)
-at_most_one (test ∷ set) (suc at) =
+one_seat_more (test ∷ set) (suc at) =
     let before = count_by-cons (λ is_in. is_in) test set in
     let now = count_by-cons (λ is_in. is_in) test (slice_set set at true) in
-    let rest = at_most_one set at in
+    let rest = one_seat_more set at in
     omega (arith, before, now, rest)
 
 -- One more seat adds at most one to the seats of a set.
 pub seat_count-one_more : (set : List Bool) (seat : ℕ) → seat_count (with_seat set seat) ≤ seat_count set + 1
 seat_count-one_more set zero = omega arith
-seat_count-one_more set (suc at) = at_most_one set at
+seat_count-one_more set (suc at) = one_seat_more set at
 
 module _ (table seat : ℕ) (first : 1 ≤ seat) (last : seat ≤ 10) where
   is_in : List Seated → Bool

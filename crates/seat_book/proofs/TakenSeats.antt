@@ -239,8 +239,3 @@ seats_in-empty slot slots read within is none =
     ap (λ players. with_seats no_seats (map (λ seated. seated.place.seat) players))
     (more slot slots read within is ∙ (ap (λ (one : Option Seated). players_in (take slot slots) ++ cons_option one
     []) none ∙ append-nil (players_in (take slot slots))))
-
--- a slot with no player is empty
-pub none-there : (slot : Option Seated) → ((seated : Seated) → slot ≡ Some seated → ⊥) → slot ≡ None
-none-there None none = refl
-none-there (Some seated) none = absurd (none seated refl)

@@ -3,6 +3,7 @@ use Rattle.std.proofs.Common.{◌≡◌, ◌∙◌, ℕ, zero, suc, ◌+◌, ◌
 use Rattle.std.specs.Prelude.{Option, is_none}
 use Rattle.std.proofs.lemmas.Bool.{and_parts, cases_Bool}
 use Rattle.floor_text.specs.declared.refusal.Refusal.TheVariants.{NotDealt}
+use Rattle.rulebook.proofs.Found.{none-by_test}
 use Rattle.betting_round.specs.declared.act.Act.{Act}
 use Rattle.betting_round.specs.ActChecks.{act_refusal}
 use Rattle.table_engine.specs.declared.record.ActOf.{ActOf}
@@ -11,7 +12,7 @@ use Rattle.table_engine.specs.Acts.{limits_of, refusal_in_seat, refusal_of_act}
 use Rattle.table_engine.specs.Hands.{HandTerms, Streets, dealt_on, first_streets, has_ended, seat_of_name, street_now, streets_of, with_act, with_next_street}
 use Rattle.table_engine.specs.Plays.{IsLawfulPlay, are_lawful_after}
 use Rattle.table_engine.specs.Starts.{IsLawfulStart}
-use Rattle.table_engine.proofs.Plays.{lawful_play-more, lawful_play-none, nothing}
+use Rattle.table_engine.proofs.Plays.{lawful_play-more, lawful_play-none}
 use Rattle.table_engine.proofs.Refusals.{refused-in_seat, refused-without_seat}
 use Rattle.table_engine.proofs.Sound.{IsSound, sound-act, sound-first, sound-next, sound-play}
 use Rattle.table_engine.proofs.Standings.{streets-more, streets-none}
@@ -73,7 +74,7 @@ along-acts start P before (act ∷ acts) lawful kept play holds free =
     let hand : HandTerms = record { start = start; acts = before } in
     let parts = and_parts (is_none (refusal_of_act hand act.name act.act))
     (are_lawful_after start (before ++ act ∷ []) acts) free in
-    let accepted = nothing (refusal_of_act hand act.name act.act) parts.0 in
+    let accepted = none-by_test (refusal_of_act hand act.name act.act) parts.0 in
     let more = along-more start P before act (seat_of_name start act.name) lawful kept play holds accepted refl in
     let joined : (before ++ act ∷ []) ++ acts ≡ before ++ act ∷ acts = append_assoc before (act ∷ []) acts in
     subst (λ (all : List ActOf). P (streets_of (record { start = start; acts = all }))) joined

@@ -1,10 +1,11 @@
 -- The chips of a hand are kept.
-use Rattle.std.proofs.Common.{◌≡◌, ◌∙◌, ℕ, ◌+◌, ◌*◌, List, [], ◌∷◌, map, Bool, true, false, cond, sum, Some, None, refl, ap, sym, arith}
+use Rattle.std.proofs.Common.{◌≡◌, ◌∙◌, ℕ, ◌+◌, ◌*◌, List, [], ◌∷◌, map, Bool, true, false, cond, sum, Some, None, refl, ap, sym, le_of_eq, arith}
 use Rattle.std.specs.Prelude.{Option, ◌==◌, find, length, nat_le, sum_by, count_by}
 use Rattle.std.specs.List.{list_all}
 use Rattle.std.specs.Option.{is_some, option_map_or}
+use Rattle.std.proofs.Math.Nat.{le_antisymm}
 use Rattle.std.proofs.lemmas.Bool.{and_from, and_parts, eqb-true, le-leb}
-use Rattle.std.proofs.lemmas.List.Sums.{sum-map, sum_by-cons}
+use Rattle.std.proofs.lemmas.List.Sums.{sum-map, sum_by-cons, sum_by-le-sum_by}
 use Rattle.rulebook.proofs.Tests.{list_all-always}
 use Rattle.betting_round.specs.declared.bettor.Player.{Player}
 use Rattle.betting_round.specs.StreetActs.{street_after, sum_over}
@@ -184,22 +185,16 @@ one-gets hand lawful play won =
     let one : count_by (is_there is_live) slots ≡ 1 = eqb-true _ 1 won in
     let by_slots = sum-of_street hand.start (λ (player : Player). cond player.bettor.live
     (pot hand) 0) slots lawful sound.there in
-    let awards = sum_by-alike (award hand) (number_of
-    (λ (player : Player). cond player.bettor.live (pot hand) 0) slots) hand.start.seats
-    (λ player. rw won (award-slot (player_in slots player.seat) (pot hand))) in
+    let of_one : StartSeat → ℕ = number_of (λ (player : Player). cond player.bettor.live (pot hand) 0) slots in
+    let each : (player : StartSeat) → award hand player ≡ of_one player =
+    λ player. rw won (award-slot (player_in slots player.seat) (pot hand)) in
+    let up = sum_by-le-sum_by (award hand) of_one hand.start.seats (λ player. le_of_eq (each player)) in
+    let down = sum_by-le-sum_by of_one (award hand) hand.start.seats (λ player. le_of_eq (sym (each player))) in
     let once : 1 * pot hand ≡ pot hand = omega arith in
-    awards ∙ by_slots ∙ sum-live (pot hand) slots ∙ ap (λ (n : ℕ). n * pot hand) one ∙ once
+    le_antisymm up down ∙ by_slots ∙ sum-live (pot hand) slots ∙ ap (λ (n : ℕ). n * pot hand) one ∙ once
   where
     award-slot : (slot : Option Player) (n : ℕ)
         → cond (option_map_or (λ (player : Player). player.bettor.live) slot false) n 0
         ≡ option_map_or (λ (player : Player). cond player.bettor.live n 0) slot 0
     award-slot None n = refl
     award-slot (Some player) n = refl
-
-    sum_by-alike : (f g : StartSeat → ℕ) (players : List StartSeat) → ((player : StartSeat) → f player ≡ g player)
-        → sum_by f players ≡ sum_by g players
-    sum_by-alike f g [] each = refl
-    sum_by-alike f g (player ∷ players) each =
-        let here = each player in
-        let later = sum_by-alike f g players each in
-        omega (arith, sum_by-cons f player players, sum_by-cons g player players)

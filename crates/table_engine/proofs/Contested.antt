@@ -7,6 +7,7 @@ use Rattle.std.proofs.lemmas.Bool.{and_from, and_parts, cases_Bool, cases_lt, no
 use Rattle.std.proofs.lemmas.Bool.Decides.{nat_tests}
 use Rattle.std.proofs.lemmas.List.Sums.{sum_by-cons}
 use Rattle.rulebook.specs.Seats.{clockwise_after}
+use Rattle.rulebook.proofs.Found.{none-by_test}
 use Rattle.deal_order.proofs.Apart.{clockwise-comes}
 use Rattle.betting_round.specs.declared.act.Act.{Act}
 use Rattle.betting_round.specs.declared.bettor.Bettor.{Bettor}
@@ -32,7 +33,6 @@ use Rattle.table_engine.specs.Starts.{IsLawfulStart}
 use Rattle.table_engine.specs.Tellings.{told}
 use Rattle.table_engine.proofs.Along.{kept-play}
 use Rattle.table_engine.proofs.BySeat.{sum-of_start}
-use Rattle.table_engine.proofs.Plays.{nothing}
 use Rattle.table_engine.proofs.Puts.{listed-found, puts-hand, puts-moved, puts-next, puts_of}
 use Rattle.table_engine.proofs.Sound.{IsSound, greatest-least, placed-is, put_from-there, sound-play}
 use Rattle.table_engine.proofs.WholeUnits.{blinds-lawful, found-playable}
@@ -183,7 +183,7 @@ nobody-may street index ended none within =
     let search : is_none (find (λ seat. is_there (may_be_due street.level) (player_at street.players seat)) seats) ≡
     true = rw open_ at parts.0 in
     find-nothing (λ seat. is_there (may_be_due street.level) (player_at street.players seat)) seats (suc index)
-    (nothing (find (λ seat. is_there (may_be_due street.level) (player_at street.players seat)) seats) search)
+    (none-by_test (find (λ seat. is_there (may_be_due street.level) (player_at street.players seat)) seats) search)
     (comes-ten street.after index within)
 
 -- All puts pass a test where each player's does.

@@ -1,17 +1,13 @@
 -- Lawful plays of a start.
 use Rattle.std.proofs.Common.{◌≡◌, ◌∙◌, refl, sym, ap, true, List, [], ◌∷◌, ◌++◌, Some, None, append_assoc, append-nil}
-use Rattle.std.specs.Prelude.{Option, is_none}
+use Rattle.std.specs.Prelude.{is_none}
 use Rattle.std.proofs.lemmas.Bool.{and_parts, and_from}
+use Rattle.rulebook.proofs.Found.{none-by_test}
 use Rattle.table_engine.specs.declared.start.HandStart.{HandStart}
 use Rattle.table_engine.specs.declared.record.ActOf.{ActOf}
 use Rattle.table_engine.specs.Hands.{HandTerms}
 use Rattle.table_engine.specs.Acts.{refusal_of_act}
 use Rattle.table_engine.specs.Plays.{are_lawful_after, IsLawfulPlay}
-
--- Nothing is found where it is not so that something is.
-pub nothing : {A : Type 0} (found : Option A) → is_none found ≡ true → found ≡ None
-nothing None none = refl
-nothing (Some x) none = absurd cc
 
 -- After any acts, others are lawful with one more where they are and the one more is refused by no check.
 lawful_after-more : (start : HandStart) (before acts : List ActOf) (act : ActOf)
@@ -44,7 +40,7 @@ lawful_after-each : (start : HandStart) (before front : List ActOf) (act : ActOf
 lawful_after-each start before [] act back lawful =
     let parts = and_parts (is_none (refusal_of_act (record { start = start; acts = before }) act.name act.act))
     (are_lawful_after start (before ++ act ∷ []) back) lawful in
-    rw append-nil (nothing (refusal_of_act (record { start = start; acts = before }) act.name act.act) parts.0)
+    rw append-nil (none-by_test (refusal_of_act (record { start = start; acts = before }) act.name act.act) parts.0)
 lawful_after-each start before (first ∷ front) act back lawful =
     let parts = and_parts (is_none (refusal_of_act (record { start = start; acts = before }) first.name first.act))
     (are_lawful_after start (before ++ first ∷ []) (front ++ act ∷ back)) lawful in

@@ -10,6 +10,7 @@ use Rattle.std.proofs.lemmas.List.Sums.{sum_by-cons}
 use Rattle.card_set.specs.declared.game.Game.{Game}
 use Rattle.card_set.specs.declared.game.Game.TheVariants.{Holdem, Omaha, Hilo}
 use Rattle.floor_text.specs.declared.refusal.Refusal.TheVariants.{NotDealt}
+use Rattle.rulebook.proofs.Found.{none-by_test}
 use Rattle.betting_round.specs.declared.act.Act.{Act}
 use Rattle.betting_round.specs.declared.act.Act.TheVariants.{Fold, Check, Call, AllIn, Bet, Raise}
 use Rattle.betting_round.specs.declared.bettor.Bettor.{Bettor}
@@ -34,7 +35,6 @@ use Rattle.table_engine.specs.Plays.{IsLawfulPlay, are_lawful_after}
 use Rattle.table_engine.specs.Standings.{IsAt, IsReady}
 use Rattle.table_engine.specs.Starts.{IsLawfulStart, chips_of}
 use Rattle.table_engine.proofs.BySeat.{along-at, along-past, player_in-there, sum-of_start}
-use Rattle.table_engine.proofs.Plays.{nothing}
 use Rattle.table_engine.proofs.Refusals.{refused-in_seat, refused-without_seat}
 use Rattle.table_engine.proofs.Standings.{lawful-small, ready-act, ready-start, right-next, somes-made, somes-street, streets-more, streets-none}
 use Rattle.table_engine.proofs.Starts.{right-first}
@@ -500,7 +500,7 @@ sound-along start before (act ∷ acts) lawful sound play =
     let hand : HandTerms = record { start = start; acts = before } in
     let parts = and_parts (is_none (refusal_of_act hand act.name act.act))
     (are_lawful_after start (before ++ act ∷ []) acts) play in
-    let free = nothing (refusal_of_act hand act.name act.act) parts.0 in
+    let free = none-by_test (refusal_of_act hand act.name act.act) parts.0 in
     let joined : (before ++ act ∷ []) ++ acts ≡ before ++ act ∷ acts = append_assoc before (act ∷ []) acts in
     let one_more : IsSound start (streets_of (record { start = start; acts = before ++ act ∷ [] }))
     (length (before ++ act ∷ [])) =

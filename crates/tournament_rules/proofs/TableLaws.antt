@@ -7,6 +7,7 @@ use Rattle.std.proofs.lemmas.Bool.{and_parts, not-true, eqb-true, or_right}
 use Rattle.std.proofs.lemmas.Bool.Decides.{nat_tests}
 use Rattle.std.proofs.lemmas.List.Sums.{sum_by-insert}
 use Rattle.card_set.specs.declared.card.CardRow.{CardRow}
+use Rattle.rulebook.proofs.Found.{none-found}
 use Rattle.rulebook.proofs.Tests.{at_most_one}
 use Rattle.button_blinds.specs.declared.marks.Marks.{Marks}
 use Rattle.seat_book.specs.declared.place.Place.{Place}
@@ -139,11 +140,10 @@ no_players book table closed = filter-none (sits_at table) book.seating.players
 -- No hand is out at a table that is not open.
 pub no_hand : (book : BookState) (table : ℕ) → IsValid book → is_open book.seating.players table ≡ false
     → start_at book.out table ≡ None
-no_hand book table valid closed = by_start (start_at book.out table) refl
+no_hand book table valid closed = none-found (start_at book.out table) no_start
   where
-    by_start : (found : Option HandStart) → start_at book.out table ≡ found → found ≡ None
-    by_start None is = refl
-    by_start (Some start) is =
+    no_start : (start : HandStart) → start_at book.out table ≡ Some start → ⊥
+    no_start start is =
         let sit = somebody_out book table start valid is in
         let none = nobody_there book table closed in
         absurd (omega (arith, sit, none))

@@ -4,6 +4,7 @@ use Rattle.std.specs.Prelude.{nat_lt, filter, sum_by, Option, Some, None}
 use Rattle.std.proofs.lemmas.Bool.{and_parts, eqb-true}
 use Rattle.std.proofs.lemmas.List.{length-map}
 use Rattle.std.proofs.lemmas.List.Sums.{sum_by-cons, length-filter, count_by-le-length}
+use Rattle.rulebook.proofs.Found.{none-found}
 use Rattle.seat_book.specs.declared.seated.Seated.{Seated}
 use Rattle.table_engine.specs.declared.start.HandStart.{HandStart}
 use Rattle.tournament_rules.specs.Books.{BookState, start_at, players_out}
@@ -17,11 +18,10 @@ use Rattle.tournament_rules.proofs.Paying.{stack_of}
 -- Where one player alone is in, no hand is out: two are dealt into one.
 nothing_out : (book : BookState) (table : ℕ) → IsValid book → length book.seating.players ≡ 1
     → start_at book.out table ≡ None
-nothing_out book table valid one = by_start (start_at book.out table) refl
+nothing_out book table valid one = none-found (start_at book.out table) no_start
   where
-    by_start : (found : Option HandStart) → start_at book.out table ≡ found → found ≡ None
-    by_start None is = refl
-    by_start (Some start) is =
+    no_start : (start : HandStart) → start_at book.out table ≡ Some start → ⊥
+    no_start start is =
         let two = (valid.hands.starts table start is).lawful.two in
         let here = filter (is_lent table) book.seating.players in
         let out : map start_seat here ≡ map without_stack start.seats = valid.hands.lent table

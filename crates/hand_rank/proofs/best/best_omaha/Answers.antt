@@ -9,7 +9,8 @@ use Rattle.hand_rank.specs.Held.{IsHeld}
 use Rattle.hand_rank.specs.Made.{AreOnce}
 use Rattle.hand_rank.proofs.BestLaws.{best_high-none, best_high-pair, best_high-all}
 use Rattle.hand_rank.proofs.CardCounts.{distinct-once}
-use Rattle.hand_rank.proofs.OmahaLaws.{choice-at, choice-joined, choice-once, itself}
+use Rattle.hand_rank.proofs.Chosen.{whole}
+use Rattle.hand_rank.proofs.OmahaLaws.{choice-at, choice-joined, choice-once}
 use Rattle.hand_rank.proofs.PartLaws.{best-above}
 use Rattle.hand_rank.proofs.best.best_omaha.Goals as goal
 
@@ -30,9 +31,9 @@ loop-pair-preserved c =
     let is = choice-at 2 hole c.pairs-pairs.result c.loop-pair.pair-index pair c.pairs-pairs.ensures within
     c.pair-item.is in
     let all_once = distinct-once (hole ++ board) c.requires.distinct in
-    let once = choice-once (pair ++ board) (hole ++ board) (choice-joined pair hole board board is.0 (itself board))
+    let once = choice-once (pair ++ board) (hole ++ board) (choice-joined pair hole board board is.0 (whole board))
     all_once in
-    let board_once = choice-once board (hole ++ board) (choice-joined [] hole board board tt (itself board)) all_once in
+    let board_once = choice-once board (hole ++ board) (choice-joined [] hole board board tt (whole board)) all_once in
     let five : length board ≡ 5 = search rules in
     let two = subst (λ (cards : List Card). length cards ≡ 2) c.pair-item.is is.1 in
     let apart = subst (λ (cards : List Card). AreOnce (cards ++ board)) c.pair-item.is once in

@@ -1,7 +1,8 @@
 use Rattle.std.proofs.Common.{◌∙◌, sym, ap, subst, map, arith}
 use Rattle.std.proofs.lemmas.List.{take_all}
+use Rattle.rulebook.proofs.Found.{none-found}
 use Rattle.button_blinds.specs.SeatSets.{AreSeatsOf, no_seats, with_seat, with_seats, seat_count}
-use Rattle.seat_book.proofs.TakenSeats.{slot-place, seats_in, seats_in-more, seats_in-empty, taken_count-seating, none-there}
+use Rattle.seat_book.proofs.TakenSeats.{slot-place, seats_in, seats_in-more, seats_in-empty, taken_count-seating}
 use Rattle.seat_book.proofs.seat_book.SeatBook.occupied.Goals.{in-Some, in_default}
 use Rattle.seat_book.proofs.seat_book.SeatBook.occupied.Goals as goal
 
@@ -41,7 +42,7 @@ loop-slot-preserved c = elim c.match-slot.branch [
   | in_default w ↦ record {
     taken = w.taken-is ∙ (c.loop-slot.invariant.taken ∙ sym (seats_in-empty c.loop-slot.slot-index
         c.table_slots-slot-items.result.now c.slot-item.result c.loop-slot-test.true c.slot-item.is
-        (none-there c.slot-item.result w.in_default.not-Some)));
+        (none-found c.slot-item.result w.in_default.not-Some)));
     within = subst (AreSeatsOf c.args.self.now.seat_count) (sym w.taken-is) c.loop-slot.invariant.within;
   }
 ]
