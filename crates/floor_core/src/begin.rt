@@ -57,10 +57,10 @@ fn start_seat(seated: &Seated) -> StartSeat
 fn push_dealt(
     seats: &mut List<StartSeat>,
     slot: &Option<Seated>,
-    waiting: SeatSet,
+    waiting: &SeatSet,
 ) -> Result<(), AllocError>
     requires { list_all has_lawful_seat (players_in (slot.now ∷ [])) ≡ true }
-    ensures { OnOk result (seats.new ≡ seats.old ++ dealt_of waiting (players_in (slot.now ∷ []))) }
+    ensures { OnOk result (seats.new ≡ seats.old ++ dealt_of waiting.now (players_in (slot.now ∷ []))) }
 {
     if let Some(seated) = slot {
         if !waiting.has(seated.place.seat) {
@@ -74,10 +74,10 @@ fn push_dealt(
 fn dealt_seats(
     alloc: Global,
     slots: &[Option<Seated>],
-    waiting: SeatSet,
+    waiting: &SeatSet,
 ) -> Result<List<StartSeat>, AllocError>
     requires { list_all has_lawful_seat (players_in slots.now) ≡ true }
-    ensures { IfOk result (λ seats. seats ≡ dealt_of waiting (players_in slots.now)) }
+    ensures { IfOk result (λ seats. seats ≡ dealt_of waiting.now (players_in slots.now)) }
 {
     let mut seats = List::from_vec(Vec::with_capacity(alloc, slots.len())?);
     for slot in slots {
@@ -87,10 +87,10 @@ fn dealt_seats(
 }
 
 /// Puts the chips of the player in a place into the hand, if one sits there and does not wait.
-fn deal_in_seat(seats: &mut SeatBook, place: Place, waiting: SeatSet)
+fn deal_in_seat(seats: &mut SeatBook, place: Place, waiting: &SeatSet)
     requires within { IsPlaceOf seats.old.table_count seats.old.seat_count place }
     requires few { seats.old.seat_count ≤ 10 }
-    ensures { seats.new ≡ (if is_some (player_at seats.old.players place) && not (has_seat waiting place.seat)
+    ensures { seats.new ≡ (if is_some (player_at seats.old.players place) && not (has_seat waiting.now place.seat)
         then record seats.old { players = with_stack place 0 seats.old.players } else seats.old) }
 {
     if seats.at(place).is_some() && !waiting.has(place.seat) {
@@ -99,9 +99,9 @@ fn deal_in_seat(seats: &mut SeatBook, place: Place, waiting: SeatSet)
 }
 
 /// Puts the chips of those who are dealt in at a table into the hand: they have nothing at rest.
-fn deal_in(seats: &mut SeatBook, table: u8, waiting: SeatSet)
+fn deal_in(seats: &mut SeatBook, table: u8, waiting: &SeatSet)
     requires { IsTableOf seats.old.table_count table }
-    ensures { seats.new ≡ record seats.old { players = dealt_in table waiting seats.old.players } }
+    ensures { seats.new ≡ record seats.old { players = dealt_in table waiting.now seats.old.players } }
 {
     for below in 0..seats.seat_count() {
         let place = Place {
@@ -214,7 +214,7 @@ impl Book {
         ensures { IfOk result (λ start. start ≡ next_start self.now table deck) }
     {
         let blind = self.blind_now();
-        let seats = dealt_seats(self.alloc, self.seats.table_slots(table), next.waiting)?;
+        let seats = dealt_seats(self.alloc, self.seats.table_slots(table), &next.waiting)?;
         Ok(HandStart {
             table,
             serial: self.begun + 1,
@@ -256,7 +256,7 @@ impl Book {
             ..self.seats.status(table)
         };
         self.seats.set_status(table, status);
-        deal_in(&mut self.seats, table, next.waiting);
+        deal_in(&mut self.seats, table, &next.waiting);
         self.out[usize::from(table)] = Some(start);
         self.begun += 1;
         self.accepted += 1;

@@ -12,7 +12,7 @@ push_dealt-requires c = passes_at has_lawful_seat c.args.slots.now c.loop-slot.s
 pub loop-slot-preserved : goal.loop-slot-preserved
 loop-slot-preserved c =
     c.in_ok-push_dealt.ensures
-    ∙ (ap (λ (seats : List StartSeat). seats ++ dealt_of c.args.waiting (players_in (c.slot-item.result ∷ [])))
+    ∙ (ap (λ (seats : List StartSeat). seats ++ dealt_of c.args.waiting.now (players_in (c.slot-item.result ∷ [])))
     c.loop-slot.invariant
-    ∙ sym (dealt_more c.args.waiting c.args.slots.now c.loop-slot.slot-index c.slot-item.result c.loop-slot-test.true
-    c.slot-item.is))
+    ∙ sym (dealt_more c.args.waiting.now c.args.slots.now c.loop-slot.slot-index c.slot-item.result
+    c.loop-slot-test.true c.slot-item.is))
