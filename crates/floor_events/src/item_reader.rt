@@ -1,9 +1,10 @@
 //! Lines are read as items.
 
-ghost use Rattle.std.specs.Prelude.{◌≡◌, Some, IfOk, OnErr, IfSome, IsSome};
+ghost use Rattle.std.specs.Prelude.{◌≡◌, Some, option_map, IfOk, OnErr, IfSome, IsSome};
 ghost use Rattle.std.specs.Str.{bytes_eq};
 ghost use Rattle.floor_events.specs.declared.event.Item.{Item};
-ghost use Rattle.floor_events.specs.Grammar.{plan_rows, plain_rows, grammar, event_by, item_of_words, item_of_bytes};
+ghost use Rattle.floor_events.specs.declared.event.Item.TheVariants as items;
+ghost use Rattle.floor_events.specs.Grammar.{plan_rows, plain_rows, event_by, item_of_words, item_of_bytes};
 ghost use Rattle.floor_events.specs.Spelling.{IsWritable, item_text};
 
 use crate::event::{Event, Item};
@@ -43,57 +44,44 @@ fn read_plan_fields(word: &[u8], line: &mut Words<'_>) -> Option<Event>
 
 /// Reads an event without a list by its first word, the most frequent words first.
 #[tactic(auto, unfolding(crate::specs::Grammar::fields0, crate::specs::Grammar::fields1, crate::specs::Grammar::fields2, crate::specs::Grammar::fields3))]
-fn read_fields(word: &[u8], line: &mut Words<'_>) -> Option<Event>
-    ensures { result ≡ event_by plain_rows word.now line.old }
+fn read_fields(word: &[u8], line: &mut Words<'_>) -> Option<Item>
+    ensures { result ≡ option_map items.Event (event_by plain_rows word.now line.old) }
 {
     match word {
-        _ if is(word, b"act") => Some(Event::Act {
+        _ if is(word, b"act") => Some(Item::Event(Event::Act {
             table: line.field()?,
             name: line.field()?,
             act: line.act()?,
-        }),
-        _ if is(word, b"begin") => Some(Event::Begin {
+        })),
+        _ if is(word, b"begin") => Some(Item::Event(Event::Begin {
             table: line.field()?,
             row: line.last_field()?,
-        }),
-        _ if is(word, b"settle") => Some(Event::Settle {
+        })),
+        _ if is(word, b"settle") => Some(Item::Event(Event::Settle {
             table: line.last_field()?,
-        }),
-        _ if is(word, b"enter") => Some(Event::Enter {
+        })),
+        _ if is(word, b"enter") => Some(Item::Event(Event::Enter {
             name: line.field()?,
             table: line.field()?,
             seat: line.last_field()?,
-        }),
-        _ if is(word, b"time") => Some(Event::Time {
+        })),
+        _ if is(word, b"time") => Some(Item::Event(Event::Time {
             table: line.last_field()?,
-        }),
-        _ if is(word, b"balance") => Some(Event::Balance {
+        })),
+        _ if is(word, b"balance") => Some(Item::Event(Event::Balance {
             from: line.field()?,
             to: line.last_field()?,
-        }),
-        _ if is(word, b"level") => line.is_done().then_some(Event::Level),
-        _ if is(word, b"race") => Some(Event::Race {
+        })),
+        _ if is(word, b"level") => line.is_done().then_some(Item::Event(Event::Level)),
+        _ if is(word, b"race") => Some(Item::Event(Event::Race {
             table: line.field()?,
             row: line.last_field()?,
-        }),
-        _ if is(word, b"hands") => Some(Event::Hands(line.last_field()?)),
-        _ if is(word, b"round") => line.is_done().then_some(Event::Round),
-        _ if is(word, b"stop") => line.is_done().then_some(Event::Stop),
-        _ => read_plan_fields(word, line),
+        })),
+        _ if is(word, b"hands") => Some(Item::Event(Event::Hands(line.last_field()?))),
+        _ if is(word, b"round") => line.is_done().then_some(Item::Event(Event::Round)),
+        _ if is(word, b"stop") => line.is_done().then_some(Item::Event(Event::Stop)),
+        _ => read_plan_fields(word, line).map(Item::Event),
     }
-}
-
-fn read_event(alloc: Global, word: &[u8], line: &mut Words<'_>) -> Result<Option<Event>, AllocError>
-    ensures exact { IfOk result (λ found. found ≡ event_by grammar word.now line.old) }
-    ensures err { OnErr result (IsSome (event_by grammar word.now line.old)) }
-{
-    if is(word, b"shares") {
-        return read_shares(alloc, line);
-    }
-    if is(word, b"break") {
-        return read_break(alloc, line);
-    }
-    Ok(read_fields(word, line))
 }
 
 #[tactic(auto, unfolding(crate::specs::Grammar::item_of_words))]
@@ -104,7 +92,13 @@ fn read_words(alloc: Global, line: &mut Words<'_>) -> Result<Option<Item>, Alloc
     let Some(word) = line.next_word() else {
         return Ok(None);
     };
-    Ok(read_event(alloc, word, line)?.map(Item::Event))
+    if is(word, b"shares") {
+        return read_shares(alloc, line);
+    }
+    if is(word, b"break") {
+        return read_break(alloc, line);
+    }
+    Ok(read_fields(word, line))
 }
 
 #[tactic(auto, unfolding(crate::specs::Grammar::item_of_bytes))]

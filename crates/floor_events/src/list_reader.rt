@@ -5,10 +5,11 @@ ghost use Rattle.std.specs.Prelude.{◌≡◌, IfOk, OnErr, IsSome, option_map};
 ghost use Rattle.floor_text.specs.Numbers.{number_of};
 ghost use Rattle.level_plan.specs.declared.line.PlanLine.TheVariants as lines;
 ghost use Rattle.floor_events.specs.declared.event.Event.TheVariants as events;
+ghost use Rattle.floor_events.specs.declared.event.Item.TheVariants as items;
 ghost use Rattle.floor_events.specs.Fields.{shares_of, name_of, place_of, members_of, last_by};
 ghost use Rattle.floor_events.specs.Grammar.{fields1, fields3};
 
-use crate::event::Event;
+use crate::event::{Event, Item};
 use crate::few::{Few, MOST_MEMBERS, read_few};
 use crate::line_words::Words;
 use floor_text::Name;
@@ -19,15 +20,16 @@ use std::alloc::{AllocError, Global};
 /// Reads all words that are left as the shares of the prizes. `None` exactly where they are not 1 to 64 numbers;
 /// memory is wanted only where they are.
 #[tactic(auto, unfolding(crate::specs::Fields::shares_of, crate::specs::Grammar::fields1))]
-pub fn read_shares(alloc: Global, line: &mut Words<'_>) -> Result<Option<Event>, AllocError>
+pub fn read_shares(alloc: Global, line: &mut Words<'_>) -> Result<Option<Item>, AllocError>
     ensures exact { IfOk result
-        (λ found. found ≡ fields1 shares_of (λ shares. events.Plan (lines.Shares shares)) line.old) }
+        (λ found. found ≡ option_map items.Event
+        (fields1 shares_of (λ shares. events.Plan (lines.Shares shares)) line.old)) }
     ensures err { OnErr result (IsSome (fields1 shares_of (λ shares. events.Plan (lines.Shares shares)) line.old)) }
 {
     let Some(shares) = read_few::<u64, MOST_SHARES>(line) else {
         return Ok(None);
     };
-    Ok(Some(Event::Plan(PlanLine::Shares(shares.to_list(alloc)?))))
+    Ok(Some(Item::Event(Event::Plan(PlanLine::Shares(shares.to_list(alloc)?)))))
 }
 
 /// The number of a table, seats and names.
@@ -45,18 +47,18 @@ fn read_break_parts(line: &mut Words<'_>) -> Option<BreakParts>
 
 /// Reads all words that are left as the table that breaks, the seats that are filled and who takes them. `None`
 /// exactly where they are not these; memory is wanted only where they are.
-pub fn read_break(alloc: Global, line: &mut Words<'_>) -> Result<Option<Event>, AllocError>
-    ensures exact { IfOk result (λ found. found
-        ≡ fields3 number_of (members_of place_of) (last_by (members_of name_of)) events.Break line.old) }
+pub fn read_break(alloc: Global, line: &mut Words<'_>) -> Result<Option<Item>, AllocError>
+    ensures exact { IfOk result (λ found. found ≡ option_map items.Event
+        (fields3 number_of (members_of place_of) (last_by (members_of name_of)) events.Break line.old)) }
     ensures err { OnErr result
         (IsSome (fields3 number_of (members_of place_of) (last_by (members_of name_of)) events.Break line.old)) }
 {
     let Some((table, seats, names)) = read_break_parts(line) else {
         return Ok(None);
     };
-    Ok(Some(Event::Break {
+    Ok(Some(Item::Event(Event::Break {
         table,
         seats: seats.to_list(alloc)?,
         names: names.to_list(alloc)?,
-    }))
+    })))
 }
