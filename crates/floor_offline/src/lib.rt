@@ -4,6 +4,7 @@
 //! sinks, and its contract says what the program promises: what it wrote is `replay_text` of what it read.
 #![tactic(auto)]
 
+mod answers;
 mod fault;
 mod laws;
 mod replay;

@@ -1,18 +1,18 @@
 //! Lines are answered one by one, and at the end comes the report.
 
-ghost use Rattle.std.specs.Prelude.{◌⊎◌, ◌≡◌, ◌≢◌, ◌≤◌, ◌<◌, ◌+◌, ◌^◌, ◌++◌, List, ℕ, length, Option, Ok, Err, true, false, [], Some, IfOk, IfSome, OnOk, OnErr, IfErr, IsErrOf};
+ghost use Rattle.std.specs.Prelude.{◌⊎◌, ◌≡◌, ◌≢◌, ◌≤◌, ◌<◌, ◌+◌, ◌^◌, ◌++◌, List, ℕ, length, Option, Ok, Err, true, false, [], Some, IfOk, IfSome, OnOk, IfErr, IsErrOf};
 ghost use Rattle.floor_text.specs.Outside.{Rose};
 ghost use Rattle.floor_text.specs.LineReader.{Reads, lines_of_next};
 ghost use Rattle.floor_text.specs.Reading.{bytes_ahead};
-ghost use Rattle.floor_events.specs.Spelling.{answer_text};
 ghost use Rattle.floor_events.specs.Grammar.{item_of_bytes};
 ghost use Rattle.floor_offline.specs.Endings.{IsOfWriting};
 ghost use Rattle.floor_offline.specs.Replay.{answer_to_item, state_after_item, final_text, replay_text};
 ghost use Rattle.floor_offline.specs.Promise.{whole_text, Keeps, Counts, GivesMore};
 
+use crate::answers::{AnswerText, put_answer, put_text};
 use crate::fault::Fault;
 use floor_core::Tournament;
-use floor_events::{Answer, Item, read_item, write_answer, write_report};
+use floor_events::{Answer, Item, read_item, write_report};
 use floor_text::{LineReader, Next, Refusal, Sink, Source};
 use std::alloc::{AllocError, Global};
 
@@ -31,55 +31,24 @@ fn answer_line(
     ensures state { OnOk result (tournament.new ≡ state_after_item tournament.old (item_of_bytes line.now)) }
     ensures counted { OnOk result (tournament.new.accepted ≤ tournament.old.accepted + 1) }
 {
-    match read_item(alloc, line)? {
-        Some(Item::Event(event)) => tournament.apply(&event),
+    match &read_item(alloc, line)? {
+        Some(Item::Event(event)) => tournament.apply(event),
         None => Ok(Answer::No(Refusal::Syntax)),
     }
 }
 
-/// Puts a text, by one put.
-fn put_text<O: Sink>(text: &[u8], out: &mut O) -> Result<(), Fault>
-    ensures ok { OnOk result (IfSome (O.written out.old) (λ before. O.written out.new ≡ Some (before ++ text.now))) }
-    ensures later { O.faults out.old ≤ O.faults out.new }
-    ensures write { OnErr result (Rose (O.faults out.old) (O.faults out.new)) }
-    ensures others { IfErr result IsOfWriting }
-{
-    out.put(text)?;
-    Ok(())
-}
-
-/// Puts an answer, by one put. That of an accepted line is kept as it is.
-fn put_answer<O: Sink>(text: &mut Vec<u8>, answer: &Answer, out: &mut O) -> Result<(), Fault>
-    ensures ok { OnOk result (IfSome (O.written out.old)
-        (λ before. O.written out.new ≡ Some (before ++ answer_text answer.now))) }
-    ensures later { O.faults out.old ≤ O.faults out.new }
-    ensures write { IsErrOf result Fault.Write → Rose (O.faults out.old) (O.faults out.new) }
-    ensures others { IfErr result IsOfWriting }
-{
-    if let Answer::Ok = answer {
-        return put_text(b"ok\n", out);
-    }
-    text.clear();
-    write_answer(answer, text)?;
-    put_text(text, out)
-}
-
 /// Puts the report, by one put.
 #[tactic(auto, unfolding(crate::specs::Replay::final_text))]
-fn put_report<O: Sink>(
-    tournament: &Tournament,
-    text: &mut Vec<u8>,
-    out: &mut O,
-) -> Result<(), Fault>
+fn put_report<O: Sink>(alloc: Global, tournament: &Tournament, out: &mut O) -> Result<(), Fault>
     ensures ok { OnOk result (IfSome (O.written out.old)
         (λ before. O.written out.new ≡ Some (before ++ final_text tournament.now))) }
     ensures later { O.faults out.old ≤ O.faults out.new }
     ensures write { IsErrOf result Fault.Write → Rose (O.faults out.old) (O.faults out.new) }
     ensures others { IfErr result IsOfWriting }
 {
-    text.clear();
-    write_report(&tournament.report()?, text)?;
-    put_text(text, out)
+    let mut text = Vec::new(alloc);
+    write_report(&tournament.report()?, &mut text)?;
+    put_text(&text, out)
 }
 
 /// Hands out the next line. Before the input is asked for more, `out` lets go of the answers that it holds back:
@@ -124,7 +93,7 @@ fn answer_next<I: Source, O: Sink>(
     alloc: Global,
     reader: &mut LineReader,
     tournament: &mut Tournament,
-    text: &mut Vec<u8>,
+    kept: &mut AnswerText,
     input: &mut I,
     out: &mut O,
 ) -> Result<bool, Fault>
@@ -160,7 +129,7 @@ fn answer_next<I: Source, O: Sink>(
         Next::TooLong => Answer::No(Refusal::Syntax),
         Next::Line => answer_line(alloc, tournament, reader.line())?,
     };
-    put_answer(text, &answer, out)?;
+    put_answer(kept, &answer, out)?;
     Ok(true)
 }
 
@@ -185,9 +154,9 @@ pub fn replay<I: Source, O: Sink>(alloc: Global, input: &mut I, out: &mut O) -> 
 {
     let mut reader = input_reader(alloc)?;
     let mut tournament = Tournament::new(alloc)?;
-    let mut text = Vec::new(alloc);
-    'lines: while answer_next(alloc, &mut reader, &mut tournament, &mut text, input, out)? {}
-    put_report(&tournament, &mut text, out)
+    let mut kept = AnswerText::new(alloc);
+    'lines: while answer_next(alloc, &mut reader, &mut tournament, &mut kept, input, out)? {}
+    put_report(alloc, &tournament, out)
 }
 
 /// Has `out` let go of all that was put, whatever came of the run. A failure of that is a failure of `out`.
