@@ -1,5 +1,5 @@
 -- The players of a start by their seats, and numbers of them in the one order and in the other.
-use Rattle.std.proofs.Common.{◌≡◌, ◌∙◌, ℕ, zero, suc, ◌+◌, ◌-◌, ◌≤◌, ◌<◌, true, false, cond, List, [], ◌∷◌, length, map, Some, None, refl, ap, sym, inl, inr, arith}
+use Rattle.std.proofs.Common.{◌≡◌, ◌∙◌, ℕ, zero, suc, ◌+◌, ◌-◌, ◌≤◌, ◌<◌, true, false, cond, List, [], ◌∷◌, length, map, Some, None, refl, ap, ap₂, sym, inl, inr, arith}
 use Rattle.std.specs.Prelude.{Option, ◌==◌, ◌&&◌, find, nat_le, nat_lt, slice_index_or, sum_by}
 use Rattle.std.specs.List.{list_all}
 use Rattle.std.specs.Option.{is_some, option_map_or}
@@ -287,3 +287,12 @@ seat-within (player ∷ players) (suc index) other all within =
     let parts = and_parts (is_between 1 10 player.seat) (list_all (λ (p : StartSeat). is_between 1 10 p.seat) players)
     all in
     seat-within players index other parts.1 (omega arith)
+
+-- What is made of who is in each slot, by two functions that say the same of nobody and of each player.
+pub map-slots : {A B : Type 0} (made : A → B) (nobody : B) (f : Option A → B) → nobody ≡ f None
+    → ((player : A) → made player ≡ f (Some player)) → (slots : List (Option A))
+    → map (λ slot. option_map_or made slot nobody) slots ≡ map f slots
+map-slots made nobody f none some [] = refl
+map-slots made nobody f none some (None ∷ slots) = ap₂ (λ x xs. x ∷ xs) none (map-slots made nobody f none some slots)
+map-slots made nobody f none some (Some player ∷ slots) =
+    ap₂ (λ x xs. x ∷ xs) (some player) (map-slots made nobody f none some slots)

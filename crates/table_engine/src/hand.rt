@@ -1,6 +1,6 @@
 //! A hand that is played.
 
-ghost use Rattle.std.specs.Prelude.{◌≡◌, ◌<◌, ◌^◌, [], Some, None, IsTrue, false, true, sum, is_none, unwrap_or, IfOk, IfErr, OnOk, OnErr};
+ghost use Rattle.std.specs.Prelude.{◌≡◌, ◌<◌, ◌^◌, [], Some, None, IsTrue, false, true, sum, is_none, IfOk, IfErr, OnOk, OnErr};
 ghost use Rattle.table_engine.specs.Starts.{IsLawfulStart};
 ghost use Rattle.table_engine.specs.Hands.{due_in_hand, due_name, is_over, seat_of_name};
 ghost use Rattle.table_engine.specs.Acts.{refusal_in_seat, refusal_of_act, refusal_of_time, act_in_time, done_in_seat, done_of_act, done_of_time, hand_after, hand_after_time, IsAnswer};
@@ -63,10 +63,9 @@ impl Hand {
         let Ok(acts) = Vec::with_capacity(alloc, ACTS_OF_MOST) else {
             return Err(start);
         };
-        let players = players_by_seat(&start);
-        let mut standing = Standing::first(&start, &players);
+        let mut standing = Standing::first(&start);
         standing.deal_on(&start);
-        let tally = PotTally::of(&first_puts(&start, &players));
+        let tally = PotTally::of(&first_puts(&start));
         Ok(Hand {
             start,
             acts: List::from_vec(acts),

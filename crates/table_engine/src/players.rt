@@ -1,12 +1,15 @@
 //! The players of a hand by their seats, and with other stacks.
 
-ghost use Rattle.std.specs.Prelude.{◌≡◌, ◌==◌, ◌+◌, ◌<◌, ◌≤◌, ◌^◌, None, true, find, length, map, replicate};
+ghost use Rattle.std.specs.Prelude.{◌≡◌, ◌==◌, ◌+◌, ◌<◌, ◌≤◌, ◌^◌, Some, None, true, find, length, map, replicate};
 ghost use Rattle.std.specs.List.{list_all};
+ghost use Rattle.std.specs.Option.{option_map_or};
 ghost use Rattle.rulebook.specs.Seats.{walk};
 ghost use Rattle.betting_round.specs.StreetActs.{chips_on};
 ghost use Rattle.betting_round.specs.WhoIsDue.{player_in};
 ghost use Rattle.level_plan.specs.Items.{is_between};
 ghost use Rattle.table_engine.specs.Starts.{IsLawfulStart};
+ghost use Rattle.table_engine.specs.declared.start.HandStart.{HandStart};
+ghost use Rattle.table_engine.specs.declared.start.StartSeat.{StartSeat};
 ghost use Rattle.table_engine.specs.Hands.{players_by_seat};
 ghost use Rattle.table_engine.specs.Awards.{most_awarded, stack_after};
 ghost use Rattle.table_engine.specs.Results.{with_stacks};
@@ -15,18 +18,43 @@ use crate::awards::Awards;
 use crate::start::{HandStart, StartSeat};
 use betting_round::Round;
 
-/// Puts players into the slots of their seats. Where two had one seat, the first would have it.
-fn place_players(players: &[StartSeat], slots: &mut [Option<StartSeat>; 10])
+/// What stands in the slot of a seat for a player of a start.
+pub(crate) trait InSlot: Copy {
+    /// What is made of a player.
+    ghost made: { HandStart → StartSeat → Self };
+
+    /// Makes it of a player.
+    fn make(start: &HandStart, player: &StartSeat) -> Self
+        ensures { result ≡ made start.now player.now };
+}
+
+/// The player.
+impl InSlot for Option<StartSeat> {
+    ghost made = { λ _ player. Some player };
+
+    fn make(_start: &HandStart, player: &StartSeat) -> Option<StartSeat> {
+        Some(*player)
+    }
+}
+
+/// Fills the slots of the seats of players, where nobody is in any. Where two had one seat, the first would have it.
+pub(crate) fn fill_slots<T: InSlot>(
+    start: &HandStart,
+    players: &[StartSeat],
+    slots: &mut [T; 10],
+    nobody: T,
+)
     requires seats { list_all (λ player. is_between 1 10 player.seat) players.now ≡ true }
-    requires empty { slots.old ≡ replicate 10 None }
-    ensures { slots.new ≡ map (λ seat. find (λ player. player.seat == seat) players.now)
+    requires empty { slots.old ≡ replicate 10 nobody }
+    ensures { slots.new ≡ map (λ seat.
+        option_map_or (T.made start.now) (find (λ player. player.seat == seat) players.now) nobody)
         (walk (λ seat. seat + 1) 10 0) }
 {
     let [first, rest @ ..] = players else {
         return;
     };
-    place_players(rest, slots);
-    slots[usize::from(first.seat) - 1] = Some(*first);
+    fill_slots(start, rest, slots, nobody);
+    slots[usize::from(first.seat) - 1] = T::make(start, first);
 }
 
 /// Gives the players who are dealt in, by the seats 1 to 10.
@@ -35,7 +63,7 @@ pub(crate) fn players_by_seat(start: &HandStart) -> [Option<StartSeat>; 10]
     ensures { result ≡ players_by_seat start.now }
 {
     let mut slots = [None; 10];
-    place_players(start.seats.items(), &mut slots);
+    fill_slots(start, start.seats.items(), &mut slots, None);
     slots
 }
 

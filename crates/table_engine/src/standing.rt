@@ -1,15 +1,15 @@
 //! How a hand stands: its street, and what came before it.
 
-ghost use Rattle.std.specs.Prelude.{◌≡◌, ◌+◌, ◌<◌, ◌≤◌, ◌^◌, List, ◌∷◌, None, Some, option_map, map, IfOk, OnOk, IfErr};
+ghost use Rattle.std.specs.Prelude.{◌≡◌, ◌+◌, ◌<◌, ◌≤◌, ◌^◌, None, Some, option_map, map, sum_by, IfOk, OnOk, IfErr};
 ghost use Rattle.std.specs.Option.{is_some};
 ghost use Rattle.betting_round.specs.Acts.{done_by};
 ghost use Rattle.betting_round.specs.ActChecks.{act_refusal, facing_in, IsAllowed};
-ghost use Rattle.betting_round.specs.StreetActs.{sum_over};
 ghost use Rattle.table_engine.specs.Starts.{IsLawfulStart};
-ghost use Rattle.table_engine.specs.Hands.{Streets, blind_of, posted, lacking, seated, player_of, players_by_seat, first_streets, has_ended, with_next_street, dealt_on, with_act};
+ghost use Rattle.table_engine.specs.Hands.{Streets, blind_of, posted, lacking, seated, players_by_seat, first_streets, has_ended, with_next_street, dealt_on, with_act};
 ghost use Rattle.table_engine.specs.Acts.{limits_of};
 ghost use Rattle.table_engine.specs.Standings.{IsAt, IsReady};
 
+use crate::players::{InSlot, fill_slots};
 use crate::start::{HandStart, StartSeat};
 use betting_round::{Act, Bettor, Done, NoLimit, PotLimit, Round};
 use card_set::Game;
@@ -67,44 +67,33 @@ fn seated(start: &HandStart, player: &StartSeat) -> Bettor
     }
 }
 
-/// Tells who is dealt in at a seat, as he begins the hand.
-fn seated_in(start: &HandStart, slot: &Option<StartSeat>) -> Option<Bettor>
-    ensures { result ≡ option_map (seated start.now) slot.now }
-{
-    match slot {
-        Some(player) => Some(seated(start, player)),
-        None => None,
+/// A player as he begins the hand.
+impl InSlot for Option<Bettor> {
+    ghost made = { λ start player. Some (seated start player) };
+
+    fn make(start: &HandStart, player: &StartSeat) -> Option<Bettor> {
+        Some(seated(start, player))
     }
 }
 
 /// Gives the players who are dealt in, by the seats 1 to 10, as they begin the hand.
-fn all_seated(start: &HandStart, players: &[Option<StartSeat>; 10]) -> [Option<Bettor>; 10]
-    requires { players.now ≡ players_by_seat start.now }
+fn all_seated(start: &HandStart) -> [Option<Bettor>; 10]
+    requires { IsLawfulStart start.now }
     ensures { result ≡ map (option_map (seated start.now)) (players_by_seat start.now) }
 {
-    [
-        seated_in(start, &players[0]),
-        seated_in(start, &players[1]),
-        seated_in(start, &players[2]),
-        seated_in(start, &players[3]),
-        seated_in(start, &players[4]),
-        seated_in(start, &players[5]),
-        seated_in(start, &players[6]),
-        seated_in(start, &players[7]),
-        seated_in(start, &players[8]),
-        seated_in(start, &players[9]),
-    ]
+    let mut slots = [None; 10];
+    fill_slots(start, start.seats.items(), &mut slots, None);
+    slots
 }
 
 /// Tells what the short blinds of these players lack, in chips.
-fn all_lacking(start: &HandStart, players: &[Option<StartSeat>]) -> u64
-    requires { sum_over (lacking start.now) players.now < 2 ^ 60 }
-    ensures { result ≡ sum_over (lacking start.now) players.now }
+fn all_lacking(start: &HandStart, players: &[StartSeat]) -> u64
+    requires { sum_by (lacking start.now) players.now < 2 ^ 60 }
+    ensures { result ≡ sum_by (lacking start.now) players.now }
 {
     match players {
         [] => 0,
-        [None, rest @ ..] => all_lacking(start, rest),
-        [Some(player), rest @ ..] => lacking(start, player) + all_lacking(start, rest),
+        [player, rest @ ..] => lacking(start, player) + all_lacking(start, rest),
     }
 }
 
@@ -129,16 +118,15 @@ fn check(round: &Round, game: Game, seat: u8, act: Act) -> Result<Done, Refusal>
 }
 
 impl Standing {
-    /// Makes a hand as it stands before the first act, on its first street, with its players by seat.
-    pub fn first(start: &HandStart, players: &[Option<StartSeat>; 10]) -> Standing
-        requires lawful { IsLawfulStart start.now }
-        requires players { players.now ≡ players_by_seat start.now }
+    /// Makes a hand as it stands before the first act, on its first street.
+    pub fn first(start: &HandStart) -> Standing
+        requires { IsLawfulStart start.now }
         ensures at { IsAt (first_streets start.now) result }
         ensures ready { IsReady result }
         ensures there { map is_some result.round.players ≡ map is_some (players_by_seat start.now) }
     {
-        let bettors = all_seated(start, players);
-        let counted = all_lacking(start, players);
+        let bettors = all_seated(start);
+        let counted = all_lacking(start, start.seats.items());
         let opening = start.big;
         Standing {
             round: Round::start(

@@ -2,36 +2,45 @@ use Rattle.std.proofs.Common.{◌∙◌, [], ap, refl, arith}
 use Rattle.std.specs.Prelude.{map}
 use Rattle.std.specs.Option.{is_some}
 use Rattle.betting_round.specs.declared.street.Street.{Street}
-use Rattle.table_engine.specs.Hands.{players_by_seat, seated}
+use Rattle.table_engine.specs.Hands.{lacking, players_by_seat, seated}
+use Rattle.table_engine.proofs.BySeat.{sum-of_start}
 use Rattle.table_engine.proofs.Standings.{ready-start, somes-made, somes-street}
 use Rattle.table_engine.proofs.Starts.{few-lacking, right-first}
 use Rattle.table_engine.proofs.standing.Standing.first.Goals as goal
 
 pub all_lacking-counted-requires : goal.all_lacking-counted-requires
-all_lacking-counted-requires c = rw c.requires.players (omega (arith, few-lacking c.args.start.now c.requires.lawful))
+all_lacking-counted-requires c =
+    let few = few-lacking c.args.start.now c.requires in
+    rw (c.items.ensures, ← sum-of_start c.args.start.now (lacking c.args.start.now) c.requires) (omega (arith, few))
 
 pub start-requires : goal.start-requires
-start-requires c = rw (c.all_seated-bettors.ensures, c.all_lacking-counted.ensures, c.requires.players)
-    (right-first c.args.start.now c.requires.lawful)
+start-requires c = rw (
+  c.all_seated-bettors.ensures,
+  c.all_lacking-counted.ensures,
+  c.items.ensures,
+  ← sum-of_start c.args.start.now (lacking c.args.start.now) c.requires,
+) (right-first c.args.start.now c.requires)
 
 pub returns-clause-at : goal.returns-clause-at
 returns-clause-at c = record {
   round = rw (
     c.all_seated-bettors.ensures,
     c.all_lacking-counted.ensures,
-    c.requires.players,
+    c.items.ensures,
+    ← sum-of_start c.args.start.now (lacking c.args.start.now) c.requires,
   ) at c.start.ensures;
   before = refl;
   left = refl;
-  right = right-first c.args.start.now c.requires.lawful;
+  right = right-first c.args.start.now c.requires;
 }
 
 pub returns-clause-ready : goal.returns-clause-ready
 returns-clause-ready c = ready-start _ _ (rw (
   c.all_seated-bettors.ensures,
   c.all_lacking-counted.ensures,
-  c.requires.players,
-) (right-first c.args.start.now c.requires.lawful)) c.start.ensures (omega arith)
+  c.items.ensures,
+  ← sum-of_start c.args.start.now (lacking c.args.start.now) c.requires,
+) (right-first c.args.start.now c.requires)) c.start.ensures (omega arith)
 
 pub returns-clause-there : goal.returns-clause-there
 returns-clause-there c =
