@@ -2,17 +2,18 @@
 use Rattle.std.proofs.Common.{◌≡◌, ◌∙◌, refl, ap, ℕ, zero, suc, ◌<◌, ◌≤◌, ◌==◌, Bool, true, false, cond, List, [], ◌∷◌, Option, None, Some, inl, inr, arith}
 use Rattle.std.specs.Option.{is_some}
 use Rattle.std.specs.Prelude.{not, ◌&&◌, ◌||◌, find, unwrap_or, slice_index_or}
+use Rattle.std.proofs.Math.Bool.{and_comm}
 use Rattle.std.proofs.lemmas.Bool.{both_ways, cases_lt, eq-eqb, eqb-true, and_parts, not-true}
 use Rattle.std.proofs.lemmas.Bool.Decides.{nat_tests}
 use Rattle.rulebook.specs.Seats.{seat_after, walk, clockwise_after}
 use Rattle.rulebook.proofs.Found.{none-by_test}
 use Rattle.rulebook.proofs.OccupiedSeats.{seat_after-within, walk-higher, walk-round}
-use Rattle.rulebook.proofs.Tests.{count_by-cons, eqb-swap, find-passes}
+use Rattle.rulebook.proofs.Tests.{count_by-cons, eqb-swap, find-all, find-passes, not-or}
 use Rattle.button_blinds.specs.SeatSets.{has_seat, with_seat, seat_count}
 use Rattle.button_blinds.specs.declared.marks.Marks.{Marks}
 use Rattle.seat_book.specs.declared.seated.Seated.{Seated}
 use Rattle.seat_book.specs.Players.{player_at, taken_seats}
-use Rattle.seat_book.proofs.Passing.{none-find, found-all}
+use Rattle.seat_book.proofs.Passing.{none-find}
 use Rattle.seat_book.proofs.TakenPlaces.{has_seat-one_more, has_seat-taken, taken-size}
 use Rattle.balance_rule.specs.EmptySeats.{is_empty_seat, first_after, worst_of}
 
@@ -60,9 +61,8 @@ pub walk-finds : (seats : ℕ) (test : ℕ → Bool) (seat target : ℕ) → sea
     → test target ≡ true → first_after seats test seat ≡ None → ⊥
 walk-finds seats test seat target within first last passes none =
     let all = none-find test (clockwise_after seats seat) none in
-    let failed = found-all (λ other. other == target) (λ other. not (test other))
-    (clockwise_after seats seat) target all
-    (comes-to seats seat target within first last) in
+    let failed = find-all (λ other. other == target) (λ other. not (test other))
+    (clockwise_after seats seat) target (comes-to seats seat target within first last) all in
     both_ways (test target) (not-true (test target) failed) passes
 
 -- A walk round a table finds a seat that is not taken, where fewer are taken than the table has.
@@ -100,18 +100,10 @@ pub empty-apart : (players : List Seated) (table seats big at : ℕ) → seats �
 empty-apart players table seats big at most first last =
     let size = taken-size players table in
     let one = has_seat-one_more (taken_seats players table) big at first (omega (arith, size, last, most)) in
+    let sits = is_some (player_at players (record { table = table; seat = at })) in
     ap not (one ∙ ap (λ taken. big == at || taken) (has_seat-taken table at first (omega arith) players))
-    ∙ neither (is_some (player_at players (record { table = table; seat = at }))) (big == at) (at == big)
-    (eqb-swap big at)
-  where
-    either_way : (taken other : Bool) → not (other || taken) ≡ (not taken && not other)
-    either_way true true = refl
-    either_way true false = refl
-    either_way false true = refl
-    either_way false false = refl
-
-    neither : (taken one other : Bool) → one ≡ other → not (one || taken) ≡ (not taken && not other)
-    neither taken one other is = rw is (either_way taken other)
+    ∙ not-or (big == at) sits ∙ and_comm (not (big == at)) (not sits)
+    ∙ ap (λ marked. not sits && not marked) (eqb-swap big at)
 
 -- The worst seat by the marks is empty.
 pub worst-empty : (seats : ℕ) (is_empty : ℕ → Bool) (marks : Option Marks) (seat : ℕ)

@@ -1,15 +1,14 @@
 -- The player who moves: who is found in a place is found by his number, and sits there.
-use Rattle.std.proofs.Common.{◌≡◌, ◌∙◌, refl, sym, ap, ℕ, ◌≤◌, Bool, true, false, ◌==◌, List, [], ◌∷◌, Option, Some, arith}
+use Rattle.std.proofs.Common.{◌≡◌, ◌∙◌, refl, sym, ap, ℕ, ◌≤◌, Bool, true, false, ◌==◌, List, [], ◌∷◌, Option, Some}
 use Rattle.std.specs.Prelude.{not, find, option_map}
 use Rattle.std.specs.List.{list_all}
-use Rattle.std.proofs.lemmas.Bool.{and_parts, eq-eqb, eqb-true}
-use Rattle.rulebook.proofs.Tests.{find-passes, some_there}
+use Rattle.std.proofs.lemmas.Bool.{and_parts, eq-eqb, eqb-true, not-true}
+use Rattle.rulebook.proofs.Tests.{eqb-swap, find-all, find-passes, some_there}
 use Rattle.button_blinds.specs.SeatSets.{has_seat}
 use Rattle.seat_book.specs.declared.place.Place.{Place}
 use Rattle.seat_book.specs.declared.seated.Seated.{Seated}
 use Rattle.seat_book.specs.Players.{sits_in, is_numbered, player_at, player_of, place_of, taken_seats, are_apart}
 use Rattle.seat_book.specs.Seatings.{Seating, IsSeating}
-use Rattle.seat_book.proofs.Passing.{found-all}
 use Rattle.seat_book.proofs.TakenPlaces.{has_seat-taken}
 use Rattle.balance_rule.specs.EmptySeats.{worst_empty_seat}
 use Rattle.balance_rule.specs.Balance.{next_big_seat, next_big_player, move_to, balance_move}
@@ -23,9 +22,6 @@ found-numbered test (first ∷ players) seated apart is =
     (are_apart players) apart in
     by_test (test first) refl parts.0 (found-numbered test players seated parts.1)
   where
-    differs : (a b : ℕ) → not (a == b) ≡ true → (b == a) ≡ false
-    differs a b apart = grind arith
-
     by_test : (b : Bool) → test first ≡ b → list_all (λ other. not (is_numbered first.player other)) players ≡ true
         → (find test players ≡ Some seated → player_of players seated.player ≡ Some seated)
         → player_of (first ∷ players) seated.player ≡ Some seated
@@ -35,8 +31,10 @@ found-numbered test (first ∷ players) seated apart is =
         rw (← same, eq-eqb first.player first.player refl) refl
     by_test false passes others later =
         let found : find test players ≡ Some seated = rw passes at is in
-        let apart_too = found-all test (λ other. not (is_numbered first.player other)) players seated others found in
-        rw (differs seated.player first.player apart_too) (later found)
+        let apart_too = find-all test (λ other. not (is_numbered first.player other)) players seated found others in
+        let differs : (first.player == seated.player) ≡ false = eqb-swap first.player seated.player
+        ∙ not-true (seated.player == first.player) apart_too in
+        rw differs (later found)
 
 -- Who is found in a place sits there.
 pub found-place : (players : List Seated) (place : Place) (seated : Seated) → player_at players place ≡ Some seated

@@ -1,5 +1,5 @@
 -- What holds of every fill list.
-use Rattle.std.proofs.Common.{◌≡◌, ◌∙◌, refl, sym, ap, subst, ℕ, zero, suc, ◌+◌, ◌≤◌, ◌==◌, Bool, true, false, cond, List, [], ◌∷◌, ◌++◌, Some, inl, inr, arith}
+use Rattle.std.proofs.Common.{◌≡◌, ◌∙◌, refl, sym, ap, subst, ℕ, zero, suc, ◌+◌, ◌≤◌, ◌==◌, true, false, cond, List, [], ◌∷◌, ◌++◌, Some, inl, inr, arith}
 use Rattle.std.specs.Prelude.{not, ◌&&◌, ◌||◌}
 use Rattle.std.specs.List.{list_all, list_any}
 use Rattle.std.proofs.Math.Bool.{or-false}
@@ -8,7 +8,8 @@ use Rattle.std.proofs.lemmas.Bool.Decides.{nat_tests}
 use Rattle.std.proofs.lemmas.List.Folds.{list_any-append}
 use Rattle.rulebook.specs.Seats.{clockwise_after}
 use Rattle.rulebook.specs.Pairs.{are_distinct}
-use Rattle.rulebook.proofs.Tests.{find-passes}
+use Rattle.rulebook.proofs.Pairs.{first_alone}
+use Rattle.rulebook.proofs.Tests.{find-passes, not-or}
 use Rattle.seat_book.specs.declared.place.Place.{Place}
 use Rattle.seat_book.specs.Places.{IsTableOf}
 use Rattle.seat_book.specs.Counts.{table_numbers}
@@ -68,7 +69,8 @@ distinct-ends (first ∷ places) place apart new =
     let parts = and_parts (list_all (λ other. not (is_same_place first other)) places)
     (are_distinct is_same_place places)
     apart in
-    let news = neither (is_same_place place first) (list_any (is_same_place place) places) new in
+    let news = and_parts (not (is_same_place place first)) (not (list_any (is_same_place place) places))
+    (sym (not-or (is_same_place place first) (list_any (is_same_place place) places)) ∙ new) in
     and_from (list_all (λ other. not (is_same_place first other)) (places ++ place ∷ []))
     (are_distinct is_same_place (places ++ place ∷ []))
     (list_all-joined (λ other. not (is_same_place first other)) places (place ∷ []) parts.0
@@ -76,10 +78,6 @@ distinct-ends (first ∷ places) place apart new =
     (turned place.table place.seat first.table first.seat news.0) refl))
     (distinct-ends places place parts.1 news.1)
   where
-    neither : (one other : Bool) → not (one || other) ≡ true → (not one ≡ true) × (not other ≡ true)
-    neither true other none = absurd cc
-    neither false other none = (refl, none)
-
     turned : (a b x y : ℕ) → not ((a == x) && (b == y)) ≡ true → not ((x == a) && (y == b)) ≡ true
     turned a b x y apart = grind (arith, nat_tests)
 
@@ -116,13 +114,10 @@ level-step seating table one other fewer place next took among before =
       | inr not_there ↦
           let added : cond {A = ℕ} (place.table == one) 1 0 ≡ 0 = ap (λ b. cond {A = ℕ} b 1 0) not_there in
           let joined = sym (list_any-append (is_at one) fewer (place ∷ [])) ∙ took in
-          let earlier = before (had (list_any (is_at one) fewer) (place.table == one) not_there joined) in
+          let earlier = before (first_alone (list_any (is_at one) fewer) (place.table == one || false) joined
+          (or-false (place.table == one) ∙ not_there)) in
           omega (arith, here, there, added, earlier)
     ]
-  where
-    had : (before now : Bool) → now ≡ false → (before || (now || false)) ≡ true → before ≡ true
-    had true now none some = refl
-    had false now none some = let same : now ≡ true = sym (or-false now) ∙ some in absurd cc
 
 -- No table that got a chosen seat has, with the chosen seats, two players more than another open table.
 pub chosen-level : (seating : Seating) (table n one other : ℕ) (chosen : List Place)

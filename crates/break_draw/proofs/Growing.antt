@@ -2,7 +2,7 @@
 use Rattle.std.proofs.Common.{◌≡◌, ◌∙◌, ap, ℕ, zero, suc, ◌+◌, Bool, true, false, cond, List, [], ◌∷◌, ◌++◌, map, add-one, arith, append-nil}
 use Rattle.std.specs.Prelude.{filter, fold, sum}
 use Rattle.std.proofs.lemmas.List.Elements.{filter-append}
-use Rattle.std.proofs.lemmas.List.Sums.{fold-append, sum_by-cons}
+use Rattle.std.proofs.lemmas.List.Sums.{fold-append, sum_by-cons, sum-map, sum_by_push}
 use Rattle.rulebook.specs.Seats.{walk}
 
 -- A walk by number with one more step ends with the next number.
@@ -45,12 +45,8 @@ pub sum-first : (value : ℕ → ℕ) (x : ℕ) (xs : List ℕ) → sum (map val
 sum-first value x xs = sum_by-cons (λ n. n) (value x) (map value xs)
 
 sum-ends : (value : ℕ → ℕ) (xs : List ℕ) (x : ℕ) → sum (map value (xs ++ x ∷ [])) ≡ sum (map value xs) + value x
-sum-ends value [] x = let one = sum-first value x [] in omega (arith, one)
-sum-ends value (y ∷ xs) x =
-    let rest = sum-ends value xs x in
-    let here = sum-first value y xs in
-    let whole = sum-first value y (xs ++ x ∷ []) in
-    omega (arith, rest, here, whole)
+sum-ends value xs x =
+    omega (arith, sum-map value (xs ++ x ∷ []), sum_by_push value xs x, sum-map value xs)
 
 -- The sum over the tables that pass, with one more that passes.
 pub summed-one : (value : ℕ → ℕ) (test : ℕ → Bool) (below : ℕ) → test (below + 1) ≡ true

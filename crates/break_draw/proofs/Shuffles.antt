@@ -2,6 +2,7 @@
 use Rattle.std.proofs.Common.{◌≡◌, refl, sym, subst, ℕ, zero, suc, ◌+◌, ◌-◌, ◌*◌, ◌/◌, ◌%◌, ◌^◌, ◌<◌, ◌≤◌, ◌==◌, nat_lt, List, length, swap, arith}
 use Rattle.std.specs.Prelude.{IsPermutation}
 use Rattle.std.proofs.lemmas.Nat.{mod_below}
+use Rattle.std.proofs.lemmas.Bool.{cond_both}
 use Rattle.std.proofs.lemmas.Bool.Decides.{nat_tests}
 use Rattle.std.proofs.lemmas.List.Sorted.{IsPermutation-refl, IsPermutation-trans, IsPermutation-swap, length_permutation}
 use Rattle.rand_core.specs.Stream.{Stream, next_u32}
@@ -10,7 +11,7 @@ use Rattle.rand.specs.Shuffle.{rising, grow, chunk_of, Chooser, chooser_at, choo
 use Rattle.rand.proofs.ShuffleLemmas.{rising_more, rising_one, rising_positive, rest_below, last_below}
 use Rattle.break_draw.specs.declared.random.DrawKind.{DrawKind}
 use Rattle.break_draw.specs.Generator.{draw_generator, words_of, drawn_order}
-use Rattle.break_draw.proofs.Words.{either, GivesWords, one-word, generator-words, canon-draws, place-draws}
+use Rattle.break_draw.proofs.Words.{GivesWords, one-word, generator-words, canon-draws, place-draws}
 
 -- a product of so many factors from a number on, with how many they are
 record IsChunk (first : ℕ) (chunk : ℕ × ℕ) : Type 0 where
@@ -22,8 +23,9 @@ grow-chunk : (more first product current count : ℕ) → current ≡ first + co
 unfolding grow
 grow-chunk zero first product current count at is some = record { product = is; some = some }
 grow-chunk (suc more) first product current count at is some =
-    either (IsChunk first) (nat_lt (2 ^ 32 - 1) (product * current)) (product, count)
-    (grow more (product * current) (current + 1) (count + 1)) (λ _. record { product = is; some = some })
+    cond_both {A = ℕ × ℕ} (nat_lt (2 ^ 32 - 1) (product * current)) (product, count)
+    (grow more (product * current) (current + 1) (count + 1)) (IsChunk first)
+    (λ _. record { product = is; some = some })
     (λ _. grow-chunk more first (product * current) (current + 1) (count + 1) (omega (arith, at))
     (rw (is, at) (sym (rising_more first count))) (omega arith))
 
@@ -47,12 +49,12 @@ refilled chooser stream is words =
     let chunk = chunk-is (chooser.n + 1) in
     let drawn = canon-draws (2 ^ 32) next_u32 (chunk_of (chooser.n + 1)).0 stream one-word
     (rw chunk.product (rising_positive (chooser.n + 1) (chunk_of (chooser.n + 1)).1 (omega arith))) words in
-    either (IsRefilled chooser.n) (chooser.left == 0) (
+    cond_both {A = ℕ × ℕ × Stream} (chooser.left == 0) (
       (canon (2 ^ 32) next_u32 (chunk_of (chooser.n + 1)).0 stream).0,
       (chunk_of (chooser.n + 1)).1,
       (canon (2 ^ 32) next_u32 (chunk_of (chooser.n + 1)).0 stream).1,
     )
-    (chooser.chunk, chooser.left, stream)
+    (chooser.chunk, chooser.left, stream) (IsRefilled chooser.n)
     (λ _. record {
       some = chunk.some;
       below = subst (λ range. (canon (2 ^ 32) next_u32 (chunk_of (chooser.n + 1)).0 stream).0 < range) chunk.product
@@ -107,8 +109,10 @@ chosen bound chooser stream is words =
     let now = chooser_refill chooser stream in
     let ready = refilled chooser stream (record { at = refl; left = is.left }) words in
     subst (λ place. IsChosen place (chooser_next chooser stream)) is.at
-    (either (IsChosen chooser.n) (now.1 == 1) (now.0, record { n = chooser.n + 1; chunk = now.0; left = 0 }, now.2)
+    (cond_both {A = ℕ × Chooser × Stream} (now.1 == 1)
+    (now.0, record { n = chooser.n + 1; chunk = now.0; left = 0 }, now.2)
     (now.0 % (chooser.n + 1), record { n = chooser.n + 1; chunk = now.0 / (chooser.n + 1); left = now.1 - 1 }, now.2)
+    (IsChosen chooser.n)
     (λ one. last-chosen chooser.n now.0 now.1 now.2 ready.below (grind (arith, nat_tests)) ready.rest)
     (λ _. one-chosen chooser.n now.0 now.1 now.2 ready.below ready.some ready.rest))
 
@@ -175,13 +179,14 @@ widened items stream (suc count) words within =
 -- A shuffle over words leaves the list in some order.
 shuffled-permutes : {A : Type 0} (items : List A) (stream : Stream) → GivesWords stream
     → IsPermutation items (shuffled items 0 stream).0
-shuffled-permutes items stream words =
+shuffled-permutes {A} items stream words =
     let narrow = narrowed items (chooser_at 0) stream (length items - 0)
     (record { at = refl; left = λ _. rising_positive 1 1 (omega arith) }) words (omega arith) in
     let wide = widened items stream (length items - 0) words (omega arith) in
     let now = narrow_swaps items (chooser_at 0) stream (length items - 0) in
-    either (λ pair. IsPermutation items pair.0) (nat_lt (length items) (2 ^ 32 - 1)) (now.0, now.2)
-    (wide_swaps items 0 stream (length items - 0)) (λ _. narrow.same) (λ _. wide.same)
+    cond_both {A = List A × Stream} (nat_lt (length items) (2 ^ 32 - 1)) (now.0, now.2)
+    (wide_swaps items 0 stream (length items - 0))
+    (λ pair. IsPermutation items pair.0) (λ _. narrow.same) (λ _. wide.same)
 
 -- A draw leaves a list in some order, for every seed, kind and number.
 pub drawn-permutes : {A : Type 0} (seed : List ℕ) (kind : DrawKind) (number : ℕ) (items : List A)

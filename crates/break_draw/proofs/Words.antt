@@ -1,7 +1,7 @@
 -- The words of a generator are below 2^32, and a number that is drawn from them is below its bound.
-use Rattle.std.proofs.Common.{◌≡◌, refl, ℕ, ◌+◌, ◌-◌, ◌*◌, ◌/◌, ◌%◌, ◌^◌, ◌<◌, ◌≤◌, nat_lt, nat_le, Bool, true, false, cond, List, [], ◌∷◌, inl, inr, arith}
+use Rattle.std.proofs.Common.{◌≡◌, ℕ, ◌+◌, ◌-◌, ◌*◌, ◌/◌, ◌%◌, ◌^◌, ◌<◌, ◌≤◌, nat_lt, nat_le, cond, List, [], ◌∷◌, inl, inr, arith}
 use Rattle.std.proofs.lemmas.Nat.{div_below, mod_below, mul-le}
-use Rattle.std.proofs.lemmas.Bool.{cases_lt}
+use Rattle.std.proofs.lemmas.Bool.{cases_lt, cond_both}
 use Rattle.std.proofs.lemmas.Bool.Decides.{nat_tests}
 use Rattle.rand_core.specs.Stream.{Call, u32_call, u64_call, Stream, next_u32, next_u64}
 use Rattle.rand_core.specs.Steps.{state_after, stream_of, steps_u32}
@@ -10,12 +10,6 @@ use Rattle.rand_chacha.specs.ChaCha.{ChaCha, next_word}
 use Rattle.rand.specs.Draw.{draw_map}
 use Rattle.rand.specs.Uniform.{canon, usize_single}
 use Rattle.break_draw.specs.Generator.{words_of}
-
--- what holds of both of two values holds of the one that is taken
-pub either : {A : Type 0} (P : A → Type 0) (test : Bool) (one other : A) → (test ≡ true → P one)
-    → (test ≡ false → P other) → P (cond test one other)
-either P true one other first second = first refl
-either P false one other first second = second refl
 
 -- What a stream gives are words: below 2^32, and below 2^64 two at a time.
 pub record GivesWords (stream : Stream) : Type 0 where
@@ -31,6 +25,7 @@ pub record Draws (bound : ℕ) (drawn : ℕ × Stream) : Type 0 where
 pub record IsDrawBelow (bound : ℕ) (next : Stream → ℕ × Stream) : Type 0 where
   pub draws : (stream : Stream) → GivesWords stream → Draws bound (next stream)
 
+-- The next word of a stream of words is below 2^32, and what is left of the stream gives words again.
 pub one-word : IsDrawBelow (2 ^ 32) next_u32
 unfolding next_u32
 one-word = record {
@@ -99,16 +94,16 @@ canon-draws words next range stream draw some given =
     let high = word * range / words in
     let low = word * range % words in
     let fits = fraction-below words word range first.below some in
-    either (Draws range) (nat_lt (words - range) low)
+    cond_both {A = ℕ × Stream} (nat_lt (words - range) low)
     (draw_map (λ other. cond (nat_le words (low + other * range / words)) (high + 1) high) next (next stream).1)
-    (high, (next stream).1)
+    (high, (next stream).1) (Draws range)
     (λ carried.
     let open_carry : words - range < low = grind (arith, nat_tests) in
     let product : high * words + low ≡ word * range = omega arith in
     let room = carry-room words word range high low first.below product open_carry in
     record {
-      below = either (λ number. number < range)
-          (nat_le words (low + (next (next stream).1).0 * range / words)) (high + 1) high (λ _. room) (λ _. fits);
+      below = cond_both {A = ℕ} (nat_le words (low + (next (next stream).1).0 * range / words)) (high + 1) high
+          (λ number. number < range) (λ _. room) (λ _. fits);
       rest = second.rest;
     })
     (λ _. record { below = fits; rest = first.rest })
@@ -118,8 +113,8 @@ pub place-draws : (end : ℕ) (stream : Stream) → 0 < end → GivesWords strea
 place-draws end stream some given =
     let short = canon-draws (2 ^ 32) next_u32 (end - 0) stream one-word (omega arith) given in
     let long = canon-draws (2 ^ 64) next_u64 (end - 0) stream two-words (omega arith) given in
-    either (Draws end) (nat_lt end (2 ^ 32))
+    cond_both {A = ℕ × Stream} (nat_lt end (2 ^ 32))
     (draw_map (λ number. 0 + number) (canon (2 ^ 32) next_u32 (end - 0)) stream)
-    (draw_map (λ number. 0 + number) (canon (2 ^ 64) next_u64 (end - 0)) stream)
+    (draw_map (λ number. 0 + number) (canon (2 ^ 64) next_u64 (end - 0)) stream) (Draws end)
     (λ _. record { below = (let below = short.below in omega arith); rest = short.rest })
     (λ _. record { below = (let below = long.below in omega arith); rest = long.rest })

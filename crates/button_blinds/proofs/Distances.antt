@@ -1,7 +1,7 @@
 -- How many steps clockwise lead from one seat to another, and what the walks find by that.
 use Rattle.std.proofs.Common.{◌≡◌, ◌⊎◌, ◌∙◌, ℕ, zero, suc, ◌+◌, ◌-◌, ◌<◌, ◌≤◌, List, [], ◌∷◌, Bool, true, false, cond, length, refl, sym, ap, inl, inr, arith}
 use Rattle.std.specs.Prelude.{Some, None, ◌==◌, not, nat_lt, slice_index_or, slice_set, find, filter, take_while}
-use Rattle.std.proofs.lemmas.Bool.{cases_Bool, cases_eq, eqb-true, eqb-false}
+use Rattle.std.proofs.lemmas.Bool.{both_ways, cases_Bool, cases_eq, eqb-true, eqb-false}
 use Rattle.std.proofs.lemmas.Bool.Decides.{nat_tests}
 use Rattle.std.proofs.lemmas.List.Sums.{take_while-cons, sum_by-cons}
 use Rattle.std.proofs.lemmas.Option.{same_Some}
@@ -34,14 +34,10 @@ step_less seats from seat low high first last other = grind (arith, nat_tests)
 some_steps : (seats from seat : ℕ) → 1 ≤ from → from ≤ seats → 1 ≤ seat → seat ≤ seats → 1 ≤ steps_to seats from seat
 some_steps seats from seat low high first last = grind (arith, nat_tests)
 
+-- from a seat to another, or all round to itself, there are no more steps than the table has seats
 pub most_steps : (seats from seat : ℕ) → 1 ≤ from → from ≤ seats → 1 ≤ seat → seat ≤ seats
     → steps_to seats from seat ≤ seats
 most_steps seats from seat low high first last = grind (arith, nat_tests)
-
-not_there : (a b : Bool) → a ≡ true → b ≡ false → a ≡ b → ⊥
-not_there true true one none same = cc
-not_there true false one none same = cc
-not_there false b one none same = cc
 
 -- the seat that a walk finds is no more steps away than any other occupied seat that the walk comes to
 pub found-nearest : (occupied : ℕ → Bool) (seats steps from found seat : ℕ) → IsSeat seats from → IsSeat seats found
@@ -59,14 +55,13 @@ found-nearest occupied seats (suc steps) from found seat at there is first sits 
       | inr empty ↦
           let later = rw empty at first in
           let apart : seat ≡ seat_after seats from
-          → ⊥ = λ same. not_there (occupied seat) (occupied (seat_after seats from)) sits empty (ap occupied same) in
+          → ⊥ = λ same. both_ways (occupied (seat_after seats from)) empty (ap occupied (sym same) ∙ sits) in
           let less = step_less seats from seat at.0 at.1 is.0 is.1 apart in
           let nearest = found-nearest occupied seats steps (seat_after seats from) found seat
           (next_is_seat seats from at) there is later sits (omega (arith, less, within)) in
           let found_apart : found ≡ seat_after seats from
-          → ⊥ = λ same. not_there (occupied found) (occupied (seat_after seats from))
-          (find-passes occupied (walk (seat_after seats) steps (seat_after seats from)) found later) empty
-          (ap occupied same) in
+          → ⊥ = λ same. both_ways (occupied (seat_after seats from)) empty (ap occupied (sym same)
+          ∙ find-passes occupied (walk (seat_after seats) steps (seat_after seats from)) found later) in
           let found_less = step_less seats from found at.0 at.1 there.0 there.1 found_apart in
           omega (arith, less, found_less, nearest)
     ]
@@ -273,6 +268,7 @@ pub all_before : (seats a b first seat : ℕ) → 1 ≤ a → a ≤ seats → 1 
 all_before seats a b first seat low_a high_a low_b high_b low_first high_first low high before nearest other =
     grind (arith, nat_tests)
 
+-- every seat of a set has a number of at least 1
 pub seat_low : (set : List Bool) (seat : ℕ) → has_seat set seat ≡ true → 1 ≤ seat
 seat_low set zero there = cc
 seat_low set (suc k) there = omega arith
@@ -288,7 +284,7 @@ found-reached occupied seats (suc steps) from seat at is sits within none =
       | inl here ↦ let found : Some (seat_after seats from) ≡ None = rw here at none in cc
       | inr empty ↦
           let less = step_less seats from seat at.0 at.1 is.0 is.1
-          (λ same. not_there (occupied seat) (occupied (seat_after seats from)) sits empty (ap occupied same)) in
+          (λ same. both_ways (occupied (seat_after seats from)) empty (ap occupied (sym same) ∙ sits)) in
           found-reached occupied seats steps (seat_after seats from) seat (next_is_seat seats from at) is sits
           (omega (arith, less, within)) (rw empty at none)
     ]

@@ -20,6 +20,7 @@ pub record AreFit (occupied : List Bool) (next : NextMarks) : Type 0 where
   pub apart : next.marks.small ≡ next.marks.big → ⊥
   pub two_play : seat_count next.waiting + 2 ≤ seat_count occupied
 
+-- With two players or more at a table, the next occupied seat after any seat is one of the table's.
 pub next-seat : (occupied : List Bool) (seats seat : ℕ) → AreSeatsOf seats occupied → 2 ≤ seat_count occupied
     → seat ≤ seats → IsSeat seats (next_occupied_after seats (has_seat occupied) seat)
 next-seat occupied seats seat table players at =
@@ -62,6 +63,7 @@ heads-up-fit occupied seats big table players at sits = record {
   two_play = omega (arith, players);
 }
 
+-- Where the marks of the hand before move on, big sits and plays, small is another seat, and at least two play.
 pub moved-fit : (occupied : List Bool) (old : Marks) (seats : ℕ) → seats ≤ 10 → AreSeatsOf seats occupied
     → 2 ≤ seat_count occupied → AreMarksOf seats old
     → AreFit occupied (moved_marks old occupied seats (next_occupied_after seats (has_seat occupied) old.big))

@@ -1,7 +1,8 @@
 -- Who is in a set after a seat is put in or taken out.
 use Rattle.std.proofs.Common.{◌≡◌, ◌⊎◌, ℕ, zero, suc, ◌-◌, ◌≤◌, List, [], ◌∷◌, Bool, true, false, length, refl, ap, inl, inr, arith}
-use Rattle.std.specs.Prelude.{IsTrue, slice_index_or, slice_set, replicate}
+use Rattle.std.specs.Prelude.{IsTrue, slice_index_or, slice_set}
 use Rattle.std.proofs.lemmas.List.{length-set}
+use Rattle.rulebook.proofs.Repeats.{get_or-repeated}
 use Rattle.button_blinds.specs.SeatSets.{no_seats, has_seat, with_seat, without_seat, seat_count, AreSeatsOf}
 
 -- With one more seat a set has as many tests as before.
@@ -58,16 +59,10 @@ AreSeatsOf-without_seat set seat seats before = record {
   within = λ other is. before.within other (has_seat-without_seat set seat other is);
 }
 
--- No test of a list of false tests is true.
-none-replicate : (n k : ℕ) → slice_index_or (replicate n false) k false ≡ false
-none-replicate zero k = refl
-none-replicate (suc n) zero = refl
-none-replicate (suc n) (suc k) = none-replicate n k
-
 -- No seat is in the set with no seat.
 pub no_seats-none : (seat : ℕ) → has_seat no_seats seat ≡ false
 no_seats-none zero = refl
-no_seats-none (suc k) = none-replicate 10 k
+no_seats-none (suc k) = get_or-repeated 10 k false
 
 -- Only seats of the table are in the set with no seat.
 pub AreSeatsOf-no_seats : (seats : ℕ) → AreSeatsOf seats no_seats
@@ -78,6 +73,7 @@ pub with_seat-test : (set : List Bool) (seat : ℕ) → 1 ≤ seat → slice_set
 with_seat-test set zero low = absurd (omega arith)
 with_seat-test set (suc at) low = let same : suc at - 1 ≡ at = omega arith in rw same refl
 
+-- A seat is taken out of a set where the test at the index one below its number is made false.
 pub without_seat-test : (set : List Bool) (seat : ℕ) → 1 ≤ seat → slice_set set (seat - 1) false ≡ without_seat set seat
 without_seat-test set zero low = absurd (omega arith)
 without_seat-test set (suc at) low = let same : suc at - 1 ≡ at = omega arith in rw same refl

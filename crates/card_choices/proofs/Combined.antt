@@ -124,6 +124,7 @@ choices-renamed op none is suit value other same (suc n) (x ∷ xs) (y ∷ ys) r
     (choices-renamed op none is suit value other same (suc n) xs ys renamed.2)
     ∙ sym (choices-cons op none is other n y ys)
 
+-- where the cards of two lists are renamed in the same way, so are those of the two lists joined
 pub renamed-append : (suit : ℕ → ℕ) (xs ys us vs : List Card) → AreRenamed suit xs ys → AreRenamed suit us vs
     → AreRenamed suit (xs ++ us) (ys ++ vs)
 renamed-append suit [] [] us vs one other = other
@@ -143,6 +144,7 @@ omaha_value op none is value hole board =
     (λ pair. combined op none (λ three. value (pair ++ three)) (choices 3 board)) (choices 2 hole)
     (λ pair. combined-map op none value (λ three. pair ++ three) (choices 3 board))
 
+-- where neighbours may change places in each value, neighbouring hole cards may in what the Omaha choices come to
 pub omaha-exchange_hole : {V : Type 0} (op : V → V → V) (none : V) → IsCombining op none → (value : List Card → V)
     → AllowsExchange value → (board : List Card)
     → AllowsExchange (λ hole. combined op none value
@@ -156,6 +158,7 @@ omaha-exchange_hole op none is value may board front a b back =
     ∙ ap value (sym (append_assoc f (y ∷ x ∷ k) three)))) 2 front a b back
     ∙ sym (omaha_value op none is value (front ++ b ∷ a ∷ back) board)
 
+-- where neighbours may change places in each value, neighbours on the board may in what the Omaha choices come to
 pub omaha-exchange_board : {V : Type 0} (op : V → V → V) (none : V) → IsCombining op none → (value : List Card → V)
     → AllowsExchange value → (hole : List Card)
     → AllowsExchange (λ board. combined op none value
@@ -170,6 +173,7 @@ omaha-exchange_board op none is value may hole front a b back =
     ∙ ap value (append_assoc pair f (y ∷ x ∷ k))) 3 front a b back)
     ∙ sym (omaha_value op none is value hole (front ++ b ∷ a ∷ back))
 
+-- values that are the same for renamed cards come to the same over the Omaha choices of renamed cards
 pub omaha-renamed : {V : Type 0} (op : V → V → V) (none : V) → IsCombining op none
     → (suit : ℕ → ℕ) (value : List Card → V)
     → ((c d : List Card) → AreRenamed suit c d → value c ≡ value d) → (hole others board boards : List Card)

@@ -11,10 +11,12 @@ Upto [] ys = Unit {0}
 Upto (x ∷ xs) [] = ⊥
 Upto (x ∷ xs) (y ∷ ys) = (x < y) ⊎ ((x ≡ y) × Upto xs ys)
 
+-- every list comes no later than itself
 pub upto_itself : (xs : List ℕ) → Upto xs xs
 upto_itself [] = tt
 upto_itself (x ∷ xs) = inr (refl, upto_itself xs)
 
+-- a list that comes no later than a second comes no later than any list that the second comes no later than
 pub upto_through : (xs ys zs : List ℕ) → Upto xs ys → Upto ys zs → Upto xs zs
 upto_through [] ys zs one other = tt
 upto_through (x ∷ xs) [] zs one other = absurd one
@@ -86,6 +88,7 @@ upto-lt (x ∷ xs) (y ∷ ys) (inr same) =
 pub max_upper : (xs ys : List ℕ) → Upto xs ys → ord_max (slice_cmp nat_cmp) xs ys ≡ ys
 max_upper xs ys is = let lower = upto-not_lt xs ys is in rw lower refl
 
+-- the greater of two lists is the first, if the second comes no later
 pub max_lower : (xs ys : List ℕ) → Upto ys xs → ord_max (slice_cmp nat_cmp) xs ys ≡ xs
 max_lower xs ys is =
     elim (upto-lt ys xs is) [
@@ -104,6 +107,7 @@ min_lower xs ys is =
       | inr same ↦ min_upper xs ys (subst (λ zs. Upto xs zs) (sym same) (upto_itself xs)) ∙ sym same
     ]
 
+-- the first of two lists comes no later than the greater of them
 pub max-above_left : (xs ys : List ℕ) → Upto xs (ord_max (slice_cmp nat_cmp) xs ys)
 max-above_left xs ys =
     elim (upto_either xs ys) [
@@ -111,6 +115,7 @@ max-above_left xs ys =
       | inr down ↦ subst (λ zs. Upto xs zs) (sym (max_lower xs ys down)) (upto_itself xs)
     ]
 
+-- the second of two lists comes no later than the greater of them
 pub max-above_right : (xs ys : List ℕ) → Upto ys (ord_max (slice_cmp nat_cmp) xs ys)
 max-above_right xs ys =
     elim (upto_either xs ys) [
@@ -118,6 +123,7 @@ max-above_right xs ys =
       | inr down ↦ subst (λ zs. Upto ys zs) (sym (max_lower xs ys down)) down
     ]
 
+-- if two lists come no later than a third, then the greater of them comes no later than it
 pub max-within : (xs ys zs : List ℕ) → Upto xs zs → Upto ys zs → Upto (ord_max (slice_cmp nat_cmp) xs ys) zs
 max-within xs ys zs one other =
     elim (upto_either xs ys) [
@@ -125,6 +131,7 @@ max-within xs ys zs one other =
       | inr down ↦ subst (λ m. Upto m zs) (sym (max_lower xs ys down)) one
     ]
 
+-- the lesser of two lists comes no later than the first of them
 pub min-below_left : (xs ys : List ℕ) → Upto (ord_min (slice_cmp nat_cmp) xs ys) xs
 min-below_left xs ys =
     elim (upto_either xs ys) [
@@ -132,6 +139,7 @@ min-below_left xs ys =
       | inr down ↦ subst (λ zs. Upto zs xs) (sym (min_lower xs ys down)) down
     ]
 
+-- the lesser of two lists comes no later than the second of them
 pub min-below_right : (xs ys : List ℕ) → Upto (ord_min (slice_cmp nat_cmp) xs ys) ys
 min-below_right xs ys =
     elim (upto_either xs ys) [
@@ -139,6 +147,7 @@ min-below_right xs ys =
       | inr down ↦ subst (λ zs. Upto zs ys) (sym (min_lower xs ys down)) (upto_itself ys)
     ]
 
+-- a list that comes no later than each of two others comes no later than the lesser of them
 pub min-within : (xs ys zs : List ℕ) → Upto zs xs → Upto zs ys → Upto zs (ord_min (slice_cmp nat_cmp) xs ys)
 min-within xs ys zs one other =
     elim (upto_either xs ys) [

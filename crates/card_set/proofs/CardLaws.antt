@@ -40,12 +40,14 @@ same_numbers a b c d test = grind (arith, nat_tests)
 passes_same : (a b c d : ℕ) → a ≡ b → c ≡ d → ((a == b) && (c == d)) ≡ true
 passes_same a b c d ranks suits = grind (arith, nat_tests)
 
+-- two cards that pass the test of being the same card are equal
 pub same-from_is_same_card : (one other : Card) → is_same_card one other ≡ true → one ≡ other
 same-from_is_same_card one other test =
     let both : (one.rank ≡ other.rank) × (one.suit ≡ other.suit) =
     same_numbers one.rank other.rank one.suit other.suit test in
     same_card one other both.0 both.1
 
+-- two cards that fail the test of being the same card differ
 pub differ-from_is_same_card : (one other : Card) → is_same_card one other ≡ false → one ≢ other
 differ-from_is_same_card one other test = λ same.
     let passed : is_same_card one other ≡ true =
@@ -53,6 +55,7 @@ differ-from_is_same_card one other test = λ same.
     (ap (λ (card : Card). card.suit) same) in
     cc
 
+-- two cards that differ fail the test of being the same card
 pub is_same_card-from_differ : (one other : Card) → one ≢ other → is_same_card one other ≡ false
 is_same_card-from_differ one other differ =
     false_from_ne_true (is_same_card one other) (λ passed. differ (same-from_is_same_card one other passed))

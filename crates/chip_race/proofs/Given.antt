@@ -57,6 +57,13 @@ odd-within new stack = omega arith
 pub odd-le : (new : ℕ) (stacks : List ℕ) → sum_by (odd_value new) stacks ≤ sum stacks
 odd-le new stacks = sum_by-le-sum_by (odd_value new) (λ stack. stack) stacks (λ stack. odd-within new stack)
 
+-- A multiple of a unit that is something is at least the unit.
+pub multiple-le : (unit amount : ℕ) → amount % unit ≡ 0 → 1 ≤ amount → unit ≤ amount
+multiple-le unit amount whole some = elim (cases_lt amount unit) [
+  | inl less ↦ (let same = mod-eq_of_lt less in omega (arith, same))
+  | inr enough ↦ enough
+]
+
 -- What a player is given is at most six times his stack, as a chip of the new unit is at most six of the old.
 pub given-few : (old new : ℕ) (has_won : Bool) (stack : ℕ) → 1 ≤ new → new ≤ 6 * old → stack % old ≡ 0
     → (stack ≡ 0 → has_won ≡ false) → given_value new has_won stack ≤ 6 * stack
@@ -71,12 +78,6 @@ given-few old new has_won stack unit most whole empty = elim (where_is 1 stack) 
         | inr one ↦ omega (arith, one)
       ]
 ]
-  where
-    multiple-le : (unit amount : ℕ) → amount % unit ≡ 0 → 1 ≤ amount → unit ≤ amount
-    multiple-le unit amount whole some = elim (cases_lt amount unit) [
-      | inl less ↦ (let same = mod-eq_of_lt less in omega (arith, same))
-      | inr enough ↦ enough
-    ]
 
 whole-part : (new stack : ℕ) → (stack - stack % new) % new ≡ 0
 whole-part new stack =

@@ -1,17 +1,12 @@
 -- A race seat by seat.
-use Rattle.std.proofs.Common.{◌≡◌, ◌∙◌, ap, sym, refl, ℕ, zero, suc, ◌+◌, ◌-◌, ◌%◌, ◌<◌, ◌≤◌, true, List, [], ◌∷◌, ◌++◌, length, take, drop, get_or, set, arith, append_assoc, add-one, drop-cons}
+use Rattle.std.proofs.Common.{◌≡◌, ◌∙◌, ap, sym, refl, ℕ, zero, suc, ◌+◌, ◌-◌, ◌%◌, ◌<◌, ◌≤◌, true, List, [], ◌∷◌, ◌++◌, length, take, drop, get_or, set, arith, append_assoc}
 use Rattle.std.specs.Prelude.{sum, sum_by, ◌==◌}
 use Rattle.std.specs.List.{enumerate_from}
 use Rattle.std.proofs.lemmas.Bool.{and_from, and_parts, eq-eqb, eqb-true}
-use Rattle.std.proofs.lemmas.List.{take_more_set}
+use Rattle.std.proofs.lemmas.List.{drop_more, take_more_set}
 use Rattle.std.proofs.lemmas.List.Sums.{sum_by-cons}
 use Rattle.chip_race.specs.Races.{odd_value, given_value, is_among, stack_after, stacks_after, added_value, are_whole}
 use Rattle.chip_race.proofs.Given.{odd-within, stack_after-whole}
-
-next-stack : (stacks : List ℕ) (index : ℕ) → index < length stacks → drop index stacks ≡ get_or stacks index 0 ∷ drop
-    (index + 1) stacks
-next-stack stacks index within = drop-cons stacks index 0 within ∙ ap (λ n. get_or stacks index 0 ∷ drop n stacks)
-    (sym (add-one index))
 
 -- The next player's stack is changed.
 pub stacks-more : (new : ℕ) (players stacks after whole : List ℕ) (index given : ℕ) → index < length stacks
@@ -23,7 +18,7 @@ pub stacks-more : (new : ℕ) (players stacks after whole : List ℕ) (index giv
 stacks-more new players stacks after whole index given within room is so_far =
     rw is
     (so_far
-    ∙ ap (λ behind. take index after ++ stacks_after new players index behind) (next-stack stacks index within)
+    ∙ ap (λ behind. take index after ++ stacks_after new players index behind) (drop_more stacks index 0 within)
     ∙ sym (append_assoc (take index after) (stack_after new (is_among players index) (get_or stacks index 0) ∷ [])
     (stacks_after new players (index + 1) (drop (index + 1) stacks)))
     ∙ ap (λ front. front ++ stacks_after new players (index + 1) (drop (index + 1) stacks))
@@ -35,7 +30,7 @@ pub value-more : (new : ℕ) (players stacks : List ℕ) (whole added index give
     → whole ≡ added + added_value new players index (drop index stacks)
     → whole ≡ added + given + added_value new players (index + 1) (drop (index + 1) stacks)
 value-more new players stacks whole added index given within is so_far =
-    let next = ap (λ behind. added_value new players index behind) (next-stack stacks index within)
+    let next = ap (λ behind. added_value new players index behind) (drop_more stacks index 0 within)
     ∙ sum_by-cons (λ (seat : ℕ × ℕ). given_value new (is_among players seat.0) seat.1) (index, get_or stacks index 0)
     (enumerate_from (index + 1) (drop (index + 1) stacks)) in
     omega (arith, so_far, next, is)

@@ -4,6 +4,8 @@ use Rattle.std.specs.Prelude.{◌==◌, not, filter, slice_index_or, cond}
 use Rattle.std.specs.List.{list_all}
 use Rattle.std.proofs.lemmas.Bool.{and_parts, cases_Bool, agree_below, agree_below_at}
 use Rattle.std.proofs.lemmas.Bool.Decides.{nat_tests}
+use Rattle.std.proofs.lemmas.List.{length-append}
+use Rattle.std.proofs.lemmas.List.Elements.{filter-append}
 use Rattle.std.proofs.lemmas.List.Sums.{sum_by-cons}
 use Rattle.rulebook.specs.Seats.{clockwise_after, seat_after, walk}
 use Rattle.rulebook.specs.Pairs.{are_distinct}
@@ -144,10 +146,8 @@ count_up-append from (suc one) other =
 -- How many of two lists a test keeps.
 kept-append : (kept : ℕ → Bool) (one other : List ℕ)
     → length (filter kept (one ++ other)) ≡ length (filter kept one) + length (filter kept other)
-kept-append kept [] other = omega arith
-kept-append kept (seat ∷ one) other =
-    let later = kept-append kept one other in
-    elim (cases_Bool (kept seat)) [ inl is ↦ rw is (omega arith) | inr empty ↦ rw empty later ]
+kept-append kept one other =
+    ap length (filter-append kept one other) ∙ length-append (filter kept one) (filter kept other)
 
 -- A test that no number passes keeps none.
 kept-none : (kept : ℕ → Bool) (from steps : ℕ) → ((k : ℕ) → kept (from + k) ≡ false)

@@ -1,13 +1,14 @@
 -- The book once a player entered, as its fields are written.
-use Rattle.std.proofs.Common.{◌≡◌, ◌∙◌, refl, sym, ℕ, ◌+◌, Bool, true, false, cond, List, [], ◌∷◌, ◌++◌, length, arith}
-use Rattle.std.specs.Prelude.{Option, None, count_by}
+use Rattle.std.proofs.Common.{◌≡◌, refl, ℕ, ◌+◌, false, List, [], ◌∷◌, ◌++◌, length, arith, ap}
+use Rattle.std.specs.Prelude.{Option, None, count_by, option_map}
 use Rattle.std.proofs.lemmas.Bool.Decides.{nat_tests}
-use Rattle.rulebook.proofs.Tests.{count_by-cons}
+use Rattle.rulebook.proofs.Tests.{none_by_count}
 use Rattle.place_list.specs.declared.bust.Bust.{Bust}
 use Rattle.seat_book.specs.declared.place.Place.{Place}
 use Rattle.seat_book.specs.declared.seated.Seated.{Seated}
 use Rattle.seat_book.specs.Players.{is_numbered, place_of, sit_down}
 use Rattle.seat_book.specs.Seatings.{Seating}
+use Rattle.seat_book.proofs.Passing.{find-none}
 use Rattle.level_plan.specs.Plans.{PlanTerms}
 use Rattle.table_engine.specs.declared.start.HandStart.{HandStart}
 use Rattle.tournament_rules.specs.Books.{BookState, no_hands}
@@ -28,19 +29,9 @@ entered_state book name table seat player stack place entries seating entries_is
 
 none_counted : (number : ℕ) (players : List Seated) → count_by (is_numbered number) players ≡ 0
     → place_of players number ≡ None
-none_counted number [] none = refl
-none_counted number (player ∷ players) none =
-    by_test (is_numbered number player) refl (sym (count_by-cons (is_numbered number) player players) ∙ none)
-    (λ (more : count_by (is_numbered number) players ≡ 0). none_counted number players more)
-  where
-    by_test : (b : Bool) → is_numbered number player ≡ b
-        → cond (is_numbered number player) 1 0 + count_by (is_numbered number) players ≡ 0
-        → (count_by (is_numbered number) players ≡ 0 → place_of players number ≡ None)
-        → place_of (player ∷ players) number ≡ None
-    by_test true is counted rest = let some : 1 + count_by (is_numbered number) players
-        ≡ 0 = rw is at counted in absurd (omega arith)
-    by_test false is counted rest = let more : 0 + count_by (is_numbered number) players
-        ≡ 0 = rw is at counted in rw is (rest (omega arith))
+none_counted number players none =
+    ap (option_map (λ (seated : Seated). seated.place))
+    (find-none (is_numbered number) players (none_by_count (is_numbered number) players none))
 
 -- The next number is that of nobody who sits.
 pub next_stands : (entries : List (List ℕ)) (players : List Seated) (busts : List Bust)

@@ -8,12 +8,13 @@ use Rattle.std.proofs.lemmas.Bool.Decides.{nat_tests}
 use Rattle.std.proofs.lemmas.Option.{same_Some}
 use Rattle.rulebook.specs.Pairs.{are_distinct}
 use Rattle.rulebook.specs.declared.limits.TheConstants.{MOST_ENTRIES}
+use Rattle.rulebook.proofs.Tests.{find-all}
 use Rattle.seat_book.specs.declared.place.Place.{Place}
 use Rattle.seat_book.specs.declared.seated.Seated.{Seated}
 use Rattle.seat_book.specs.Places.{IsPlaceOf, is_place_of}
 use Rattle.seat_book.specs.Players.{sits_in, is_numbered, player_at, player_of, place_of, players_at, lifted}
 use Rattle.seat_book.specs.Seatings.{Seating, IsSeating, is_entry, sits_within}
-use Rattle.seat_book.proofs.Passing.{find-none, none-find, found-all}
+use Rattle.seat_book.proofs.Passing.{find-none, none-find}
 use Rattle.balance_rule.specs.declared.balance.Move.{Move}
 use Rattle.balance_rule.specs.EmptySeats.{is_empty_seat}
 use Rattle.balance_rule.specs.Balance.{next_big_seat, balance_move, after_move}
@@ -54,8 +55,8 @@ pub called-entry : (seating : Seating) (table : ℕ) (name : List ℕ) (found : 
     → IfSome found (λ player. player.player < MOST_ENTRIES)
 called-entry seating table name None lawful is = tt
 called-entry seating table name (Some player) lawful is =
-    ltb-true player.player MOST_ENTRIES (found-all (is_numbered player.player) is_entry seating.players player
-    lawful.entries (named-found seating.players table name player lawful.apart (sym is)))
+    ltb-true player.player MOST_ENTRIES (find-all (is_numbered player.player) is_entry seating.players player
+    (named-found seating.players table name player lawful.apart (sym is)) lawful.entries)
 
 -- Once the player of a name took the first of free places, the others are free.
 pub free-rest : (seating : Seating) (table : ℕ) (name : List ℕ) (place : Place) (places : List Place)
@@ -151,8 +152,8 @@ sits-within seating number place lawful is = by_player (player_of seating.player
     by_player None sits is = absurd cc
     by_player (Some player) sits is =
         let same : player.place ≡ place = same_Some player.place place is in
-        let within = found-all (is_numbered number) (sits_within seating.table_count seating.seat_count)
-        seating.players player lawful.within sits in
+        let within = find-all (is_numbered number) (sits_within seating.table_count seating.seat_count)
+        seating.players player sits lawful.within in
         subst (IsPlaceOf seating.table_count seating.seat_count) same
         (place_within seating.table_count seating.seat_count player.place.table player.place.seat within)
 

@@ -1,5 +1,5 @@
 -- Stacks of a table for a race, and players who have theirs after it, seat by seat.
-use Rattle.std.proofs.Common.{◌≡◌, ◌∙◌, refl, sym, ap, ◌<◌, ℕ, zero, suc, ◌+◌, ◌-◌, Bool, true, false, cond, ◌==◌, ◌&&◌, List, [], ◌∷◌, ◌++◌, take, drop, map, length, set, get_or, add-one, arith}
+use Rattle.std.proofs.Common.{◌≡◌, ◌∙◌, refl, sym, ap, ◌<◌, ℕ, ◌+◌, ◌-◌, Bool, true, false, cond, ◌==◌, ◌&&◌, List, [], ◌∷◌, map, get_or, arith}
 use Rattle.std.specs.Prelude.{nat_le, Some, None}
 use Rattle.std.specs.List.{list_all}
 use Rattle.std.proofs.lemmas.Bool.{and_parts}
@@ -40,24 +40,6 @@ nobody-beyond tables seats (player ∷ players) table seat beyond within =
     elsewhere : (at of : ℕ) → ((nat_le 1 at && nat_le at tables) && (nat_le 1 of && nat_le of seats)) ≡ true
         → (at == table && of == seat) ≡ false
     elsewhere at of there = grind (arith, nat_tests)
-
--- One stack more is written.
-pub written-next : (stacks zeros now : List ℕ) (index stack : ℕ) → index < length stacks → index < length zeros
-    → now ≡ take index stacks ++ drop index zeros → stack ≡ get_or stacks index 0
-    → set now index stack ≡ take (index + 1) stacks ++ drop (index + 1) zeros
-written-next stacks zeros now index stack within room now_is stack_is =
-    (λ i. set (now_is i) index (stack_is i))
-    ∙ (by_lists stacks zeros index within room
-    ∙ ap (λ (n : ℕ). take n stacks ++ drop n zeros) (sym (add-one index)))
-  where
-    by_lists : (stacks zeros : List ℕ) (index : ℕ) → index < length stacks → index < length zeros
-        → set (take index stacks ++ drop index zeros) index (get_or stacks index 0)
-        ≡ take (suc index) stacks ++ drop (suc index) zeros
-    by_lists [] zeros index within room = absurd (omega arith)
-    by_lists (stack ∷ stacks) [] index within room = absurd (omega arith)
-    by_lists (stack ∷ stacks) (nothing ∷ zeros) zero within room = refl
-    by_lists (stack ∷ stacks) (nothing ∷ zeros) (suc index) within room =
-        ap (◌∷◌ stack) (by_lists stacks zeros index (omega (arith, within)) (omega (arith, room)))
 
 -- Where nobody sits nobody's stack changes.
 pub with_stack-nobody : (players : List Seated) (place : Place) (stack : ℕ) → player_at players place ≡ None

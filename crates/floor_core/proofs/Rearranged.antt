@@ -4,7 +4,7 @@ use Rattle.std.specs.Prelude.{count_by, Some, None}
 use Rattle.std.proofs.lemmas.Bool.{and_from}
 use Rattle.rulebook.specs.Checks.{first_that_holds}
 use Rattle.rulebook.specs.Pairs.{are_distinct}
-use Rattle.rulebook.proofs.Tests.{count_by-cons}
+use Rattle.rulebook.proofs.Tests.{count_by-cons, none_by_count}
 use Rattle.seat_book.specs.declared.place.Place.{Place}
 use Rattle.seat_book.specs.declared.seated.Seated.{Seated}
 use Rattle.seat_book.specs.Seatings.{Seating}
@@ -18,7 +18,7 @@ use Rattle.tournament_rules.specs.Checks.{book_refusal, all_balance_checks, brea
 use Rattle.tournament_rules.specs.Moving.{after_all}
 use Rattle.tournament_rules.specs.Effects.{balanced, broken, with_table, forgotten}
 use Rattle.tournament_rules.specs.Valid.{IsValid}
-use Rattle.tournament_rules.proofs.Breaks.{none_by_count, break_passed, may_take}
+use Rattle.tournament_rules.proofs.Breaks.{break_passed, may_take}
 use Rattle.floor_core.specs.Moves.{AreFree}
 
 -- The refusal of a balance is that of its checks.

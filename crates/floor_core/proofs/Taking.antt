@@ -1,19 +1,11 @@
 -- Players of a table who take places one after another.
-use Rattle.std.proofs.Common.{◌≡◌, ◌∙◌, refl, sym, ap, ℕ, ◌+◌, ◌<◌, ◌≤◌, ◌⊎◌, inl, inr, min, Bool, true, false, List, [], ◌∷◌, drop, length, get_or, add-one, arith}
+use Rattle.std.proofs.Common.{◌≡◌, ◌∙◌, refl, sym, ap, ℕ, ◌+◌, ◌<◌, ◌≤◌, ◌⊎◌, inl, inr, min, Bool, true, false, List, [], ◌∷◌, drop, length, get_or, arith}
 use Rattle.std.specs.Prelude.{nat_le}
-use Rattle.std.proofs.Math.Seq.{drop-cons}
 use Rattle.std.proofs.lemmas.Bool.Decides.{nat_tests}
-use Rattle.std.proofs.lemmas.List.{drop_all}
+use Rattle.std.proofs.lemmas.List.{drop_all, drop_more}
 use Rattle.seat_book.specs.declared.place.Place.{Place}
 use Rattle.seat_book.specs.Seatings.{Seating}
 use Rattle.tournament_rules.specs.Moving.{after_taking, after_all}
-
--- What is left from an item on is the item and what is left behind it.
-pub left-from : {A : Type 0} (items : List A) (index : ℕ) (default : A) → index < length items
-    → drop index items ≡ get_or items index default ∷ drop (index + 1) items
-left-from {A = A} items index default within =
-    drop-cons items index default within
-    ∙ ap (λ (n : ℕ). get_or items index default ∷ drop n items) (sym (add-one index))
 
 -- Once one more took a place, those who are left take the rest.
 pub taking-next : (table : ℕ) (names : List (List ℕ)) (places : List Place) (index : ℕ) (name : List ℕ) (place : Place)
@@ -24,7 +16,7 @@ pub taking-next : (table : ℕ) (names : List (List ℕ)) (places : List Place) 
 taking-next table names places index name place seating after all named placed name_is place_is after_is is =
     let first : after_all table (drop index names) (drop index places) seating
     ≡ after_all table (drop (index + 1) names) (drop (index + 1) places) (after_taking table name place seating) = rw
-    (left-from names index name named ∙ ap (λ (n : List ℕ). n ∷ drop (index + 1) names) (sym name_is), place_is) refl in
+    (drop_more names index name named ∙ ap (λ (n : List ℕ). n ∷ drop (index + 1) names) (sym name_is), place_is) refl in
     ap (after_all table (drop (index + 1) names) (drop (index + 1) places)) after_is ∙ (sym first ∙ is)
 
 -- Where names or places are used up, nobody takes one.

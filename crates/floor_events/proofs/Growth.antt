@@ -6,12 +6,11 @@ use Rattle.std.proofs.lemmas.List.Concat.{flat_map-cons}
 use Rattle.floor_events.specs.declared.line_writer.Word.{Word}
 use Rattle.floor_events.specs.Words.{Extends, word_text}
 
-take_length : (old : List ℕ) → take (length old) old ≡ old
-take_length old = take_all (length old) old (omega arith)
-
+-- a list that stayed the same begins with what it was
 pub Extends-same : (old new : List ℕ) → new ≡ old → Extends old new
-Extends-same old new same = rw same (take_length old)
+Extends-same old new same = rw same (take_all (length old) old (omega arith))
 
+-- a list to which more was appended begins with what it was
 pub Extends-append : (old new more : List ℕ) → new ≡ old ++ more → Extends old new
 Extends-append old new more grown = rw grown (take_at old more (length old) refl)
 

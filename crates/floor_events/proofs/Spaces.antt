@@ -58,9 +58,11 @@ digits_lack between (digit ∷ digits) low h =
 own : IsNumeralModel (λ ds. all_ascii_digits ds ≡ true) (digits_value 10)
 own = numerals_by_value (λ ds. all_ascii_digits ds ≡ true) tells_all_ascii_digits
 
+-- the decimal text of a number of a line lacks each byte below the digit 0
 pub decimal_lacks : (between : ℕ) → between < 48 → (n : ℕ) → IsLineNumber n → lacks between (decimal n) ≡ true
 decimal_lacks between low n small = digits_lack between (decimal n) low (digits_decimal own n (omega arith))
 
+-- no space is in the decimal text of a number of a line
 pub decimal_spaceless : (n : ℕ) → IsLineNumber n → lacks 32 (decimal n) ≡ true
 decimal_spaceless = decimal_lacks 32 (omega arith)
 
@@ -71,9 +73,11 @@ name_bytes_lack between (byte ∷ bytes) low h =
     let others = name_bytes_lack between bytes low (and_parts (is_name_byte byte) (list_all is_name_byte bytes) h).1 in
     grind (arith, nat_tests)
 
+-- a player's name lacks each byte below the digit 0
 pub name_lacks : (between : ℕ) → between < 48 → (name : List ℕ) → IsTrue (is_name name) → lacks between name ≡ true
 name_lacks between low name right = name_bytes_lack between name low (grind (arith, nat_tests))
 
+-- no space is in a player's name
 pub name_spaceless : (name : List ℕ) → IsTrue (is_name name) → lacks 32 name ≡ true
 name_spaceless = name_lacks 32 (omega arith)
 
@@ -87,6 +91,7 @@ letter_spaceless (letter ∷ letters) (suc place) h =
 both_spaceless : (a b c : Bool) → a ≡ true → b ≡ true → c ≡ true → (a && (b && c)) ≡ true
 both_spaceless a b c first second others = rw (first, second) others
 
+-- no space is in the text of a row of cards
 pub row_spaceless : (cards : List Card) → lacks 32 (row_text cards) ≡ true
 row_spaceless [] = refl
 row_spaceless (card ∷ cards) = both_spaceless _ _ (lacks 32 (row_text cards))

@@ -27,6 +27,7 @@ pub keeps_same : (text : Option (List ℕ)) → Keeps text text
 keeps_same None = tt
 keeps_same (Some text) = refl
 
+-- A text that is kept from one moment to a second, and from there to a third, is kept from the first to the third.
 pub keeps_on : (first second third : Option (List ℕ)) → Keeps first second → Keeps second third → Keeps first third
 keeps_on None second third here next = tt
 keeps_on (Some text) second third here next = let P : Option (List ℕ)
@@ -115,6 +116,7 @@ pub on_ok : {T E : Type 0} (result : Result T E) {P : Type 0} → P → OnOk res
 on_ok (Ok value) holds = holds
 on_ok (Err fault) holds = tt
 
+-- What follows from what holds at `Ok` holds at `Ok` too.
 pub on_ok_from : {T E : Type 0} (result : Result T E) {P Q : Type 0} → (P → Q) → OnOk result P → OnOk result Q
 on_ok_from (Ok value) step holds = step holds
 on_ok_from (Err fault) step holds = tt

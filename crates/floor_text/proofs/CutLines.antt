@@ -9,16 +9,20 @@ use Rattle.std.proofs.lemmas.List.Folds.{list_any-append}
 use Rattle.std.proofs.lemmas.List.Splits.{slice_split-cons_yes, slice_split-cons_no}
 use Rattle.floor_text.specs.Lines.{is_line_feed, HasNoFeed, cut_line, without_empty_last, lines_of_bytes}
 
+-- two lists without a line feed, one behind the other, have none
 pub HasNoFeed-append : (xs ys : List ℕ) → HasNoFeed xs → HasNoFeed ys → HasNoFeed (xs ++ ys)
 HasNoFeed-append xs ys h k =
     list_any-append is_line_feed xs ys ∙ ap (λ (b : Bool). b || list_any is_line_feed ys) h ∙ k
 
+-- a byte that is no line feed, in front of bytes without one, brings none
 pub HasNoFeed-cons : (b : ℕ) (bs : List ℕ) → b ≢ 10 → HasNoFeed bs → HasNoFeed (b ∷ bs)
 HasNoFeed-cons b bs other none = grind (arith, nat_tests)
 
+-- the first of bytes without a line feed is no line feed
 pub first_other : (b : ℕ) (bs : List ℕ) → HasNoFeed (b ∷ bs) → b ≡ 10 → ⊥
 first_other b bs none feed = grind (arith, nat_tests)
 
+-- behind the first of bytes without a line feed there is none either
 pub rest_other : (b : ℕ) (bs : List ℕ) → HasNoFeed (b ∷ bs) → HasNoFeed bs
 rest_other b bs none = grind (arith, nat_tests)
 
@@ -72,10 +76,12 @@ without_empty_last-more : (part next : List ℕ) (parts : List (List ℕ))
 without_empty_last-more [] next parts = refl
 without_empty_last-more (b ∷ bs) next parts = refl
 
+-- a stream without bytes has no lines
 pub lines_of_bytes-nil : lines_of_bytes [] ≡ []
 unfolding lines_of_bytes
 lines_of_bytes-nil = refl
 
+-- the bytes before the first line feed are the first line, and the lines of what follows it come next
 pub lines_of_bytes-line : (line rest : List ℕ) → HasNoFeed line
     → lines_of_bytes (line ++ 10 ∷ rest) ≡ cut_line line ∷ lines_of_bytes rest
 unfolding lines_of_bytes
@@ -147,6 +153,7 @@ begun_long begun byte rest none other long =
     ∙ lines_of_long (begun ++ byte ∷ []) begun rest
     (HasNoFeed-append begun (byte ∷ []) none (HasNoFeed-cons byte [] other refl)) none (omega arith) long
 
+-- a stream whose length is zero has no lines
 pub lines_of_none : (bytes : List ℕ) → length bytes ≡ 0 → lines_of_bytes bytes ≡ []
 lines_of_none bytes none = ap lines_of_bytes (nil_from_length bytes none) ∙ lines_of_bytes-nil
 

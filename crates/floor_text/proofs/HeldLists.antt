@@ -65,6 +65,7 @@ first_byte_is_position byte bytes (Some at) found =
     let high : position_or_len test bytes < length bytes = omega (arith, first, found.0.high) in
     sym (position_within (position_or_len test bytes) (length bytes) high ∙ ap Some first)
 
+-- Where a search for a line feed finds an index, the first line feed is there, and where it finds none there is none.
 pub first_feed_found : (bytes : List ℕ) (r : Option ℕ) → r ≡ position is_line_feed bytes
     → MatchOption r (HasNoFeed bytes) (λ at. IsFirstFeed bytes at)
 first_feed_found bytes r is =
@@ -144,10 +145,12 @@ moved items held now back buffer start end kept order within is view copied same
       count = sym (ap length front) ∙ length-take-le kept (drop start items) (omega (arith, length-drop start items));
     }
 
+-- The front of the buffer, as far as what is kept reaches, is the bytes that waited, cut after the first 401.
 pub moved_kept : (held buffer : List ℕ) (kept : ℕ) → IsMoved held buffer kept
     → slice_range buffer 0 kept ≡ take 401 held
 moved_kept held buffer kept is = between_from_start buffer kept ∙ is.front
 
+-- A front of the buffer at least as long as what is kept begins with the bytes that waited, cut after the first 401.
 pub moved_front : (held buffer : List ℕ) (kept n : ℕ) → IsMoved held buffer kept
     → take (length (take 401 held)) (slice_range buffer 0 (kept + n)) ≡ take 401 held
 moved_front held buffer kept n is =
@@ -155,12 +158,14 @@ moved_front held buffer kept n is =
     ∙ ap (take kept) (between_from_start buffer (kept + n)) ∙ take-take kept (kept + n) buffer (omega arith)
     ∙ is.front
 
+-- Where the buffer has room, a front of it that goes some bytes past what is kept is that many bytes longer.
 pub moved_count : (held buffer : List ℕ) (kept n : ℕ) → IsMoved held buffer kept → kept + n ≤ length buffer
     → length (slice_range buffer 0 (kept + n)) ≡ length (take 401 held) + n
 moved_count held buffer kept n is room =
     let count : length (take 401 held) ≡ kept = is.count in
     omega (arith, length-between buffer 0 (kept + n) room)
 
+-- Where the bytes that came stand behind what is kept, the front of the buffer is what is kept and then those bytes.
 pub moved_behind : (held buffer bytes : List ℕ) (kept n : ℕ) → IsMoved held buffer kept
     → take n (drop kept buffer) ≡ take n bytes → slice_range buffer 0 (kept + n) ≡ take 401 held ++ take n bytes
 moved_behind held buffer bytes kept n is given =
@@ -168,14 +173,12 @@ moved_behind held buffer bytes kept n is given =
     ∙ ap (λ (xs : List ℕ). xs ++ take n (drop kept buffer)) is.front
     ∙ ap (λ (xs : List ℕ). take 401 held ++ xs) given
 
--- what a call that was lent the whole buffer wrote there
-pub written_back : (now back : List ℕ) (n : ℕ) → length back ≡ n → take n (back ++ drop (length back) now) ≡ back
-written_back now back n size = take_at back (drop (length back) now) n size
-
+-- The bytes that waited, moved to the front and cut after 401, stand there still when a call that was lent the buffer
+-- left that front as it was and gave back a buffer of the given size.
 pub moved_by_call : (items held now lent back : List ℕ) (start end kept size : ℕ) → start ≤ end → end ≤ length items
     → kept ≡ min (end - start) 401 → slice_range items start end ≡ held → now ≡ copy_within items start (start + kept) 0
     → lent ≡ now → take kept back ≡ take kept lent → length back ≡ size
     → IsMoved held (take size (back ++ drop (length back) now)) kept
 moved_by_call items held now lent back start end kept size order within is view copied lends front whole =
     moved items held now back (take size (back ++ drop (length back) now)) start end kept order within is view copied
-    (front ∙ ap (take kept) lends) (written_back now back size whole)
+    (front ∙ ap (take kept) lends) (take_at back (drop (length back) now) size whole)

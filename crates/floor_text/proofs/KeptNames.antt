@@ -37,6 +37,7 @@ kept name is =
       name = subst P (sym (take-in_front 16 name)) is;
     }
 
+-- A copy of a name, with zeros behind it up to sixteen bytes, is a name kept with its length.
 pub kept_in_front : (name copied : List ℕ) → IsTrue (is_name name) → copied ≡ name
     → IsKept (copied ++ drop (length name) (replicate 16 0)) (length name)
 kept_in_front name copied is same =

@@ -9,6 +9,7 @@ use Rattle.std.proofs.lemmas.Str.Parse.{digits_value-take-le}
 use Rattle.floor_text.specs.Numbers.{IsLineNumber, is_spelled, number_of}
 use Rattle.floor_text.proofs.SpelledNumbers.{decimal_of_spelled, spelled_from_decimal, value_of_spelling}
 
+-- bytes that are read as a number are the decimal text of that number, which is small enough for a line
 pub number_found : (bytes : List ℕ) (n : ℕ) → number_of bytes ≡ Some n → IsLineNumber n × (bytes ≡ decimal n)
 unfolding number_of
 number_found bytes n h =
@@ -27,6 +28,7 @@ number_only bytes n small same =
     let fits : leb n 9007199254740991 ≡ true = grind (arith, nat_tests) in
     rw (spelled, value, fits) refl
 
+-- the decimal text of a number small enough for a line is read as that number
 pub number_of-decimal : (n : ℕ) → IsLineNumber n → number_of (decimal n) ≡ Some n
 number_of-decimal n small = number_only (decimal n) n small refl
 

@@ -14,6 +14,7 @@ use Rattle.floor_text.specs.Lines.{is_line_feed, HasNoFeed, cut_line, lines_of_b
 use Rattle.floor_text.specs.Reading.{Reading, bytes_ahead, held_within}
 use Rattle.floor_text.proofs.CutLines.{HasNoFeed-append, HasNoFeed-cons, first_other, rest_other, lines_of_bytes-line, lines_of_bytes-nil, lines_of_long}
 
+-- a front of bytes without a line feed has none
 pub HasNoFeed-take : (n : ℕ) (xs : List ℕ) → HasNoFeed xs → HasNoFeed (take n xs)
 HasNoFeed-take zero xs none = refl
 HasNoFeed-take (suc n) [] none = refl
@@ -66,6 +67,8 @@ feed_from_found held from to (Some at) order inside before found =
 within_is_all : (r : Reading) → r.taken ≤ r.limit → held_within r ≡ length r.held
 within_is_all r within = grind (arith, nat_tests)
 
+-- where no more bytes were taken than the limit, no line feed is held if none is among those held
+-- within the limit
 pub whole_no_feed : (r : Reading) → r.taken ≤ r.limit → HasNoFeed (take (held_within r) r.held) → HasNoFeed r.held
 whole_no_feed r within none =
     ap (list_any is_line_feed)
@@ -97,6 +100,8 @@ kept_at old new bytes left same taken none held =
           ∙ ap (λ (xs : List ℕ). lines_of_bytes (take 401 old.held ++ xs)) rest);
     }
 
+-- where no line feed was held, a call that took nothing and kept the first 401 held bytes is right to hand out
+-- no line
 pub kept_reads : (old new : Reading) (before left : Option (List ℕ)) → left ≡ before → new.taken ≡ old.taken
     → HasNoFeed old.held → new.held ≡ take 401 old.held → IfSome before (λ bytes. Reads old new bytes left [])
 kept_reads old new None left same taken none held = tt
@@ -122,6 +127,8 @@ filled_at old new bytes left ask n fills taken none =
           ∙ sym (ap (λ (xs : List ℕ). lines_of_bytes (new.held ++ xs)) rest ∙ ap lines_of_bytes all);
     }
 
+-- where no line feed was held, a call that took a block behind the first 401 held bytes is right to hand out
+-- no line
 pub filled_reads : (old new : Reading) (before left : Option (List ℕ)) (ask n : ℕ)
     → IfSome before (λ bytes. Fills (take 401 old.held) bytes left new.held ask n) → new.taken ≡ old.taken + n
     → HasNoFeed old.held → IfSome before (λ bytes. Reads old new bytes left [])
@@ -209,6 +216,8 @@ handed_at b c bytes at handed is line held taken =
           held ∙ ap (λ (xs : List ℕ). cut_line (take at b.held) ∷ lines_of_bytes (drop (at + 1) b.held ++ xs)) rest);
     }
 
+-- a call that took nothing and dropped what it held up to the first line feed is right to hand out the bytes before
+-- that line feed as a line
 pub handed_reads : (b c : Reading) (o : Option (List ℕ)) (at : ℕ) (handed : List (Option (List ℕ)))
     → IsFirstFeed b.held at → handed ≡ cut_line (take at b.held) ∷ [] → c.held ≡ drop (at + 1) b.held
     → c.taken ≡ b.taken → IfSome o (λ bytes. Reads b c bytes o handed)
@@ -231,6 +240,8 @@ last_at b c handed line held taken =
           ∙ ap (λ (ls : List (Option (List ℕ))). handed ++ ls) lines_of_bytes-nil ∙ append-nil handed);
     }
 
+-- a reader that came to the end of its source with no line handed out is right to hand out the lines of what it holds
+-- and then hold nothing
 pub last_reads : (a b c : Reading) (o0 o2 : Option (List ℕ)) (handed : List (Option (List ℕ)))
     → IfSome o0 (λ bytes. Reads a b bytes o2 []) → IfSome o0 (λ _. o2 ≡ Some []) → handed ≡ lines_of_bytes b.held
     → c.held ≡ [] → c.taken ≡ b.taken → IfSome o0 (λ bytes. Reads a c bytes o2 handed)

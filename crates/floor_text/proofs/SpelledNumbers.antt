@@ -31,6 +31,7 @@ digit_at [] i all within = absurd (omega arith)
 digit_at (d ∷ ds) zero all within = (tells_first d ds all).0
 digit_at (d ∷ ds) (suc i) all within = digit_at ds i (tells_first d ds all).1 (omega arith)
 
+-- bytes that are spelled as a number are all digits
 pub digits_from_spelled : (ds : List ℕ) → is_spelled ds ≡ true → list_all is_ascii_digit ds ≡ true
 digits_from_spelled [] h = refl
 digits_from_spelled (only ∷ []) h = grind (arith, nat_tests)
@@ -57,6 +58,7 @@ spelled_decimal (suc n) small =
     spelled_from_digits (decimal (suc n)) (digits_decimal own (suc n) small) (decimal_nonempty (suc n) small)
     (inl (first_decimal (suc n) (omega arith) small))
 
+-- bytes that are spelled as a number below 2 ^ 64 are the decimal text of that number
 pub decimal_of_spelled : (ds : List ℕ) → is_spelled ds ≡ true → digits_value 10 ds < 2 ^ 64
     → ds ≡ decimal (digits_value 10 ds)
 decimal_of_spelled ds spelled small =
@@ -66,6 +68,7 @@ decimal_of_spelled ds spelled small =
 value_of_decimal : (n : ℕ) → n < 2 ^ 64 → digits_value 10 (decimal n) ≡ n
 value_of_decimal n small = digits_value-decimal own n small
 
+-- the digits of the decimal text of a number below 2 ^ 64 have that number as their value
 pub value_of_spelling : (ds : List ℕ) (n : ℕ) → n < 2 ^ 64 → ds ≡ decimal n → digits_value 10 ds ≡ n
 value_of_spelling ds n small same = ap (digits_value 10) same ∙ value_of_decimal n small
 
@@ -85,5 +88,6 @@ pub front_within : (ds : List ℕ) (i n : ℕ) → n < 2 ^ 64 → ds ≡ decimal
 front_within ds i n small same =
     omega (arith, digits_value-take-le 10 ds i (omega arith), value_of_spelling ds n small same)
 
+-- the decimal text of a number below 2 ^ 64 is spelled as a number
 pub spelled_from_decimal : (ds : List ℕ) (n : ℕ) → n < 2 ^ 64 → ds ≡ decimal n → is_spelled ds ≡ true
 spelled_from_decimal ds n small same = ap is_spelled same ∙ spelled_decimal n small

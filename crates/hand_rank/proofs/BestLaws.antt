@@ -18,6 +18,7 @@ best_high-append (cards ∷ some) others =
     ap (greater (five_card_value cards)) (best_high-append some others)
     ∙ sym (max_assoc (five_card_value cards) (best_high some) (best_high others))
 
+-- the greatest value of no choices at all is the empty list
 pub best_high-none : best_high [] ≡ []
 unfolding best_high
 best_high-none = refl

@@ -107,6 +107,7 @@ total-cards (card ∷ cards) =
     let both = total-add (λ r. cond (eqb card.rank r) 1 0) (count_of_rank cards) 15 in
     omega (arith, split, both, one, later)
 
+-- a card put before others counts once more for its own suit and rank, and not for any other
 pub count_of_suit-cons : (suit r : ℕ) (card : Card) (cards : List Card)
     → count_of_suit (card ∷ cards) suit r
     ≡ cond (eqb card.suit suit && eqb card.rank r) 1 0 + count_of_suit cards suit r
@@ -172,9 +173,11 @@ suit-once (card ∷ cards) suit r none =
           omega arith
     ] refl
 
+-- among cards that all differ, each suit has each rank once at most
 pub distinct-once : (cards : List Card) → AreDistinct cards → AreOnce cards
 distinct-once cards apart suit r = suit-once cards suit r (repeats_none-from_AllPairs cards apart)
 
+-- where each suit has each rank once at most, no rank occurs more than four times
 pub once-few : (cards : List Card) (r : ℕ) → AreOnce cards → count_of_rank cards r ≤ 4
 once-few cards r once =
     let all = by-suits cards r in
@@ -220,6 +223,7 @@ one_suit-all (card ∷ cards) one =
     let itself : eqb card.suit card.suit ≡ true = eq-eqb card.suit card.suit refl in
     (card.suit, card.one_of_four, rw itself one)
 
+-- cards that all have a given suit are of one suit
 pub all-one_suit : (suit : ℕ) (cards : List Card) → list_all (λ (card : Card). eqb card.suit suit) cards ≡ true
     → are_of_one_suit cards ≡ true
 all-one_suit suit [] all = refl

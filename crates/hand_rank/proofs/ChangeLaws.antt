@@ -23,6 +23,7 @@ greater-combining = record {
   start = λ value. max_upper [] value tt;
 }
 
+-- the best value of some hands comes from combining the values of all of them, the greater of two each time
 pub best_high-combined : (hands : List (List Card)) → best_high hands ≡ combined greater [] five_card_value hands
 unfolding best_high
 best_high-combined [] = refl
@@ -128,6 +129,7 @@ five_card_value-renamed suit one cards others renamed =
 
 -- the best hand of hold'em
 
+-- the best hand of hold'em stays as good when two hole cards next to each other change places
 pub holdem-exchange_hole : (board : List Card) → AllowsExchange (λ hole. best_high (holdem_choices hole board))
 holdem-exchange_hole board front a b back =
     best_high-combined (holdem_choices (front ++ a ∷ b ∷ back) board)
@@ -137,6 +139,7 @@ holdem-exchange_hole board front a b back =
     (sym (append_assoc front (b ∷ a ∷ back) board))
     ∙ sym (best_high-combined (holdem_choices (front ++ b ∷ a ∷ back) board))
 
+-- the best hand of hold'em stays as good when two cards of the board next to each other change places
 pub holdem-exchange_board : (hole : List Card) → AllowsExchange (λ board. best_high (holdem_choices hole board))
 holdem-exchange_board hole front a b back =
     best_high-combined (holdem_choices hole (front ++ a ∷ b ∷ back))
@@ -145,6 +148,7 @@ holdem-exchange_board hole front a b back =
     ∙ ap (λ cards. combined greater [] five_card_value (choices 5 cards)) (append_assoc hole front (b ∷ a ∷ back))
     ∙ sym (best_high-combined (holdem_choices hole (front ++ b ∷ a ∷ back)))
 
+-- the best hand of hold'em stays as good when the suits of hole and board are renamed one to one
 pub holdem-renamed : (suit : ℕ → ℕ) → IsOneToOne suit → (hole others board boards : List Card)
     → AreRenamed suit hole others → AreRenamed suit board boards
     → best_high (holdem_choices hole board) ≡ best_high (holdem_choices others boards)
@@ -157,18 +161,21 @@ holdem-renamed suit one hole others board boards of_hole of_board =
 
 -- the best hand of Omaha
 
+-- the best hand of Omaha stays as good when two hole cards next to each other change places
 pub omaha-exchange_of_hole : (board : List Card) → AllowsExchange (λ hole. best_high (omaha_choices hole board))
 omaha-exchange_of_hole board front a b back =
     best_high-combined (omaha_choices (front ++ a ∷ b ∷ back) board)
     ∙ omaha-exchange_hole greater [] greater-combining five_card_value five_card_value-exchange board front a b back
     ∙ sym (best_high-combined (omaha_choices (front ++ b ∷ a ∷ back) board))
 
+-- the best hand of Omaha stays as good when two cards of the board next to each other change places
 pub omaha-exchange_of_board : (hole : List Card) → AllowsExchange (λ board. best_high (omaha_choices hole board))
 omaha-exchange_of_board hole front a b back =
     best_high-combined (omaha_choices hole (front ++ a ∷ b ∷ back))
     ∙ omaha-exchange_board greater [] greater-combining five_card_value five_card_value-exchange hole front a b back
     ∙ sym (best_high-combined (omaha_choices hole (front ++ b ∷ a ∷ back)))
 
+-- the best hand of Omaha stays as good when the suits of hole and board are renamed one to one
 pub omaha-renamed_high : (suit : ℕ → ℕ) → IsOneToOne suit → (hole others board boards : List Card)
     → AreRenamed suit hole others → AreRenamed suit board boards
     → best_high (omaha_choices hole board) ≡ best_high (omaha_choices others boards)

@@ -1,49 +1,37 @@
 -- How often ranks occur among some cards.
-use Rattle.std.proofs.Common.{◌≡◌, ℕ, zero, suc, ltb, ◌+◌, ◌-◌, ◌<◌, ◌≤◌, Bool, true, false, cond, eqb, List, [], ◌∷◌, ◌++◌, length, take, drop, get_or, refl, sym, ap, ap₂, ◌∙◌, le_of_eq, arith, length-append, append_assoc, append-nil}
+use Rattle.std.proofs.Common.{◌≡◌, ℕ, zero, suc, ltb, ◌+◌, ◌-◌, ◌<◌, ◌≤◌, Bool, true, false, cond, eqb, List, [], ◌∷◌, ◌++◌, length, take, drop, get_or, refl, sym, ap, ap₂, ◌∙◌, arith, length-append, append_assoc, append-nil}
 use Rattle.std.specs.Prelude.{Option, map, filter, count_by, sum_by}
 use Rattle.std.specs.List.{list_all}
 use Rattle.std.proofs.lemmas.Bool.{and_parts, ltb-true}
 use Rattle.std.proofs.lemmas.Bool.Decides.{nat_tests}
 use Rattle.std.proofs.lemmas.List.{drop_all, take_all, map-append}
-use Rattle.std.proofs.lemmas.List.Sums.{sum_by-cons, sum_by-le-sum_by, length-filter}
+use Rattle.std.proofs.lemmas.List.Sums.{sum_by-cons, length-filter}
 use Rattle.card_set.specs.declared.card.Card.{Card}
 use Rattle.hand_rank.specs.declared.category.Category.{Category}
 use Rattle.card_choices.proofs.Filters.{left_of, left_of-taken, left_of-passed}
+use Rattle.rulebook.proofs.Tests.{sum_by-plus}
 use Rattle.hand_rank.specs.Values.{ranks_down, count_of_rank, ranks_that_occur, distinct_ranks, category_of, run_top, are_of_one_suit, value_by, five_card_value}
-
-sum_by-add : (f g : ℕ → ℕ) (xs : List ℕ) → sum_by (λ x. f x + g x) xs ≡ sum_by f xs + sum_by g xs
-sum_by-add f g [] = refl
-sum_by-add f g (x ∷ xs) =
-    let later = sum_by-add f g xs in
-    rw (sum_by-cons (λ x. f x + g x) x xs, sum_by-cons f x xs, sum_by-cons g x xs) (omega arith)
-
-sum_by-zero : (xs : List ℕ) → sum_by (λ x. 0) xs ≡ 0
-sum_by-zero [] = refl
-sum_by-zero (x ∷ xs) = rw (sum_by-cons (λ y. 0) x xs) (let later = sum_by-zero xs in omega arith)
 
 -- each rank from 2 to 14 is there, once
 one_rank : (rank : ℕ) → 2 ≤ rank → rank ≤ 14 → sum_by (λ r. cond (eqb rank r) 1 0) ranks_down ≡ 1
 one_rank rank from to = grind (arith, nat_tests)
 
+-- one more card adds one to how often its own rank occurs, and nothing to the other ranks
 pub count_of_rank-cons : (card : Card) (cards : List Card) (r : ℕ)
     → count_of_rank (card ∷ cards) r ≡ cond (eqb card.rank r) 1 0 + count_of_rank cards r
 count_of_rank-cons card cards r = sum_by-cons (λ (c : Card). cond (eqb c.rank r) 1 0) card cards
 
 -- all ranks together occur as often as there are cards
 pub counts-sum : (cards : List Card) → sum_by (count_of_rank cards) ranks_down ≡ length cards
-counts-sum [] = sum_by-zero ranks_down
+counts-sum [] = refl
 counts-sum (card ∷ cards) =
     let from = card.from_two in
     let to = card.up_to_ace in
     let later = counts-sum cards in
     let one = one_rank card.rank from to in
-    let with_one : ℕ → ℕ = λ r. cond (eqb card.rank r) 1 0 + count_of_rank cards r in
-    let up = sum_by-le-sum_by (count_of_rank (card ∷ cards)) with_one ranks_down
-    (λ r. le_of_eq (count_of_rank-cons card cards r)) in
-    let down = sum_by-le-sum_by with_one (count_of_rank (card ∷ cards)) ranks_down
-    (λ r. le_of_eq (sym (count_of_rank-cons card cards r))) in
-    let both = sum_by-add (λ r. cond (eqb card.rank r) 1 0) (count_of_rank cards) ranks_down in
-    omega (arith, up, down, both, one, later)
+    let both = sum_by-plus (λ r. cond (eqb card.rank r) 1 0) (count_of_rank cards) (count_of_rank (card ∷ cards))
+    ranks_down (λ r. sym (count_of_rank-cons card cards r)) in
+    omega (arith, both, one, later)
 
 at_most_once : (n : ℕ) → cond (eqb n 4) 1 0 + cond (eqb n 3) 1 0 + cond (eqb n 2) 1 0 + cond (eqb n 1) 1 0 ≤ n
 at_most_once n = grind (arith, nat_tests)
@@ -80,6 +68,7 @@ length-distinct cards =
     let sum = counts-sum cards in
     omega (arith, four, three, two, one, all, sum)
 
+-- before any rank is looked at, all ranks that occur so often are left
 pub ranks_that_occur-left : (cards : List Card) (times : ℕ)
     → left_of (λ rank. eqb (count_of_rank cards rank) times) ranks_down 0 ≡ ranks_that_occur cards times
 unfolding ranks_that_occur
@@ -102,11 +91,13 @@ written-taken test items ranks all i within there is =
     append_assoc ranks (get_or items i 0 ∷ []) (left_of test items (i + 1))
     ∙ ap (λ xs. ranks ++ xs) (sym (left_of-taken test items i within there)) ∙ is
 
+-- a rank that fails the test is passed over, and those written and those left are still all
 pub written-passed : (test : ℕ → Bool) (items ranks all : List ℕ) (i : ℕ) → i < length items
     → test (get_or items i 0) ≡ false → ranks ++ left_of test items i ≡ all → ranks ++ left_of test items (i + 1) ≡ all
 written-passed test items ranks all i within not_there is =
     ap (λ xs. ranks ++ xs) (sym (left_of-passed test items i within not_there)) ∙ is
 
+-- where a rank is still to be written, those written so far are fewer than all
 pub written-room : (test : ℕ → Bool) (items ranks all : List ℕ) (i : ℕ) → i < length items
     → test (get_or items i 0) ≡ true → ranks ++ left_of test items i ≡ all → length ranks < length all
 written-room test items ranks all i within there is =
@@ -114,6 +105,7 @@ written-room test items ranks all i within there is =
     let some = ap length (left_of-taken test items i within there) in
     omega (arith, sum, some)
 
+-- when all ranks have been looked at, those written are all
 pub written-all : (test : ℕ → Bool) (items ranks all : List ℕ) (i : ℕ) → length items ≤ i
     → ranks ++ left_of test items i ≡ all → ranks ≡ all
 written-all test items ranks all i end is =
@@ -158,6 +150,7 @@ distinct_ranks-of cards none four three two one is_none is_four is_three is_two 
     (is_three ∙ ap (λ xs. xs ++ ranks_that_occur cards 3)
     (is_four ∙ ap (λ xs. xs ++ ranks_that_occur cards 4) is_none)))
 
+-- the list of the distinct ranks is no longer than the list of the cards
 pub length-distinct_ranks : (cards : List Card) → length (distinct_ranks cards) ≤ length cards
 unfolding distinct_ranks
 length-distinct_ranks cards =

@@ -22,6 +22,7 @@ use Rattle.hand_rank.proofs.ShownValues.{often_of, AreShown, shown-five, occurs-
 abbrev pub exactly : List Card → ℕ → List ℕ
 exactly cards k = falling (λ r. eqb (count_of_rank cards r) k) 15
 
+-- the distinct ranks are those that occur just four times, then those three times, then those twice, then those once
 pub distinct-exactly : (cards : List Card)
     → distinct_ranks cards ≡ exactly cards 4 ++ (exactly cards 3 ++ (exactly cards 2 ++ (exactly cards 1 ++ [])))
 unfolding sections
@@ -82,6 +83,7 @@ pub record Lengths (cards : List Card) (often : List ℕ) : Type 0 where
   pub two : length (exactly cards 2) ≡ occurs often 2
   pub one : length (exactly cards 1) ≡ occurs often 1
 
+-- how often the distinct ranks occur tells how many of them occur four times, three times, twice and once
 pub lengths : (cards : List Card) (often : List ℕ) → often_of cards ≡ often → Lengths cards often
 lengths cards often is = record {
   four = let all = often-parts cards 4 in let same = ap (λ o. occurs o 4) is in omega arith;
@@ -103,6 +105,7 @@ falling-one (suc n) top within =
       | false ↦ λ apart. falling-one n top (grind (arith, nat_tests))
     ] refl
 
+-- the list of the ranks of a set with a single rank has just that rank
 pub ranks-one : (bits top : ℕ) → top < 16 → ((r : ℕ) → has_rank bits r ≡ eqb r top) → ranks_of bits ≡ top ∷ []
 ranks-one bits top within is = falling-same (has_rank bits) (λ r. eqb r top) 16 (λ r below. is r)
     ∙ falling-one 16 top within

@@ -39,6 +39,7 @@ each : {A : Type 0} (n : ℕ) (f : A → List ℕ) (o : Option A) (others : List
 each n f None others b one rest = rest
 each n f (Some x) others b one rest = one x refl
 
+-- The list stands for five distinct ranks, each of them once.
 abbrev pub ones : List ℕ
 ones = 1 ∷ 1 ∷ 1 ∷ 1 ∷ 1 ∷ []
 

@@ -1,8 +1,9 @@
 -- Runs that have two ranks in them.
 use Rattle.std.proofs.Common.{◌≡◌, ℕ, ◌+◌, ◌-◌, ◌<◌, ◌≤◌, ◌⊎◌, inl, inr, Bool, true, false, ◌&&◌, ◌||◌, not, eqb, leb, cond, List, [], ◌∷◌, length, Some, None, refl, sym, ap, ap₂, ◌∙◌, subst, eqb-true, eq-eqb, leb-true, le-leb, lit≤, arith}
 use Rattle.std.specs.Prelude.{Option}
-use Rattle.std.proofs.lemmas.Bool.{and_left}
+use Rattle.std.proofs.lemmas.Bool.{and_from, and_left, not-false, not_from_true, or_right}
 use Rattle.std.proofs.lemmas.Bool.Decides.{nat_tests}
+use Rattle.rulebook.proofs.Pairs.{first_alone, others_alone}
 use Rattle.card_set.specs.declared.card.Card.{Card}
 use Rattle.hand_rank.specs.Held.{IsHighestRunWith}
 use Rattle.hand_rank.specs.Picks.{highest_below}
@@ -21,12 +22,8 @@ use Rattle.hand_rank.proofs.SoManyLaws.{both-are}
 
 held_at : (p : ℕ → Bool) (step r : ℕ) → step ≡ r → 2 ≤ r → holds_step p step ≡ true → p r ≡ true
 held_at p step r is high holds =
-    last (p r) (eqb r 1 && p 14) (and_left (eqb r 1) (p 14) (grind (arith, nat_tests)))
-    (subst (λ s. holds_step p s ≡ true) is holds)
-  where
-    last : (a b : Bool) → b ≡ false → (a || b) ≡ true → a ≡ true
-    last true b not_b is = refl
-    last false b not_b is = absurd cc
+    first_alone (p r) (eqb r 1 && p 14) (subst (λ s. holds_step p s ≡ true) is holds)
+    (and_left (eqb r 1) (p 14) (grind (arith, nat_tests)))
 
 -- the ranks of a run are those that are in it
 pub run-in : (p : ℕ → Bool) (top r : ℕ) → p 1 ≡ false → is_run p top ≡ true → is_in_run top r ≡ true → p r ≡ true
@@ -55,12 +52,8 @@ run-in p top r not_one runs is =
           let five : top ≡ 5 = grind (arith, nat_tests) in
           let ace : r ≡ 14 = grind (arith, nat_tests) in
           let low : holds_step p 1 ≡ true = subst (λ t. holds_step p (t - 4) ≡ true) five parts.4 in
-          subst (λ s. p s ≡ true) (sym ace) (other (p 1) (p 14) not_one low)
+          subst (λ s. p s ≡ true) (sym ace) (others_alone (p 1) (p 14) low not_one)
     ]) refl is
-  where
-    other : (a b : Bool) → a ≡ false → (a || (true && b)) ≡ true → b ≡ true
-    other false b is_not is = is
-    other true b is_not is = absurd cc
 
 step_held : (p : ℕ → Bool) (step : ℕ) → p step ≡ true → holds_step p step ≡ true
 step_held p step is = rw is refl
@@ -80,14 +73,10 @@ in-run p top low all =
       | true ↦ λ five.
           let is : top ≡ 5 = eqb-true top 5 five in
           let ace : p 14 ≡ true = all 14 (subst (λ t. is_in_run t 14 ≡ true) (sym is) refl) in
-          subst (λ t. holds_step p (t - 4) ≡ true) (sym is) (lowest (p 1) (p 14) ace)
+          subst (λ t. holds_step p (t - 4) ≡ true) (sym is) (or_right (p 1) (p 14) ace)
       | false ↦ λ more. step_held p (top - 4)
           (all (top - 4) (in_run top (top - 4) (grind (arith, nat_tests)) (omega arith) (omega arith)))
     ] refl)
-  where
-    lowest : (a b : Bool) → b ≡ true → (a || (true && b)) ≡ true
-    lowest true b is = refl
-    lowest false b is = is
 
 -- a rank that all ranks of a run are near is in it
 near_in : ℕ → ℕ → Bool
@@ -103,12 +92,8 @@ unfolding near_in
 run-near top rank low high below runs =
     let at = holds_below (near_in top) 15 rank
     (holds_below (λ top. all_below (near_in top) 15) 15 top all_near_in high) below in
-    last (leb 5 top) (is_run (is_near rank) top) (is_in_run top rank) (le-leb 5 top low) runs at
-  where
-    last : (a b c : Bool) → a ≡ true → b ≡ true → (not (a && b) || c) ≡ true → c ≡ true
-    last true true c p q is = is
-    last true false c p q is = absurd cc
-    last false b c p q is = absurd cc
+    others_alone (not (leb 5 top && is_run (is_near rank) top)) (is_in_run top rank) at
+    (not_from_true _ (and_from _ _ (le-leb 5 top low) runs))
 
 -- ranks of a run are near each other
 in_near : ℕ → ℕ → ℕ → Bool
@@ -125,13 +110,8 @@ near-run top rank other low high one two is also =
     let at = holds_below (in_near top rank) 15 other
     (holds_below (λ rank. all_below (in_near top rank) 15) 15 rank
     (holds_below (λ top. all_below (λ rank. all_below (in_near top rank) 15) 15) 15 top all_in_near high) one) two in
-    last (leb 5 top) (is_in_run top rank) (is_in_run top other) (is_near rank other) (le-leb 5 top low) is also at
-  where
-    last : (a b c d : Bool) → a ≡ true → b ≡ true → c ≡ true → (not (a && (b && c)) || d) ≡ true → d ≡ true
-    last true true true d p q r is = is
-    last true true false d p q r is = absurd cc
-    last true false c d p q r is = absurd cc
-    last false b c d p q r is = absurd cc
+    others_alone (not (leb 5 top && (is_in_run top rank && is_in_run top other))) (is_near rank other) at
+    (not_from_true _ (and_from _ _ (le-leb 5 top low) (and_from _ _ is also)))
 
 -- a rank of a run is no more than the ace
 pub in_run-below : (top r : ℕ) → top < 15 → is_in_run top r ≡ true → r < 15
@@ -198,7 +178,7 @@ none-two (x ∷ y ∷ []) bits fewer high two has apart without none =
     let up_x = x.up_to_ace in
     let up_y = y.up_to_ace in
     let gone : (r : ℕ) → r < 16 → 1 ≤ count_of_rank (x ∷ y ∷ []) r → eqb r high ≡ true = λ r below some.
-    either (eqb r high) (sym (without r below
+    not-false (eqb r high) (sym (without r below
     ∙ ap (λ b. b && not (eqb r high)) (has.at r below ∙ le-leb 1 (count_of_rank (x ∷ y ∷ []) r) some))
     ∙ highest-none (has_rank fewer) 16 r none below) in
     let at_x = first x.rank in
@@ -214,10 +194,6 @@ none-two (x ∷ y ∷ []) bits fewer high two has apart without none =
     let at = at_x ∙ ap (λ n. cond (eqb x.rank x.rank) 1 0 + n) (second x.rank) in
     let all : count_of_rank (x ∷ y ∷ []) x.rank ≡ 1 + (1 + 0) = at ∙ rw (same_x, alike) refl in
     omega arith
-  where
-    either : (b : Bool) → (true && not b) ≡ false → b ≡ true
-    either true is = refl
-    either false is = absurd cc
 none-two (x ∷ y ∷ z ∷ others) bits fewer high two has apart without none = omega arith
 
 -- the ranks that are near both

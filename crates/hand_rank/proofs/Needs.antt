@@ -14,11 +14,13 @@ unfoldable pub times : ℕ → ℕ → List ℕ → List ℕ
 times zero r more = more
 times (suc n) r more = r ∷ times n r more
 
+-- a rank put so many times before other ranks makes the list longer by that number
 pub length-times : (n r : ℕ) (more : List ℕ) → length (times n r more) ≡ n + length more
 unfolding times
 length-times zero r more = omega arith
 length-times (suc n) r more = let later = length-times n r more in omega arith
 
+-- a rank put so many times before other ranks occurs that many times more, and no other rank does
 pub occurs-times : (n r : ℕ) (more : List ℕ) (s : ℕ) → occurs (times n r more) s ≡ cond (eqb r s) n 0 + occurs more s
 unfolding times
 occurs-times zero r more s = grind arith

@@ -75,6 +75,7 @@ tally-joined a1 a2 a3 a4 b1 b2 b3 b4 c1 c2 c3 c4 one other both is also sum of1 
         ((leb 3 m && leb 1 n) || ((leb 2 m && leb 2 n) || (leb 1 m && leb 3 n)))) ≡ leb 4 (m + n)
     four m n = grind (arith, nat_tests)
 
+-- a rank occurs in some cards and more cards together as often as in the first and in the others added up
 pub count-joined : (cards more : List Card) (r : ℕ)
     → count_of_rank (cards ++ more) r ≡ count_of_rank cards r + count_of_rank more r
 count-joined cards more r = sum_by-append (λ (c : Card). cond (eqb c.rank r) 1 0) cards more
@@ -125,6 +126,7 @@ greatest-above [] some = absurd (omega arith)
 greatest-above (hand ∷ hands) some = upto_through (0 ∷ []) (five_card_value hand) (best_high (hand ∷ hands))
     (value-above hand) (max-above_left (five_card_value hand) (best_high hands))
 
+-- the best hand of four hole cards and a board of five is worth no less than the lowest category alone
 pub best-above : (hole board : List Card) → length hole ≡ 4 → length board ≡ 5
     → greater (0 ∷ []) (best_high (omaha_choices hole board)) ≡ best_high (omaha_choices hole board)
 best-above hole board four five =

@@ -11,6 +11,7 @@ pub record IsHighest (test : ℕ → Bool) (n rank : ℕ) : Type 0 where
   pub below : rank < n
   pub above : (r : ℕ) → r < n → test r ≡ true → r ≤ rank
 
+-- the number that is found below a bound is the highest there that passes the test
 pub highest-is : (test : ℕ → Bool) (n rank : ℕ) → highest_below test n ≡ Some rank → IsHighest test n rank
 unfolding highest_below
 highest-is test zero rank is = absurd cc
@@ -39,6 +40,7 @@ highest-is test (suc n) rank is =
           }
     ]) refl is
 
+-- where no number is found below a bound, none there passes the test
 pub highest-none : (test : ℕ → Bool) (n r : ℕ) → highest_below test n ≡ None → r < n → test r ≡ false
 unfolding highest_below
 highest-none test zero r is within = absurd (omega arith)
@@ -81,13 +83,16 @@ pub without-le : (rank : ℕ) (a b : ℕ → ℕ) → ((r : ℕ) → a r ≤ b r
 without-le rank a b less r =
     elim (eqb r rank) as (λ t. cond t 0 (a r) ≤ cond t 0 (b r)) [ true ↦ zero-le | false ↦ less r ]
 
+-- when one rank is left out, every other rank occurs as often as before
 pub without-other : (rank r : ℕ) (count : ℕ → ℕ) → (r ≡ rank → ⊥) → without rank count r ≡ count r
 without-other rank r count other = let is : eqb r rank ≡ false = grind (arith, nat_tests) in rw is refl
 
+-- when one rank is left out, no rank occurs more often than before
 pub without-less : (rank r : ℕ) (count : ℕ → ℕ) → without rank count r ≤ count r
 without-less rank r count =
     elim (eqb r rank) as (λ t. cond t 0 (count r) ≤ count r) [ true ↦ zero-le | false ↦ le_refl (count r) ]
 
+-- a rank that still occurs when one is left out is not that one
 pub without-some : (rank r : ℕ) (count : ℕ → ℕ) → 1 ≤ without rank count r → r ≡ rank → ⊥
 without-some rank r count some same = let is : eqb r rank ≡ true = grind (arith, nat_tests) in
     let none : without rank count r ≡ 0 = rw is refl in omega arith
@@ -99,6 +104,7 @@ without-both a b count r =
       | false ↦ le_refl (without b count r)
     ]
 
+-- ranks that occur often enough still do where no rank occurs less often
 pub has-more : (times ranks : List ℕ) (a b : ℕ → ℕ) → ((r : ℕ) → a r ≤ b r) → Has times ranks a → Has times ranks b
 has-more [] [] a b less has = tt
 has-more [] (rank ∷ ranks) a b less has = absurd has
@@ -118,6 +124,7 @@ pub record Begins (often : ℕ) (more : List ℕ) (count : ℕ → ℕ) (picks :
   pub others : picked more (without rank count) ≡ Some ranks
   pub whole : picks ≡ rank ∷ ranks
 
+-- the first rank picked is the highest that occurs often enough, and the others are picked without it
 pub picked-begins : (often : ℕ) (more : List ℕ) (count : ℕ → ℕ) (picks : List ℕ)
     → picked (often ∷ more) count ≡ Some picks → Begins often more count picks
 unfolding picked
@@ -141,6 +148,7 @@ picked-begins often more count picks is =
           ]) refl all
     ]) refl is
 
+-- the highest rank that occurs often enough, then those picked without it, are the ranks that are picked
 pub picked-from : (often : ℕ) (more : List ℕ) (count : ℕ → ℕ) (rank : ℕ) (ranks : List ℕ)
     → IsHighest (λ r. leb often (count r)) 15 rank → picked more (without rank count) ≡ Some ranks
     → picked (often ∷ more) count ≡ Some (rank ∷ ranks)
@@ -149,6 +157,7 @@ picked-from often more count rank ranks first others =
     ap (λ o. then o (λ rank. picked more (without rank count))) (highest-from (λ r. leb often (count r)) 15 rank first)
     ∙ ap (option_map (λ ranks. rank ∷ ranks)) others
 
+-- each rank that is picked occurs often enough, even with those picked before it left out
 pub picked-has : (times : List ℕ) (count : ℕ → ℕ) (picks : List ℕ) → picked times count ≡ Some picks
     → Has times picks count
 unfolding picked

@@ -22,6 +22,7 @@ holds_step-more p q more step h =
           or_right (q step) (eqb step 1 && q 14) (and_from (eqb step 1) (q 14) parts.0 (more 14 parts.1))
     ]
 
+-- each of the five steps of a run is held
 pub run_parts : (p : ℕ → Bool) (t : ℕ) → is_run p t ≡ true
     → (holds_step p t ≡ true) × (holds_step p (t - 1) ≡ true) × (holds_step p (t - 2) ≡ true)
     × (holds_step p (t - 3) ≡ true) × (holds_step p (t - 4) ≡ true)
@@ -33,12 +34,14 @@ run_parts p t h =
     let d = and_parts (holds_step p t) (holds_step p (t - 1)) c.0 in
     (d.0, d.1, c.1, b.1, a.1)
 
+-- five steps in a row that are held make a run to the highest of them
 pub run_from : (p : ℕ → Bool) (t : ℕ) → holds_step p t ≡ true → holds_step p (t - 1) ≡ true → holds_step p (t - 2)
     ≡ true
     → holds_step p (t - 3) ≡ true → holds_step p (t - 4) ≡ true → is_run p t ≡ true
 run_from p t a b c d e =
     and_from _ _ (and_from _ _ (and_from _ _ (and_from _ _ a b) c) d) e
 
+-- a run to a rank stays one when further ranks are held and none is lost
 pub is_run-more : (p q : ℕ → Bool) (t : ℕ) → Implies p q → is_run p t ≡ true → is_run q t ≡ true
 is_run-more p q t more is =
     let parts = run_parts p t is in
@@ -64,6 +67,7 @@ pub record IsRunTo (p : ℕ → Bool) (top : ℕ) : Type 0 where
   pub high : top < 15
   pub runs : is_run p top ≡ true
 
+-- the highest run, if there is one, has five steps in a row that are all held, and a top from the five to the ace
 pub run-is : (p : ℕ → Bool) (top : ℕ) → highest_run p ≡ Some top → IsRunTo p top
 unfolding highest_run
 run-is p top is =
@@ -72,6 +76,7 @@ run-is p top is =
     let parts = and_parts (leb 5 top) (is_run p top) found.passes in
     record { low = leb-true 5 top parts.0; high = found.below; runs = parts.1 }
 
+-- two tests that pass the same ranks have the same highest run
 pub run-same : (p q : ℕ → Bool) → ((r : ℕ) → p r ≡ q r) → highest_run p ≡ highest_run q
 unfolding highest_run
 run-same p q same = λ i. highest_below (λ top. leb 5 top && is_run (λ r. same r i) top) 15
@@ -123,6 +128,8 @@ pub record RunRanks (count : ℕ → ℕ) (top : ℕ) : Type 0 where
   pub which : (last ≡ top - 4) ⊎ ((top ≡ 5) × (last ≡ 14))
   pub have : Has (1 ∷ 1 ∷ 1 ∷ 1 ∷ 1 ∷ []) (top ∷ (top - 1) ∷ (top - 2) ∷ (top - 3) ∷ last ∷ []) count
 
+-- where the rank one does not occur, a run has five different ranks that occur, and the ace is the last in the run to
+-- the five
 pub run-ranks : (count : ℕ → ℕ) (top : ℕ) → count 1 ≡ 0 → IsRunTo (occurring count) top → RunRanks count top
 run-ranks count top none is =
     let t = top in
@@ -182,6 +189,7 @@ next-lower count rank r high within some =
     let up = high.above r within (le-leb 1 (count r) (omega arith)) in
     (omega arith, omega arith)
 
+-- the five ranks that are picked where each must occur once do occur, and each is lower than the one before
 pub picked-five : (count : ℕ → ℕ) (ranks : List ℕ) → picked (1 ∷ 1 ∷ 1 ∷ 1 ∷ 1 ∷ []) count ≡ Some ranks
     → AreFive count ranks
 unfolding picked

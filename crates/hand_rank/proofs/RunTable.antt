@@ -13,9 +13,11 @@ use Rattle.hand_rank.specs.Sets.{has_rank, HasRanks}
 use Rattle.hand_rank.proofs.RunLaws.{run-same, occurring}
 use Rattle.hand_rank.proofs.SetLaws.{top-within}
 
+-- the steps of runs are the ranks of a set, and the ace is a step below the two as well
 unfoldable pub steps_of : ℕ → ℕ
 steps_of bits = bit_or bits (bit_and (bits / 8192) 2)
 
+-- a run is marked at the lowest of five steps in a row that are all held
 unfoldable pub runs_of : ℕ → ℕ
 runs_of m = bit_and (bit_and (bit_and (bit_and m (m / 2)) (m / 4)) (m / 8)) (m / 16)
 

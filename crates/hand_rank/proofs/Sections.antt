@@ -7,6 +7,7 @@ use Rattle.hand_rank.specs.Picks.{without, picked}
 use Rattle.hand_rank.specs.Shown.{falling}
 use Rattle.hand_rank.proofs.PickLaws.{IsHighest, Has, Falls, without-other, without-less, without-some, picked-from, behind-highest}
 
+-- two tests that agree below a bound list the same numbers from the highest down
 pub falling-same : (test other : ℕ → Bool) (n : ℕ) → ((r : ℕ) → r < n → test r ≡ other r)
     → falling test n ≡ falling other n
 unfolding falling
@@ -15,6 +16,7 @@ falling-same test other (suc n) same =
     ap₂ (λ b ranks. cond b (n ∷ ranks) ranks) (same n (omega arith))
     (falling-same test other n (λ r within. same r (omega arith)))
 
+-- where no number below a bound is listed, none there passes the test
 pub falling-none : (test : ℕ → Bool) (n r : ℕ) → falling test n ≡ [] → r < n → test r ≡ false
 unfolding falling
 falling-none test zero r none within = absurd (omega arith)
@@ -28,6 +30,7 @@ falling-none test (suc n) r none within =
           ] refl
     ]) refl none
 
+-- where no number below a bound passes the test, none is listed
 pub falling-empty : (test : ℕ → Bool) (n : ℕ) → ((r : ℕ) → r < n → test r ≡ false) → falling test n ≡ []
 unfolding falling
 falling-empty test zero fails = refl
@@ -41,6 +44,7 @@ pub record Leads (test : ℕ → Bool) (n rank : ℕ) (ranks : List ℕ) : Type 
   pub others : (other : ℕ → Bool) → ((r : ℕ) → r < n → (r ≡ rank → ⊥) → other r ≡ test r) → other rank ≡ false
       → falling other n ≡ ranks
 
+-- the first number listed is the highest that passes the test, and without it the others are listed
 pub falling-leads : (test : ℕ → Bool) (n rank : ℕ) (ranks : List ℕ) → falling test n ≡ rank ∷ ranks
     → Leads test n rank ranks
 unfolding falling
@@ -286,6 +290,7 @@ unfoldable pub total : (ℕ → ℕ) → ℕ → ℕ
 total count zero = 0
 total count (suc n) = count n + total count n
 
+-- counts that agree below a bound have the same sum there
 pub total-same : (a b : ℕ → ℕ) (n : ℕ) → ((r : ℕ) → r < n → a r ≡ b r) → total a n ≡ total b n
 unfolding total
 total-same a b zero same = refl
@@ -298,6 +303,7 @@ total-none count zero none = refl
 total-none count (suc n) none =
     let here = none n (omega arith) in let later = total-none count n (λ r within. none r (omega arith)) in omega arith
 
+-- how often a rank occurs and the sum for the ranks without it come to the sum for all ranks
 pub total-without : (rank : ℕ) (count : ℕ → ℕ) (n : ℕ) → rank < n
     → count rank + total (without rank count) n ≡ total count n
 unfolding total
@@ -338,6 +344,7 @@ IsShape often =
     ((often ≡ 3 ∷ 1 ∷ 1 ∷ []) ⊎
     ((often ≡ 2 ∷ 2 ∷ 1 ∷ []) ⊎ ((often ≡ 2 ∷ 1 ∷ 1 ∷ 1 ∷ []) ⊎ (often ≡ 1 ∷ 1 ∷ 1 ∷ 1 ∷ 1 ∷ [])))))
 
+-- counts from four down to one that never rise and come to five are one of the six shapes of five cards
 pub shape-of : (often : List ℕ) → Falls 4 often → added often ≡ 5 → IsShape often
 shape-of [] falls sum = absurd (omega arith)
 shape-of (a ∷ []) falls sum = absurd (omega arith)

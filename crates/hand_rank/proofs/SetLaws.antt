@@ -127,6 +127,7 @@ highest-picked bits often count has =
     let top : has_rank bits 15 ≡ false = has.at 15 (omega arith) ∙ grind (arith, nat_tests) in
     rw top (sym (highest-same (has_rank bits) (λ r. leb often (count r)) 15 (λ r within. has.at r (omega arith))))
 
+-- where the set of the ranks that occur often enough has no highest rank, no ranks are picked
 pub picks-none : (bits often : ℕ) (more : List ℕ) (count : ℕ → ℕ) → HasRanks bits often count
     → None ≡ highest_below (has_rank bits) 16 → None ≡ picked (often ∷ more) count
 unfolding picked
@@ -161,12 +162,14 @@ pub behind-none : (bits often rank : ℕ) (more : List ℕ) (count : ℕ → ℕ
 behind-none bits often rank more count has some none = ap (option_map (λ ranks. rank ∷ ranks)) none
     ∙ picks-some bits often rank more count has some
 
+-- the ranks that are picked are the highest rank of the set, and then those that are picked without it
 pub behind-some : (bits often rank : ℕ) (more ranks : List ℕ) (count : ℕ → ℕ) → HasRanks bits often count
     → Some rank ≡ highest_below (has_rank bits) 16 → Some ranks ≡ picked more (without rank count)
     → Some (rank ∷ ranks) ≡ picked (often ∷ more) count
 behind-some bits often rank more ranks count has some are = ap (option_map (λ ranks. rank ∷ ranks)) are
     ∙ picks-some bits often rank more count has some
 
+-- where no ranks are asked for, an empty list of ranks is picked
 pub picked-nothing : (count : ℕ → ℕ) → Some [] ≡ picked [] count
 unfolding picked
 picked-nothing count = refl
@@ -195,6 +198,7 @@ how_many-shifted mask (suc n) =
     let next : has_rank mask (suc n) ≡ has_rank (mask / 2) n = ap (λ b. eqb b 1) (bit_at-suc mask n) in
     rw next (omega arith)
 
+-- a set of ranks below a bound has as many ones among its bits as it has ranks
 pub ones_counted : (n mask : ℕ) → mask < 2 ^ n → count_ones mask ≡ how_many (has_rank mask) n
 unfolding how_many
 ones_counted zero mask fits = let none = ones-le 0 mask fits in omega arith

@@ -31,6 +31,7 @@ before-joined (x ∷ xs) [] us vs same is = absurd is
 before-joined (x ∷ xs) (y ∷ ys) us vs same (inl less) = inl less
 before-joined (x ∷ xs) (y ∷ ys) us vs same (inr at) = inr (at.0, before-joined xs ys us vs (omega arith) at.1)
 
+-- a list that comes before another comes no later than it
 pub before-upto : (xs ys : List ℕ) → Before xs ys → Upto xs ys
 before-upto [] [] is = absurd is
 before-upto [] (y ∷ ys) is = tt
@@ -153,6 +154,7 @@ less-upto one other fits fits_other is also less =
           )
     ]) refl less
 
+-- where what is shown is not less than another, the value of the other comes no later
 pub not_less-back : (one other : Shown) → Fits one → Fits other → IsSized one → IsSized other
     → is_less one other ≡ false → Upto (shown_value other) (shown_value one)
 not_less-back one other fits fits_other is also fails =
@@ -229,6 +231,7 @@ many-falling test (suc n) =
       | false ↦ omega arith
     ]
 
+-- a set has as many ones among its bits as there are ranks in its list
 pub ranks-counted : (bits : ℕ) → bits < 2 ^ 16 → count_ones bits ≡ length (ranks_of bits)
 ranks-counted bits fits = ones_counted 16 bits fits ∙ sym (many-falling (has_rank bits) 16)
 
@@ -244,6 +247,7 @@ passed : (test : ℕ → Bool) (n : ℕ) → test n ≡ false → falling test (
 unfolding falling
 passed test n is = rw is refl
 
+-- a rank that passes the test is written behind the others, and with those still to come they are all as before
 pub rank-written : (test : ℕ → Bool) (numbers all : List ℕ) (i : ℕ) → i < 16 → test (15 - i) ≡ true
     → numbers ++ falling test (16 - i) ≡ all → (numbers ++ (15 - i) ∷ []) ++ falling test (16 - (i + 1)) ≡ all
 rank-written test numbers all i within is so_far =
@@ -253,6 +257,7 @@ rank-written test numbers all i within is so_far =
     ∙ ap (λ rs. numbers ++ rs) (sym (taken test (15 - i) is) ∙ ap (falling test) (sym step.0))
     ∙ so_far
 
+-- a rank that fails the test is passed over, and those written and those still to come are all as before
 pub rank-passed : (test : ℕ → Bool) (numbers all : List ℕ) (i : ℕ) → i < 16 → test (15 - i) ≡ false
     → numbers ++ falling test (16 - i) ≡ all → numbers ++ falling test (16 - (i + 1)) ≡ all
 rank-passed test numbers all i within is so_far =
@@ -261,6 +266,7 @@ rank-passed test numbers all i within is so_far =
     ∙ ap (λ rs. numbers ++ rs) (sym (passed test (15 - i) is) ∙ ap (falling test) (sym step.0))
     ∙ so_far
 
+-- where a rank is still to be written, those written so far are fewer than all
 pub rank-room : (test : ℕ → Bool) (numbers all : List ℕ) (i : ℕ) → i < 16 → test (15 - i) ≡ true
     → numbers ++ falling test (16 - i) ≡ all → length numbers < length all
 rank-room test numbers all i within is so_far =
@@ -269,6 +275,7 @@ rank-room test numbers all i within is so_far =
     let two = length-append numbers ((15 - i) ∷ []) in
     omega arith
 
+-- when all sixteen ranks have been looked at, those written are all
 pub ranks-written : (test : ℕ → Bool) (numbers all : List ℕ) (i : ℕ) → 16 ≤ i → numbers ++ falling test (16 - i) ≡ all
     → numbers ≡ all
 unfolding falling

@@ -31,6 +31,8 @@ pub record AreShown (five : List Card) : Type 0 where
   pub count : length five ≡ 5
   pub few : (r : ℕ) → count_of_rank five r ≤ 4
 
+-- five cards have their ranks in one of six ways, by how often they occur: 4+1, 3+2, 3+1+1, 2+2+1, 2+1+1+1 or five
+-- times once
 pub shown-shape : (five : List Card) → AreShown five → IsShape (often_of five)
 shown-shape five shown =
     let few : (r : ℕ) → r < 15 → count_of_rank five r ≤ 4 = λ r within. shown.few r in
@@ -76,6 +78,7 @@ pub shown-five : (five : List Card) → AreShown five → often_of five ≡ 1 �
 shown-five five shown is =
     picked-five (count_of_rank five) (distinct_ranks five) (shown-picked five (1 ∷ 1 ∷ 1 ∷ 1 ∷ 1 ∷ []) shown is)
 
+-- a rank that occurs among some cards is no lower than two
 pub occurs-from_two : (cards : List Card) (r : ℕ) → 1 ≤ count_of_rank cards r → 2 ≤ r
 occurs-from_two cards r some =
     elim (leb 2 r) as (λ b. leb 2 r ≡ b → 2 ≤ r) [
@@ -94,6 +97,7 @@ abbrev pub numbered : Option Category → ℕ
 numbered None = 0
 numbered (Some category) = category_number category
 
+-- how often ranks occur gives the number of the category that they make, and zero where they make none
 unfoldable pub number_of : List ℕ → ℕ
 number_of often = numbered (category_of often)
 

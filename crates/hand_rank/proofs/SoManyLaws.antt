@@ -3,6 +3,7 @@ use Rattle.std.proofs.Common.{◌≡◌, ℕ, zero, suc, ◌+◌, ◌<◌, ◌�
 use Rattle.std.specs.Prelude.{Option}
 use Rattle.std.proofs.lemmas.Bool.Decides.{nat_tests}
 use Rattle.std.proofs.lemmas.Option.{same_Some}
+use Rattle.rulebook.proofs.Pairs.{others_alone}
 use Rattle.card_choices.proofs.ListOrder.{Upto, max_upper}
 use Rattle.hand_rank.specs.declared.rank_set.RankSet.{RankSet}
 use Rattle.hand_rank.specs.BestHigh.{greater}
@@ -158,7 +159,7 @@ pub taken-more : (from forced taken free more fewer : ℕ → Bool) (count rank 
     → ((r : ℕ) → more r ≡ (taken r || eqb r rank)) → AreTaken from forced more fewer (count + 1)
 taken-more from forced taken free more fewer count rank so_far top without with = record {
   within = λ r below is. either_way (taken r) (from r ≡ true) (so_far.within r below)
-      (λ not_yet. let same = eqb-true r rank (one (taken r) (eqb r rank) (sym (with r) ∙ is) not_yet) in
+      (λ not_yet. let same = eqb-true r rank (others_alone (taken r) (eqb r rank) (sym (with r) ∙ is) not_yet) in
       subst (λ s. from s ≡ true) (sym same)
       (both-are (from rank) (taken rank) (sym (so_far.left rank top.below) ∙ top.passes)).0);
   among = λ r below is. with r ∙ ap (λ b. b || eqb r rank) (so_far.among r below is);
@@ -168,7 +169,7 @@ taken-more from forced taken free more fewer count rank so_far top without with 
       let free_r = both-are (free r) (eqb r rank) (sym (without r below) ∙ is) in
       either_way (taken q) (r < q) (λ before. so_far.above r q below under free_r.0 before has_not)
       (λ not_yet.
-      let same = eqb-true q rank (one (taken q) (eqb q rank) (sym (with q) ∙ has) not_yet) in
+      let same = eqb-true q rank (others_alone (taken q) (eqb q rank) (sym (with q) ∙ has) not_yet) in
       let up = top.above r below free_r.0 in
       let apart = free_r.1 in
       grind (arith, nat_tests));
@@ -183,10 +184,6 @@ taken-more from forced taken free more fewer count rank so_far top without with 
       omega (arith, all, a, b, before);
 }
   where
-    one : (a b : Bool) → (a || b) ≡ true → a ≡ false → b ≡ true
-    one true b is not_a = absurd cc
-    one false b is not_a = is
-
     and_not : (a b c : Bool) → ((a && not b) && not c) ≡ (a && not (b || c))
     and_not true true c = refl
     and_not true false c = refl

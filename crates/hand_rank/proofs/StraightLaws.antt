@@ -1,11 +1,13 @@
 -- The best straights and straight flushes of a pair of hole cards with three cards of a board.
 use Rattle.std.proofs.Common.{◌≡◌, ℕ, ◌-◌, ◌<◌, ◌≤◌, ◌⊎◌, inl, inr, Bool, true, false, ◌||◌, not, eqb, leb, List, [], ◌∷◌, ◌++◌, length, Some, None, refl, sym, ap, ◌∙◌, subst, eqb-true, leb-true, le-leb, lit≤, arith}
 use Rattle.std.specs.Prelude.{Option}
+use Rattle.std.proofs.lemmas.Bool.{not_from_true}
 use Rattle.std.proofs.lemmas.Bool.Decides.{nat_tests}
 use Rattle.std.proofs.lemmas.Option.{same_Some}
 use Rattle.card_set.specs.declared.card.Card.{Card}
 use Rattle.card_choices.proofs.ListOrder.{Upto}
 use Rattle.rulebook.proofs.Found.{some-found}
+use Rattle.rulebook.proofs.Pairs.{others_alone}
 use Rattle.hand_rank.specs.declared.held.Held.{Held}
 use Rattle.hand_rank.specs.declared.shown.Shown.{Shown}
 use Rattle.hand_rank.specs.Held.{hands, count_of_some_suit, IsHeld, RunsWith, IsHighestRunWith, IsBestIn}
@@ -38,12 +40,8 @@ run-size : (top : ℕ) → 5 ≤ top → top < 15 → length (falling (is_in_run
 unfolding run_size
 run-size top low high =
     eqb-true (length (falling (is_in_run top) 15)) 5
-    (last (leb 5 top) (eqb (length (falling (is_in_run top) 15)) 5) (le-leb 5 top low)
-    (holds_below run_size 15 top all_run_sizes high))
-  where
-    last : (a b : Bool) → a ≡ true → (not a || b) ≡ true → b ≡ true
-    last true b is all = all
-    last false b is all = absurd cc
+    (others_alone (not (leb 5 top)) (eqb (length (falling (is_in_run top) 15)) 5)
+    (holds_below run_size 15 top all_run_sizes high) (not_from_true (leb 5 top) (le-leb 5 top low)))
 
 -- the five ranks of a run with two hole cards
 run-five : (hole : List Card) (count : ℕ → ℕ) (top : ℕ) → RunsWith top count hole → AreFive hole (is_in_run top)

@@ -156,6 +156,7 @@ with-suits r a b c d =
     ∙ ap (λ x. greater x r) (ap (λ x. greater x d) (max_assoc a b c) ∙ max_assoc a (greater b c) d
     ∙ ap (greater a) (max_assoc b c d ∙ ap (greater b) (ap (greater c) (sym (max_lower d [] tt)))))
 
+-- the value of the ranks, made greater by the value of each suit in turn, ends as the value that the cards make
 pub value-from : (cards : List Card) (best one two three four : List ℕ) → best ≡ value_of_ranks (count_of_rank cards)
     → one ≡ greater best (value_of_suit (count_of_suit cards 0))
     → two ≡ greater one (value_of_suit (count_of_suit cards 1))

@@ -2,6 +2,7 @@
 use Rattle.std.proofs.Common.{◌≡◌, Bool, true, false, List, [], ◌∷◌, ◌++◌, sym, ap, ◌∙◌, if◌then◌else◌}
 use Rattle.std.proofs.lemmas.List.{append-nil}
 
+-- the own list gets the entry where the hold added it to the history, and else stays as it was
 pub own_after : {A : Type 0} (b : Bool) (before after found own own' : List A) (x : A)
     → after ≡ (if b then before ++ x ∷ [] else before) → before ≡ found
     → ((added : List A) → after ≡ found ++ added → own' ≡ own ++ added) → own' ≡ (if b then own ++ x ∷ [] else own)

@@ -109,6 +109,7 @@ module _ {Val E : Type 0} {g : Ghosts Val E} (history : Val → List E) (caller_
       let t = closes history caller_of n id v words slots out enough final in
       (t.0, some-injective got (Some t.0) (sym found ∙ t.1), fits_all passes v t.0 are t.2)
 
+  -- a value that is equal to one that fits each pass fits each pass too
   pub fits_value : (passes : List (Pass Val E g)) (x value : Val) → Some x ≡ Some value → FitsAll passes x
       → FitsAll passes value
   fits_value passes x value e f = let same : x ≡ value = cc in subst (FitsAll passes) same f

@@ -19,6 +19,7 @@ module _ {E : Type 0} where
   abbrev pub has_ticket : View E → ℕ
   has_ticket v = cond (is_some v.ticket) 1 0
 
+  -- how many shares the view has
   abbrev pub shares_of : View E → ℕ
   shares_of v = length v.shares
 
@@ -38,6 +39,7 @@ module _ {E : Type 0} where
       → waiting (set views id w) + has_ticket v ≡ waiting views + has_ticket w
   waiting-set views id v w at = sum_by-set has_ticket views id v w at
 
+  -- where one view is replaced, the number of shares loses those of the old view and gains those of the new one
   pub share_count-set : (views : List (View E)) (id : ℕ) (v w : View E) → HasView views id v
       → share_count (set views id w) + length v.shares ≡ share_count views + length w.shares
   share_count-set views id v w at = sum_by-set shares_of views id v w at

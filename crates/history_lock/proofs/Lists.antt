@@ -10,9 +10,11 @@ use Rattle.history_lock.specs.Views.{Each, AtLeastOne}
 abbrev pub put : (ℕ → ℕ) → ℕ → ℕ → ℕ → ℕ
 put f i x j = cond (eqb j i) x (f j)
 
+-- at the index where a value was put, the function has that value
 pub put_here : (f : ℕ → ℕ) (i x j : ℕ) → j ≡ i → put f i x j ≡ x
 put_here f i x j e = ap (λ b. cond b x (f j)) (eq-eqb j i e)
 
+-- at every other index the function has the value that it had
 pub put_else : (f : ℕ → ℕ) (i x j : ℕ) → j ≢ i → put f i x j ≡ f j
 put_else f i x j ne = ap (λ b. cond b x (f j)) (ne_eqb j i ne)
 
@@ -20,9 +22,11 @@ put_else f i x j ne = ap (λ b. cond b x (f j)) (ne_eqb j i ne)
 abbrev pub turn : (ℕ → ℕ) → ℕ → ℕ → ℕ → ℕ
 turn f a b j = cond (eqb (f j) a) b (f j)
 
+-- where the function had the value that is turned, it has the new one
 pub turn_here : (f : ℕ → ℕ) (a b j : ℕ) → f j ≡ a → turn f a b j ≡ b
 turn_here f a b j e = ap (λ t. cond t b (f j)) (eq-eqb (f j) a e)
 
+-- where the function had any other value, it keeps it
 pub turn_else : (f : ℕ → ℕ) (a b j : ℕ) → f j ≢ a → turn f a b j ≡ f j
 turn_else f a b j ne = ap (λ t. cond t b (f j)) (ne_eqb (f j) a ne)
 
@@ -50,6 +54,7 @@ module _ {A : Type 0} where
   at_push (x ∷ xs) w a (suc j) e = ⊎_elim (λ h. inl h) (λ (t : (j ≡ length xs) × (w ≡ a)). inr (ap suc t.0, t.1))
       (at_push xs w a j e)
 
+  -- where one element is replaced, the sum loses the part of the old one and gains that of the new one
   pub sum_by-set : (f : A → ℕ) (l : List A) (i : ℕ) (a b : A) → get_elem? l i ≡ some a
       → sum_by f (set l i b) + f a ≡ sum_by f l + f b
   sum_by-set f [] i a b e = absurd (some-ne-none a (sym e))
@@ -63,6 +68,7 @@ module _ {A : Type 0} where
   one_le_sum_by f (x ∷ xs) zero a e = omega (arith, sum_by-cons f x xs, ap f (some-injective x a e))
   one_le_sum_by f (x ∷ xs) (suc i) a e = omega (arith, sum_by-cons f x xs, one_le_sum_by f xs i a e)
 
+  -- the parts of two elements at different indices are together at most the sum
   pub two_le_sum_by : (f : A → ℕ) (l : List A) (i j : ℕ) (a b : A) → i ≢ j → get_elem? l i ≡ some a
       → get_elem? l j ≡ some b → f a + f b ≤ sum_by f l
   two_le_sum_by f [] i j a b ne e d = absurd (some-ne-none a (sym e))
@@ -105,30 +111,37 @@ module _ {A : Type 0} where
             (λ j a d. le (suc j) a d) e lt,
       )
 
+  -- what holds of each element of two lists holds of each element of the two joined
   pub each_append : (P : A → Type 0) (xs ys : List A) → Each P xs → Each P ys → Each P (xs ++ ys)
   each_append P [] ys p q = q
   each_append P (x ∷ xs) ys p q = (p.0, each_append P xs ys p.1 q)
 
+  -- what follows from a property holds of each element where the property holds of each
   pub each_map : (P Q : A → Type 0) (xs : List A) → ((x : A) → P x → Q x) → Each P xs → Each Q xs
   each_map P Q [] f p = tt
   each_map P Q (x ∷ xs) f p = (f x p.0, each_map P Q xs f p.1)
 
+  -- what follows from two properties together holds of each element where both hold of each
   pub each_both : (P Q R : A → Type 0) (xs : List A) → ((x : A) → P x → Q x → R x) → Each P xs → Each Q xs → Each R xs
   each_both P Q R [] f p q = tt
   each_both P Q R (x ∷ xs) f p q = (f x p.0 q.0, each_both P Q R xs f p.1 q.1)
 
+  -- what holds of at least one element of the first list holds of at least one of the two joined
   pub least_append_left : (P : A → Type 0) (xs ys : List A) → AtLeastOne P xs → AtLeastOne P (xs ++ ys)
   least_append_left P [] ys p = absurd p
   least_append_left P (x ∷ xs) ys p = ⊎_elim (λ h. inl h) (λ h. inr (least_append_left P xs ys h)) p
 
+  -- what holds of at least one element of the second list holds of at least one of the two joined
   pub least_append_right : (P : A → Type 0) (xs ys : List A) → AtLeastOne P ys → AtLeastOne P (xs ++ ys)
   least_append_right P [] ys p = p
   least_append_right P (x ∷ xs) ys p = inr (least_append_right P xs ys p)
 
+  -- what holds at every index of a list holds of each of its elements
   pub each_of_all : (P : A → Type 0) (xs : List A) → All P xs → Each P xs
   each_of_all P [] p = tt
   each_of_all P (x ∷ xs) p = (p 0 x (omega arith), each_of_all P xs (λ k d h. p (suc k) d (omega arith)))
 
+  -- what holds of each element of a list holds at every index of it
   pub all_of_each : (P : A → Type 0) (xs : List A) → Each P xs → All P xs
   all_of_each P [] p k d h = absurd (omega arith)
   all_of_each P (x ∷ xs) p zero d h = p.0

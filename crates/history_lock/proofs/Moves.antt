@@ -48,6 +48,7 @@ module _ {Val E : Type 0} (history : Val → List E) (caller_of : E → ℕ) (n 
       → get_or s.words i 0 ≡ get_or (r.ticket ∷ r.serving ∷ length r.now ∷ r.calls ∷ []) i 0
   word s r i = ap (λ ws. get_or ws i 0) r.words
 
+  -- a pass with no ticket may draw one: it gets the number found as its ticket, and has one hold more
   pub draws : (slots id : ℕ) (v : View E) (c : List (ℕ × Option Val)) (x : Share E) → v.shares ≡ x ∷ []
       → v.ticket ≡ None → v.served ≡ false
       → Allows Rule slots id (v, c) 0 (λ k. (k + 1) % 2 ^ 64) (drew (step slots 0 1 0 none) (v, c))
@@ -110,6 +111,8 @@ module _ {Val E : Type 0} (history : Val → List E) (caller_of : E → ℕ) (n 
       MatchBool b ((x : Val) × (after ≡ (served_view before.0 share (history x), (0, Some x) ∷ before.1))
       × IsFound history caller_of share before.0.known x) (after ≡ before)
 
+  -- a pass with a ticket that is not served yet may load the ticket that is served, and where that is its own
+  -- it takes the slot, with a value that fits what it knows
   pub looks : (slots id : ℕ) (v : View E) (x : Share E) (ticket : ℕ) → v.shares ≡ x ∷ [] → v.ticket ≡ Some ticket
       → v.served ≡ false
       → Allows Rule slots id (v, []) 1 (λ k. k) (looked history caller_of (step slots 1 0 0 none) (v, []))
@@ -186,6 +189,8 @@ module _ {Val E : Type 0} (history : Val → List E) (caller_of : E → ℕ) (n 
             subst (λ b. LookTells b (v, []) (v, []) share) (sym test) refl),
       ))
 
+  -- a pass that is served, with its slot in hand and empty, may publish the length of the history that it leaves,
+  -- where that fits a word and the history extends what it has seen by entries of its own alone
   pub publishes : (slots id : ℕ) (v : View E) (x : Share E) (left added : List E) (count : ℕ) → v.shares ≡ x ∷ []
       → v.served ≡ true → left ≡ x.seen ++ added → Each (λ e. caller_of e ≡ x.number) added
       → count ≡ length left → count < 2 ^ 64
@@ -243,6 +248,7 @@ module _ {Val E : Type 0} (history : Val → List E) (caller_of : E → ℕ) (n 
         ),
       )
 
+  -- a pass that is served may pass on where the value in its slot has just the history that it has seen
   pub passes_on : (slots id : ℕ) (v : View E) (x : Share E) (val : Val) → v.shares ≡ x ∷ [] → v.served ≡ true
       → history val ≡ x.seen
       → Allows Rule slots id (v, (0, Some val) ∷ []) 1 (λ k. (k + 1) % 2 ^ 64)
@@ -289,6 +295,8 @@ module _ {Val E : Type 0} (history : Val → List E) (caller_of : E → ℕ) (n 
         refl,
       )
 
+  -- a pass that is not served may load the count, which is not below what it knew, nor below the length of what it
+  -- has seen
   pub counts : (slots id : ℕ) (v : View E) (c : List (ℕ × Option Val)) (x : Share E) → v.shares ≡ x ∷ []
       → v.served ≡ false
       → Allows Rule slots id (v, c) 2 (λ k. k) (counted (step slots 2 0 0 none) (v, c))

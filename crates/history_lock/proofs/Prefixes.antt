@@ -16,9 +16,11 @@ module _ {A : Type 0} where
   pub prefix_append : (xs ys : List A) → IsPrefix xs (xs ++ ys)
   prefix_append xs ys = (ys, refl)
 
+  -- a list that begins a beginning of another begins that other
   pub prefix_trans : (xs ys zs : List A) → IsPrefix xs ys → IsPrefix ys zs → IsPrefix xs zs
   prefix_trans xs ys zs p q = (p.0 ++ q.0, sym (append_assoc xs p.0 q.0) ∙ (ap (λ w. w ++ q.0) p.1 ∙ q.1))
 
+  -- a beginning is at most as long as the list that it begins
   pub prefix_length : (xs ys : List A) → IsPrefix xs ys → length xs ≤ length ys
   prefix_length xs ys p = omega (arith, sym (ap length p.1) ∙ length-append xs p.0)
 
@@ -45,11 +47,13 @@ module _ {E : Type 0} (caller_of : E → ℕ) where
       let here : (caller_of e == i) ≡ false = let h = own.0 in grind (arith, nat_tests) in
       rw here (entries_by_other k i es ne own.1)
 
+  -- where entries of caller k are added to a history, the entries of k grow by just these
   pub entries_by_grown : (k : ℕ) (log added : List E) → Each (λ e. caller_of e ≡ k) added
       → entries_by caller_of k (log ++ added) ≡ entries_by caller_of k log ++ added
   entries_by_grown k log added own = filter-append (λ e. caller_of e == k) log added
       ∙ ap (λ w. entries_by caller_of k log ++ w) (entries_by_own k added own)
 
+  -- where entries of caller k are added to a history, those of every other caller stay as they were
   pub entries_by_kept : (k i : ℕ) (log added : List E) → k ≢ i → Each (λ e. caller_of e ≡ k) added
       → entries_by caller_of i (log ++ added) ≡ entries_by caller_of i log
   entries_by_kept k i log added ne own =

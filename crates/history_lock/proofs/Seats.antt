@@ -61,6 +61,7 @@ module _ {Val E : Type 0} (history : Val → List E) (caller_of : E → ℕ) (n 
   abbrev Rule : St → Type 0
   Rule = IsKept history caller_of n
 
+  -- a new seat may come at any time with a view that has no share, and the rule is kept
   pub arrives : (slots : ℕ) (v : View E)
       → Enters Rule slots 3 (λ k w. arrived {Val = Val} (step slots 3 0 0 none) (v, []) k (w, []))
   arrives slots v s r _ _ = (
@@ -83,6 +84,7 @@ module _ {Val E : Type 0} (history : Val → List E) (caller_of : E → ℕ) (n 
     refl,
   )
 
+  -- any seat may count one more wake call, and the rule is kept
   pub calls : (slots id : ℕ) (v : View E) (c : List (ℕ × Option Val))
       → Allows Rule slots id (v, c) 3 (λ k. (k + 1) % 2 ^ 64) (λ _ _. Unit {0})
   calls slots id v c s r _ at _ =

@@ -116,6 +116,7 @@ module _ {E : Type 0} where
   waiting_push views w idle = let one_if : Option ℕ → ℕ = λ t. cond (is_some t) 1 0 in let none : has_ticket w ≡ 0 =
       ap one_if idle in omega (arith, sum_by_push has_ticket views w)
 
+  -- the clause of the tickets still holds once a view with no ticket is added
   pub tickets_push : (n ticket serving : ℕ) (views : List (View E)) (w : View E) → w.ticket ≡ None
       → TicketsAreInRange n ticket serving views → TicketsAreInRange n ticket serving (views ++ w ∷ [])
   tickets_push n ticket serving views w idle r =
@@ -131,6 +132,7 @@ module _ {E : Type 0} where
         differ = λ i j a b t h k is also. r.differ i j a b t (old i a t h is) (old j b t k also) is also;
       }
 
+  -- still at most one view is served, and has the ticket that is, once a view that is not served is added
   pub served_push : (serving : ℕ) (views : List (View E)) (w : View E) → w.served ≡ false → OneIsServed serving views
       → OneIsServed serving (views ++ w ∷ [])
   served_push serving views w out r =
@@ -141,6 +143,7 @@ module _ {E : Type 0} where
         one = λ i j a b h k is also. r.one i j a b (old i a h is) (old j b k also) is also;
       }
 
+  -- each view with no share still has no ticket once a view with no ticket is added
   pub spent_push : (views : List (View E)) (w : View E) → w.ticket ≡ None → SpentIsIdle views
       → SpentIsIdle (views ++ w ∷ [])
   spent_push views w idle r j a h none =
@@ -148,6 +151,7 @@ module _ {E : Type 0} where
       (at_push views w a j h)
 
   module _ {Val : Type 0} (history : Val → List E) (now : List E) (homes : List (maybe.Option (Option Val))) where
+    -- the clause of the slot still holds once a view that is not served is added
     pub slot_push : (views : List (View E)) (w : View E) → w.served ≡ false → SlotIsRight history now homes views
         → SlotIsRight history now homes (views ++ w ∷ [])
     slot_push views w out r = record {

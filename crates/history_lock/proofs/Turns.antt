@@ -40,6 +40,7 @@ module _ {Val E : Type 0} (history : Val → List E) (caller_of : E → ℕ) whe
   tells st ticket found before after is told = told ticket (first_share before.0.shares) (ap (λ (m : M). m.0.ticket) is)
       (ap (λ (m : M). m.0.shares) is)
 
+  -- a seat that waits, and finds that its own ticket is served, holds the value
   pub look_hit : (st : Step (Option Val)) (ticket found : ℕ) (before after : M)
       → before ≡ (ticketed_view ticket before.0, []) → looked history caller_of st before found after → found ≡ ticket
       → (x : Val) × Holds before after x
@@ -56,6 +57,7 @@ module _ {Val E : Type 0} (history : Val → List E) (caller_of : E → ℕ) whe
         ),
       )
 
+  -- a seat that waits, and finds that another ticket is served, stays as it was
   pub look_miss : (st : Step (Option Val)) (ticket found : ℕ) (before after : M)
       → before ≡ (ticketed_view ticket before.0, []) → looked history caller_of st before found after → found ≢ ticket
       → after ≡ before

@@ -103,18 +103,21 @@ low_value-renamed : (suit : ℕ → ℕ) (cards others : List Card) → AreRenam
 low_value-renamed suit cards others renamed = low_value-of cards
     ∙ ap value_of (low_ranks-renamed suit cards others renamed) ∙ sym (low_value-of others)
 
+-- the best low in Omaha is the same where two neighbouring hole cards change places
 pub low-exchange_hole : (board : List Card) → AllowsExchange (λ hole. best_low_of (omaha_choices hole board))
 low-exchange_hole board front a b back =
     best_low_of-combined (omaha_choices (front ++ a ∷ b ∷ back) board)
     ∙ omaha-exchange_hole better_low None better-combining low_value low_value-exchange board front a b back
     ∙ sym (best_low_of-combined (omaha_choices (front ++ b ∷ a ∷ back) board))
 
+-- the best low in Omaha is the same where two neighbouring cards of the board change places
 pub low-exchange_board : (hole : List Card) → AllowsExchange (λ board. best_low_of (omaha_choices hole board))
 low-exchange_board hole front a b back =
     best_low_of-combined (omaha_choices hole (front ++ a ∷ b ∷ back))
     ∙ omaha-exchange_board better_low None better-combining low_value low_value-exchange hole front a b back
     ∙ sym (best_low_of-combined (omaha_choices hole (front ++ b ∷ a ∷ back)))
 
+-- the best low in Omaha is the same where the suits of the hole cards and of the board are renamed
 pub low-renamed : (suit : ℕ → ℕ) (hole others board boards : List Card) → AreRenamed suit hole others
     → AreRenamed suit board boards
     → best_low_of (omaha_choices hole board) ≡ best_low_of (omaha_choices others boards)

@@ -38,6 +38,7 @@ pub best_low_of-one : (cards : List Card) → best_low_of (cards ∷ []) ≡ low
 unfolding best_low_of
 best_low_of-one cards = better-none (low_value cards)
 
+-- where there is no choice there is no low
 pub best_low_of-none : best_low_of [] ≡ None
 unfolding best_low_of
 best_low_of-none = refl
@@ -81,6 +82,7 @@ count-low (rank ∷ ranks) different from to =
     let one = one_low rank froms.0 tos.0 in
     omega (arith, more, one, later)
 
+-- different ranks from 1 to 8 are as many in falling order as before
 pub length-falling : (ranks : List ℕ) → are_different ranks ≡ true → list_all (λ rank. leb 1 rank) ranks ≡ true
     → list_all (λ rank. leb rank 8) ranks ≡ true → length (in_falling_order ranks) ≡ length ranks
 unfolding in_falling_order
@@ -91,6 +93,7 @@ length-falling ranks different from to =
 abbrev pub among : List ℕ → ℕ → Bool
 among ranks rank = list_any (λ other. eqb other rank) ranks
 
+-- of the ranks from the eight down to the ace, those left at the start are the given ones in falling order
 pub falling-left : (ranks : List ℕ) → left_of (among ranks) low_ranks_down 0 ≡ in_falling_order ranks
 unfolding in_falling_order
 falling-left ranks = refl
@@ -108,6 +111,7 @@ left-room test items falling all count i within there few as_long is =
     let taken : length (take count falling) ≡ count = length-take-le count falling few in
     omega (arith, sum, some, taken)
 
+-- after a number that passes has been written too, what is written and what is left are still all
 pub left-taken : (test : ℕ → Bool) (items falling all : List ℕ) (count i : ℕ) → i < length items
     → test (get_or items i 0) ≡ true
     → count < length falling → take count falling ++ left_of test items i ≡ all
@@ -117,6 +121,7 @@ left-taken test items falling all count i within there room is =
     ∙ append_assoc (take count falling) (get_or items i 0 ∷ []) (left_of test items (i + 1))
     ∙ ap (λ xs. take count falling ++ xs) (sym (left_of-taken test items i within there)) ∙ is
 
+-- after a number that does not pass has been skipped, what is written and what is left are still all
 pub left-passed : (test : ℕ → Bool) (items falling all : List ℕ) (count i : ℕ) → i < length items
     → test (get_or items i 0) ≡ false
     → take count falling ++ left_of test items i ≡ all → take count falling ++ left_of test items (i + 1) ≡ all
@@ -166,6 +171,7 @@ low_value_some cards ranks are different to =
     sym (subst (λ rs. (if (are_different rs && list_all (λ rank. leb rank 8) rs) then Some
     (in_falling_order rs) else None) ≡ Some (in_falling_order ranks)) are (rw (different, to) refl))
 
+-- cards with two of one rank, or with a rank above eight where the ace counts as 1, do not qualify
 pub low_value_none : (cards : List Card) (ranks : List ℕ) → ranks ≡ map low_rank cards
     → (are_different ranks && list_all (λ rank. leb rank 8) ranks) ≡ false → None ≡ low_value cards
 unfolding low_value

@@ -1,15 +1,14 @@
 -- Counts over lists.
-use Rattle.std.proofs.Common.{◌≡◌, ◌∙◌, refl, ap, sym, ℕ, zero, suc, ◌+◌, ◌-◌, ◌<◌, ◌≤◌, min, max, Bool, true, false, List, [], ◌∷◌, length, get_or, arith}
+use Rattle.std.proofs.Common.{◌≡◌, ◌∙◌, refl, ap, ℕ, zero, suc, ◌+◌, ◌-◌, ◌<◌, ◌≤◌, min, max, Bool, true, false, List, [], ◌∷◌, length, get_or, arith, cond}
 use Rattle.std.specs.Prelude.{if◌then◌else◌, count_by, ◌&&◌, nat_lt, nat_le}
 use Rattle.std.proofs.lemmas.Bool.Decides.{nat_tests}
+use Rattle.std.proofs.lemmas.List.Sums.{get_or-le-sum_by}
 use Rattle.rulebook.proofs.Tests.{count_by-cons}
 
 -- Tests that agree count the same.
 pub count_by-same : {A : Type 0} (one other : A → Bool) (items : List A) → ((item : A) → one item ≡ other item)
     → count_by one items ≡ count_by other items
-count_by-same one other [] same = refl
-count_by-same one other (item ∷ items) same = count_by-cons one item items
-    ∙ rw (same item, count_by-same one other items same) (sym (count_by-cons other item items))
+count_by-same one other items same = λ i. count_by (λ item. same item i) items
 
 -- Where two tests that exclude each other follow into a third, it counts at least both.
 pub count_by-both : {A : Type 0} (one other third : A → Bool) (items : List A)
@@ -41,15 +40,10 @@ count_by-sum one other third (item ∷ items) same =
 -- An item that passes is counted.
 pub count_by-some : {A : Type 0} (test : A → Bool) (items : List A) (k : ℕ) (d : A) → k < length items
     → test (get_or items k d) ≡ true → 1 ≤ count_by test items
-count_by-some test [] k d within passes = absurd (omega arith)
-count_by-some test (item ∷ items) zero d within passes =
-    let count = count_by-cons test item items in
-    let here : ◌≡◌ {A = ℕ} (if test item then 1 else 0) 1 = rw passes refl in
-    omega (arith, count, here)
-count_by-some test (item ∷ items) (suc k) d within passes =
-    let count = count_by-cons test item items in
-    let rest = count_by-some test items k d (omega arith) passes in
-    omega (arith, count, rest)
+count_by-some test items k d within passes =
+    let his = get_or-le-sum_by (λ item. cond {A = ℕ} (test item) 1 0) items k d within in
+    let one = ap (λ (b : Bool). cond {A = ℕ} b 1 0) passes in
+    omega (arith, his, one)
 
 -- Where none passes, none is counted.
 pub count_by-none : {A : Type 0} (test : A → Bool) (items : List A)

@@ -8,7 +8,7 @@ use Rattle.std.proofs.lemmas.Bool.Decides.{nat_tests}
 use Rattle.std.proofs.lemmas.List.{map-append, take_more}
 use Rattle.std.proofs.lemmas.List.Sorted.{sorted_far, length_permutation, sum_by-IsPermutation}
 use Rattle.rulebook.specs.Pairs.{are_distinct}
-use Rattle.rulebook.proofs.Tests.{count_by-cons}
+use Rattle.rulebook.proofs.Tests.{count_by-cons, sum_by-map}
 use Rattle.place_list.specs.declared.bust.Bust.{Bust}
 use Rattle.place_list.specs.declared.standing.Standing.{Standing}
 use Rattle.place_list.specs.Places.{is_ahead, ties, tied, tied_before, place_of, still_in}
@@ -105,10 +105,7 @@ standing_of-permutation entries prizes busts sorted bust same =
 
 count_by-map : (test : Standing → Bool) (f : Bust → Standing) (busts : List Bust) → count_by test (map f busts)
     ≡ count_by (λ bust. test (f bust)) busts
-count_by-map test f [] = refl
-count_by-map test f (bust ∷ busts) = count_by-cons test (f bust) (map f busts)
-    ∙ ap (λ n. (if test (f bust) then 1 else 0) + n) (count_by-map test f busts)
-    ∙ sym (count_by-cons (λ (one : Bust). test (f one)) bust busts)
+count_by-map test f busts = sum_by-map (λ (standing : Standing). if test standing then 1 else 0) f busts
 
 falls-map : (f : Bust → Standing) (busts : List Bust) → ((i j : ℕ) (d : Bust) → i < j → j < length busts
     → comes_before (f (get_or busts i d)) (f (get_or busts j d)) ≡ true) → Falls (map f busts)

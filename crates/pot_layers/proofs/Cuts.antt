@@ -6,6 +6,7 @@ use Rattle.std.proofs.lemmas.Bool.{and_parts, eq-eqb, eqb-true}
 use Rattle.std.proofs.lemmas.Bool.Decides.{nat_tests}
 use Rattle.std.proofs.lemmas.List.{length-append}
 use Rattle.std.proofs.lemmas.List.Folds.{list_all-map, list_all-append}
+use Rattle.rulebook.proofs.Multiples.{multiple-sub}
 use Rattle.rulebook.proofs.Tests.{list_all-always}
 use Rattle.pot_layers.specs.declared.put.Put.{Put}
 use Rattle.pot_layers.specs.declared.pot_list.Pot.{Pot}
@@ -17,7 +18,7 @@ use Rattle.pot_layers.specs.Standings.{puts_of, standing_of, is_above, nearer}
 use Rattle.pot_layers.proofs.ListTests.{list_any-none, reverse-cons}
 use Rattle.pot_layers.proofs.Heights.{is_within, is_live_at, live_at-most, total_to-grows, total_to-greatest, greatest_put-most}
 use Rattle.pot_layers.proofs.Stretches.{pot_of, IsTop, next-cut, above-top}
-use Rattle.pot_layers.proofs.Units.{total_to-whole, total_put-whole, there-whole, whole-minus, eqb_true, last-whole}
+use Rattle.pot_layers.proofs.Units.{total_to-whole, total_put-whole, there-whole, eqb_true, last-whole}
 use Rattle.pot_layers.proofs.Nearest.{stands_at, nearest-found, none-above, above-falls, outside-puts_of, within-puts_of, there-puts_of}
 
 -- The heights up to one are cut.
@@ -105,7 +106,7 @@ cuts-next standings pots below paid next right cut found =
                   ∙ rw (
                     before.0,
                     eqb_true (next.total - paid) unit
-                        (whole-minus next.total paid unit
+                        (multiple-sub unit next.total paid
                         (rw (total, cut.paid) (total_to-grows puts below next.put.amount (omega arith))) after
                         before.1),
                   ),
@@ -186,6 +187,6 @@ is-whole standings pots below paid total cut none contested whole = elim cut.top
             subst (λ (p : List Pot). are_whole_pots unit p ≡ true) all_is
             (last-whole unit (reverse top.rest) top.amount (total - paid) (live_payers puts below)
             (subst (λ (p : List Pot). are_whole_pots unit p ≡ true) ends before.0)
-            (whole-minus total paid unit (rw (cut.paid, whole, ← greatest) grows) total_is before.1));
+            (multiple-sub unit total paid (rw (cut.paid, whole, ← greatest) grows) total_is before.1));
       }
 ]

@@ -61,6 +61,7 @@ greatest-most least (put ∷ more) =
     (omega (arith, greatest-grows (max least put.amount) more)))
     (greatest-most (max least put.amount) more)
 
+-- No player has put in more than the greatest put.
 pub greatest_put-most : (puts : List Put) → list_all (λ put. nat_le put.amount (greatest_put puts)) puts ≡ true
 greatest_put-most puts = greatest-most 0 puts
 

@@ -1,10 +1,10 @@
 -- Tests over all and over some items of a list.
 use Rattle.std.proofs.Common.{◌≡◌, ◌∙◌, ℕ, List, [], ◌∷◌, ◌++◌, Bool, true, false, refl, ap, sym}
-use Rattle.std.specs.Prelude.{sum_by, map, reverse}
+use Rattle.std.specs.Prelude.{sum_by, map, reverse, sum}
 use Rattle.std.specs.List.{list_all, list_any}
 use Rattle.std.proofs.lemmas.Bool.{and_parts}
 use Rattle.std.proofs.lemmas.List.{reverse-append}
-use Rattle.std.proofs.lemmas.List.Sums.{sum_by-cons}
+use Rattle.std.proofs.lemmas.List.Sums.{sum-map}
 
 -- Two functions that agree where a test holds map a list alike of which all items pass the test.
 pub map-agree : {A B : Type 0} (f g : A → B) (p : A → Bool) (items : List A)
@@ -18,11 +18,8 @@ map-agree f g p (item ∷ more) agree all =
 -- The same of sums.
 pub sum_by-agree : {A : Type 0} (f g : A → ℕ) (p : A → Bool) (items : List A)
     → ((item : A) → p item ≡ true → f item ≡ g item) → list_all p items ≡ true → sum_by f items ≡ sum_by g items
-sum_by-agree f g p [] agree all = refl
-sum_by-agree f g p (item ∷ more) agree all =
-    let first = agree item (and_parts (p item) (list_all p more) all).0 in
-    let others = sum_by-agree f g p more agree (and_parts (p item) (list_all p more) all).1 in
-    rw (sum_by-cons f item more, sum_by-cons g item more, first, others)
+sum_by-agree f g p items agree all =
+    sym (sum-map f items) ∙ ap sum (map-agree f g p items agree all) ∙ sum-map g items
 
 -- A test that fails of all items holds of none.
 pub list_any-none : {A : Type 0} (p q : A → Bool) (items : List A) → ((item : A) → p item ≡ true → q item ≡ false)

@@ -73,6 +73,7 @@ is_nearer : (above : Bool) (before amount : ℕ) → (not above || nat_le before
 is_nearer true before amount is = (refl, grind (arith, nat_tests))
 is_nearer false before amount is = absurd cc
 
+-- Where all players pass a test, the one found nearest above a height passes it, and nobody above is nearer.
 pub nearest-found : (test : Standing → Bool) (below : ℕ) (so_far : Option Standing) (standings : List Standing)
     (best : Standing)
     → IsGoodStart test below so_far → list_all test standings ≡ true → fold (nearer below) so_far standings ≡ Some best

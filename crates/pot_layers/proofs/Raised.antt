@@ -42,6 +42,7 @@ total_to-folded_at (put ∷ more) (suc index) height =
     let others = total_to-folded_at more index height in
     omega (arith, after, before, others)
 
+-- Where a player folds, all that is put in stays the same.
 pub total_put-folded_at : (puts : List Put) (index : ℕ) → total_put (folded_at puts index) ≡ total_put puts
 total_put-folded_at [] index = refl
 total_put-folded_at (put ∷ more) zero =
@@ -53,6 +54,7 @@ total_put-folded_at (put ∷ more) (suc index) =
     let others = total_put-folded_at more index in
     omega (arith, after, before, others)
 
+-- Where a player puts in more, all that is put in grows by that amount.
 pub total_put-put_in_at : (puts : List Put) (index amount : ℕ) → index < length puts
     → total_put (put_in_at puts index amount) ≡ total_put puts + amount
 total_put-put_in_at [] index amount within = absurd (omega arith)
@@ -71,6 +73,7 @@ pub amount-within : (puts : List Put) (index : ℕ) → index < length puts
     → (get_or puts index no_put).amount ≤ total_put puts
 amount-within puts index within = get_or-le-sum_by (λ (put : Put). put.amount) puts index no_put within
 
+-- Where nobody stands nothing is put in, and the total is 0.
 abbrev pub no_standing : Standing
 no_standing = record { put = no_put; total = 0 }
 
@@ -90,6 +93,7 @@ put_in standing amount total =
 abbrev pub folded : Standing → Standing
 folded standing = record { put = record { amount = standing.put.amount; live = false }; total = standing.total }
 
+-- Once one puts in more and the others' totals have grown, only his put is more, by that amount.
 pub puts_of-put_in : (standings : List Standing) (before after index amount total : ℕ)
     → puts_of (set (map (grown before after) standings) index
     (put_in (get_or standings index no_standing) amount total)) ≡ put_in_at (puts_of standings) index amount
@@ -103,6 +107,7 @@ puts_of-put_in (standing ∷ more) before after zero amount total =
 puts_of-put_in (standing ∷ more) before after (suc index) amount total =
     ap (λ puts. standing.put ∷ puts) (puts_of-put_in more before after index amount total)
 
+-- Once one folds, every put is as it was but that his is not live.
 pub puts_of-folded : (standings : List Standing) (index : ℕ)
     → puts_of (set standings index (folded (get_or standings index no_standing))) ≡ folded_at (puts_of standings) index
 puts_of-folded [] index = refl

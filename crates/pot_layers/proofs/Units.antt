@@ -1,41 +1,25 @@
 -- Pots of whole units.
-use Rattle.std.proofs.Common.{◌≡◌, ◌∙◌, ℕ, ◌+◌, ◌-◌, ◌*◌, ◌/◌, ◌%◌, ◌≤◌, List, [], ◌∷◌, ◌++◌, Bool, true, false, min, refl, ap, sym, inl, inr, arith}
+use Rattle.std.proofs.Common.{◌≡◌, ◌∙◌, ℕ, ◌+◌, ◌%◌, List, [], ◌∷◌, ◌++◌, Bool, true, false, min, refl, ap, arith}
 use Rattle.std.specs.Prelude.{◌&&◌, ◌==◌}
 use Rattle.std.specs.List.{list_any}
-use Rattle.std.proofs.Math.Nat.{add-mul-mod_self_right, zero-mod}
-use Rattle.std.proofs.lemmas.Bool.{and_parts, cases_lt}
+use Rattle.std.proofs.Math.Nat.{zero-mod}
+use Rattle.std.proofs.lemmas.Bool.{and_parts}
 use Rattle.std.proofs.lemmas.Bool.Decides.{nat_tests}
-use Rattle.std.proofs.lemmas.Nat.{div-add-mod'}
 use Rattle.std.proofs.lemmas.List.Sums.{sum_by-cons}
+use Rattle.rulebook.proofs.Multiples.{multiple-behind, multiple-min}
 use Rattle.pot_layers.specs.declared.put.Put.{Put}
 use Rattle.pot_layers.specs.declared.pot_list.Pot.{Pot}
 use Rattle.pot_layers.specs.Tallies.{total_put, total_to}
 use Rattle.pot_layers.specs.PotTests.{are_whole_pots, are_whole_puts}
 use Rattle.pot_layers.proofs.Heights.{is_live_at}
 
+-- Chips that are a multiple of the unit pass the test for it.
 pub eqb_true : (n unit : ℕ) → n % unit ≡ 0 → (n % unit == 0) ≡ true
 eqb_true n unit is = grind (arith, nat_tests)
 
+-- Chips that pass the test for whole units are a multiple of the unit.
 pub true_eqb : (n unit : ℕ) → (n % unit == 0) ≡ true → n % unit ≡ 0
 true_eqb n unit is = grind (arith, nat_tests)
-
--- A multiple of the unit added leaves the rest as it is.
-pub plus-whole : (a b unit : ℕ) → b % unit ≡ 0 → (a + b) % unit ≡ a % unit
-plus-whole a b unit whole =
-    let quotient : b ≡ b / unit * unit = omega (arith, div-add-mod' b unit, whole) in
-    ap (λ n. (a + n) % unit) quotient ∙ add-mul-mod_self_right a (b / unit) unit
-
--- What is left of a multiple of the unit less another is one.
-pub whole-minus : (a b unit : ℕ) → b ≤ a → a % unit ≡ 0 → b % unit ≡ 0 → (a - b) % unit ≡ 0
-whole-minus a b unit under whole_a whole_b =
-    let back : a - b + b ≡ a = omega arith in
-    sym (plus-whole (a - b) b unit whole_b) ∙ ap (λ n. n % unit) back ∙ whole_a
-
-whole-min : (a b unit : ℕ) → a % unit ≡ 0 → b % unit ≡ 0 → min a b % unit ≡ 0
-whole-min a b unit whole_a whole_b = elim (cases_lt a b) [
-  | inl under ↦ let is : min a b ≡ a = omega arith in rw is whole_a
-  | inr over ↦ let is : min a b ≡ b = omega arith in rw is whole_b
-]
 
 -- What is put in up to a height that is a multiple of the unit is one.
 pub total_to-whole : (puts : List Put) (height unit : ℕ) → are_whole_puts unit puts ≡ true → height % unit ≡ 0
@@ -44,10 +28,10 @@ total_to-whole [] height unit whole level = zero-mod unit
 total_to-whole (put ∷ more) height unit whole level =
     let others = total_to-whole more height unit (and_parts (put.amount % unit == 0) (are_whole_puts unit more) whole).1
     level in
-    let own = whole-min put.amount height unit
+    let own = multiple-min unit put.amount height
     (true_eqb put.amount unit (and_parts (put.amount % unit == 0) (are_whole_puts unit more) whole).0) level in
     ap (λ n. n % unit) (sum_by-cons (λ (p : Put). min p.amount height) put more)
-    ∙ plus-whole (min put.amount height) (total_to more height) unit others ∙ own
+    ∙ multiple-behind unit (min put.amount height) (total_to more height) others ∙ own
 
 -- All that is put in is a multiple of the unit.
 pub total_put-whole : (puts : List Put) (unit : ℕ) → are_whole_puts unit puts ≡ true → total_put puts % unit ≡ 0
@@ -56,7 +40,7 @@ total_put-whole (put ∷ more) unit whole =
     let others = total_put-whole more unit (and_parts (put.amount % unit == 0) (are_whole_puts unit more) whole).1 in
     let own = true_eqb put.amount unit (and_parts (put.amount % unit == 0) (are_whole_puts unit more) whole).0 in
     ap (λ n. n % unit) (sum_by-cons (λ (p : Put). p.amount) put more)
-    ∙ plus-whole put.amount (total_put more) unit others ∙ own
+    ∙ multiple-behind unit put.amount (total_put more) others ∙ own
 
 -- An amount that a live player has put in is a multiple of the unit.
 pub there-whole : (puts : List Put) (amount unit : ℕ) → are_whole_puts unit puts ≡ true
@@ -84,7 +68,7 @@ pub last-whole : (unit : ℕ) (below : List Pot) (amount more : ℕ) (eligible :
     → are_whole_pots unit (below ++ record { amount = amount + more; eligible = eligible } ∷ []) ≡ true
 last-whole unit [] amount more eligible whole rest =
     let own = true_eqb amount unit (and_parts (amount % unit == 0) true whole).0 in
-    rw (eqb_true (amount + more) unit (plus-whole amount more unit rest ∙ own))
+    rw (eqb_true (amount + more) unit (multiple-behind unit amount more rest ∙ own))
 last-whole unit (pot ∷ below) amount more eligible whole rest =
     let first = (and_parts (pot.amount % unit == 0)
     (are_whole_pots unit (below ++ record { amount = amount; eligible = eligible } ∷ [])) whole).0 in

@@ -5,6 +5,7 @@ use Rattle.std.proofs.Math.Nat.{zero-mod}
 use Rattle.std.proofs.lemmas.Bool.{and_from, and_parts, cases_Bool}
 use Rattle.std.proofs.lemmas.Bool.Decides.{nat_tests}
 use Rattle.std.proofs.lemmas.List.Sums.{sum_by-cons}
+use Rattle.rulebook.proofs.Multiples.{multiple-behind, multiple-sub}
 use Rattle.pot_layers.specs.declared.put.Put.{Put}
 use Rattle.pot_layers.specs.declared.pot_list.Pot.{Pot}
 use Rattle.pot_layers.specs.Layers.{are_same_seats, greatest_put, is_eligible, is_nobody, lay, layers, live_payers, payments, pots_to}
@@ -14,7 +15,7 @@ use Rattle.pot_layers.proofs.Heights.{are_same_seats-self, same_seats-equal, tot
 use Rattle.pot_layers.proofs.ListTests.{map-agree}
 use Rattle.pot_layers.proofs.PotLaws.{list_all-reverse, total_of-pots_to}
 use Rattle.pot_layers.proofs.Stretches.{pot_of}
-use Rattle.pot_layers.proofs.Units.{eqb_true, plus-whole, total_put-whole, total_to-whole, true_eqb, whole-minus}
+use Rattle.pot_layers.proofs.Units.{eqb_true, total_put-whole, total_to-whole, true_eqb}
 
 -- Pots of whole units sum to whole units.
 total-whole : (pots : List Pot) (unit : ℕ) → are_whole_pots unit pots ≡ true → total_of pots % unit ≡ 0
@@ -22,7 +23,7 @@ total-whole [] unit whole = zero-mod unit
 total-whole (pot ∷ pots) unit whole =
     let parts = and_parts (pot.amount % unit == 0) (are_whole_pots unit pots) whole in
     ap (λ (n : ℕ). n % unit) (sum_by-cons (λ (p : Pot). p.amount) pot pots)
-    ∙ plus-whole pot.amount (total_of pots) unit (total-whole pots unit parts.1) ∙ true_eqb pot.amount unit parts.0
+    ∙ multiple-behind unit pot.amount (total_of pots) (total-whole pots unit parts.1) ∙ true_eqb pot.amount unit parts.0
 
 -- The highest pot is of whole units where the others and all together are.
 top-whole : (top : Pot) (below : List Pot) (unit : ℕ) → are_whole_pots unit below ≡ true
@@ -31,7 +32,7 @@ top-whole top below unit others all =
     let parts = sum_by-cons (λ (p : Pot). p.amount) top below in
     let rest : top.amount ≡ total_of (top ∷ below) - total_of below = omega arith in
     eqb_true top.amount unit
-    (ap (λ (n : ℕ). n % unit) rest ∙ whole-minus (total_of (top ∷ below)) (total_of below) unit (omega arith) all
+    (ap (λ (n : ℕ). n % unit) rest ∙ multiple-sub unit (total_of (top ∷ below)) (total_of below) (omega arith) all
     (total-whole below unit others))
 
 -- All pots but the highest are of whole units.

@@ -1,7 +1,9 @@
 pub mod Checks
 pub mod Found
+pub mod Multiples
 pub mod OccupiedSeats
 pub mod Pairs
+pub mod Repeats
 pub mod Rewrites
 pub mod Searches
 pub mod Tests

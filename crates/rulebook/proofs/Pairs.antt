@@ -61,9 +61,14 @@ nobody one other (item ∷ items) none =
     rw (not-true (one item) parts.0) (nobody one other items parts.1)
 
 -- The first passes where somebody does and none of the others.
-first_alone : (first others : Bool) → (first || others) ≡ true → others ≡ false → first ≡ true
+pub first_alone : (first others : Bool) → (first || others) ≡ true → others ≡ false → first ≡ true
 first_alone true others some none = refl
 first_alone false others some none = cc
+
+-- One of the others passes where somebody does and not the first.
+pub others_alone : (first others : Bool) → (first || others) ≡ true → first ≡ false → others ≡ true
+others_alone true others some none = absurd cc
+others_alone false others some none = some
 
 -- Where no two items have one key and some item with a key passes a test, each item with this key does.
 pub distinct-alike : {A K : Type 0} (same : K → K → Bool) (key : A → K) (test : A → Bool) (wanted : K) (items : List A)

@@ -1,11 +1,11 @@
--- Tests that the items of a list pass, and how many of them do.
+-- Tests that the items of a list pass, how many of them do, and sums over them.
 use Rattle.std.proofs.Common.{◌≡◌, refl, ap, sym, ◌∙◌, ℕ, ◌+◌, ◌≤◌, Bool, true, false, cond, List, [], ◌∷◌, ◌++◌, map, Option, Some, None, inl, inr, arith}
-use Rattle.std.specs.Prelude.{◌||◌, ◌==◌, count_by, find, filter}
+use Rattle.std.specs.Prelude.{◌||◌, ◌&&◌, not, ◌==◌, count_by, find, filter, sum_by}
 use Rattle.std.specs.List.{list_any, list_all}
 use Rattle.std.specs.Option.{is_some}
-use Rattle.std.proofs.lemmas.Bool.{and_parts, and_from, or_left, or_right, cases_Bool}
+use Rattle.std.proofs.lemmas.Bool.{and_parts, and_from, or_left, or_right, cases_Bool, eq-eqb}
 use Rattle.std.proofs.lemmas.Bool.Decides.{nat_tests}
-use Rattle.std.proofs.lemmas.List.Folds.{list_all-map}
+use Rattle.std.proofs.lemmas.List.Folds.{list_all-map, fold-map, sum_by-zero}
 use Rattle.std.proofs.lemmas.List.Sums.{sum_by-cons}
 use Rattle.std.proofs.lemmas.Option.{same_Some}
 
@@ -19,9 +19,25 @@ pub count_by-cons : {A : Type 0} (test : A → Bool) (x : A) (xs : List A)
     → count_by test (x ∷ xs) ≡ cond (test x) 1 0 + count_by test xs
 count_by-cons test x xs = sum_by-cons (λ x. cond (test x) 1 0) x xs
 
+-- A sum over a list that is made of another.
+pub sum_by-map : {X Y : Type 0} (f : Y → ℕ) (g : X → Y) (xs : List X) → sum_by f (map g xs) ≡ sum_by (λ x. f (g x)) xs
+sum_by-map f g xs = fold-map (λ (sum : ℕ) y. sum + f y) g 0 xs
+
+-- The sum of sums.
+pub sum_by-plus : {X : Type 0} (f g h : X → ℕ) (xs : List X) → ((x : X) → f x + g x ≡ h x)
+    → sum_by f xs + sum_by g xs ≡ sum_by h xs
+sum_by-plus f g h [] each = refl
+sum_by-plus f g h (x ∷ xs) each =
+    omega (arith, sum_by-cons f x xs, sum_by-cons g x xs, sum_by-cons h x xs, each x, sum_by-plus f g h xs each)
+
 -- Whether two numbers are equal does not depend on their order.
 pub eqb-swap : (a b : ℕ) → (a == b) ≡ (b == a)
 eqb-swap a b = grind (arith, nat_tests)
+
+-- It is not so that one of two holds where neither of them does.
+pub not-or : (one other : Bool) → not (one || other) ≡ (not one && not other)
+not-or true other = refl
+not-or false other = refl
 
 -- All of a list pass a test that everything passes.
 pub list_all-always : {A : Type 0} (test : A → Bool) (xs : List A) → ((x : A) → test x ≡ true)
@@ -44,6 +60,18 @@ pub list_all-follows : {A : Type 0} (one other : A → Bool) (items : List A)
     → ((item : A) → one item ≡ true → other item ≡ true) → list_all one items ≡ true → list_all other items ≡ true
 list_all-follows one other items follows first =
     list_all-both one one other items (λ item passes again. follows item passes) first first
+
+-- Where none counts, none passes.
+pub none_by_count : {A : Type 0} (test : A → Bool) (items : List A) → count_by test items ≡ 0
+    → list_all (λ item. not (test item)) items ≡ true
+none_by_count test items none =
+    list_all-follows (λ item. cond {A = ℕ} (test item) 1 0 == 0) (λ item. not (test item)) items
+    (λ item is. fails (test item) is)
+    (sym (sum_by-zero (λ item. cond (test item) 1 0) items) ∙ eq-eqb (count_by test items) 0 none)
+  where
+    fails : (passes : Bool) → (cond {A = ℕ} passes 1 0 == 0) ≡ true → not passes ≡ true
+    fails true is = is
+    fails false is = refl
 
 -- What passes for all of a list passes for those of it that another test keeps.
 pub list_all-kept : {A : Type 0} (test keep : A → Bool) (items : List A) → list_all test items ≡ true

@@ -42,6 +42,7 @@ module _ {tables seats : ℕ} {slots : List (Option Seated)} {places : List (Opt
   -- a player sits down
   module _ (seated : Seated) (slot index count : ℕ) (at : IsPlaceOf tables seats seated.place)
       (slot_is : slot ≡ slot_of seats seated.place) where
+    -- what holds of a seat book holds once a player who did not sit takes an empty seat
     pub seat-keeps : index ≡ seated.place.table - 1 → count ≡ get_or counts index count → seated.player < MOST_ENTRIES
         → player_at (players_in slots) seated.place ≡ None → place_of (players_in slots) seated.player ≡ None
         → IsKept tables seats (set slots slot (Some seated)) (set places seated.player (Some seated.place))
@@ -51,6 +52,7 @@ module _ {tables seats : ℕ} {slots : List (Option Seated)} {places : List (Opt
         rw (slot_is, index_is, counted.0) (kept-seated tables seats slots places counts statuses seated kept at entry
         empty stands)
 
+    -- a player who takes an empty seat sits in his order among the others
     pub seat-seats : player_at (players_in slots) seated.place ≡ None
         → players_in (set slots slot (Some seated)) ≡ sit_down seated (players_in slots)
     seat-seats empty = rw slot_is (players-seated tables seats slots seated kept.stand kept.room at empty).2
@@ -64,6 +66,7 @@ module _ {tables seats : ℕ} {slots : List (Option Seated)} {places : List (Opt
     in_slot : get_or slots (slot_of seats seated.place) None ≡ Some seated
     in_slot = (slot-numbered tables seats number slots seated kept.stand kept.room found).1
 
+    -- what holds of a seat book holds once a player has left his seat
     pub lift-keeps : index ≡ seated.place.table - 1 → count ≡ get_or counts index count → number < MOST_ENTRIES
         → IsKept tables seats (set slots slot None) (set places number None) (set counts index (count - 1)) statuses
     lift-keeps index_is read entry =
@@ -71,10 +74,12 @@ module _ {tables seats : ℕ} {slots : List (Option Seated)} {places : List (Opt
         rw (slot_is, index_is, counted.0, ← is_his) (kept-lifted tables seats slots places counts statuses seated kept
         at (rw is_his entry) in_slot)
 
+    -- once a player has left his seat the others sit as they did
     pub lift-seats : players_in (set slots slot None) ≡ lifted number (players_in slots)
     lift-seats = rw (slot_is, ← is_his) (players-lifted tables seats slots seated kept.stand kept.room at kept.apart
         in_slot).2
 
+    -- at least one player is counted at the table of a player who is lifted
     pub lift-counted : index ≡ seated.place.table - 1 → count ≡ get_or counts index count → 1 ≤ count
     lift-counted index_is read =
         let counted = count-kept index count kept at.table index_is read in
@@ -95,11 +100,13 @@ module _ {tables seats : ℕ} {slots : List (Option Seated)} {places : List (Opt
   module _ (place : Place) (seated : Seated) (slot stack : ℕ) (read : Option Seated)
       (at : IsPlaceOf tables seats place) (slot_is : slot ≡ slot_of seats place) (is : read ≡ get_or slots slot read)
       (some : read ≡ Some seated) where
+    -- what holds of a seat book holds once the player in a seat has another stack
     pub stack-keeps : IsKept tables seats (set slots slot (Some (record seated { stack = stack }))) places counts
         statuses
     stack-keeps = let here = slot-read slot read kept at slot_is is in rw slot_is
         (kept-stacked tables seats stack slots places counts statuses place seated kept at (here.1 ∙ some))
 
+    -- once the player in a seat gets a stack everyone sits as before, and he has that stack
     pub stack-seats : players_in (set slots slot (Some (record seated { stack = stack }))) ≡ with_stack place stack
         (players_in slots)
     stack-seats = let here = slot-read slot read kept at slot_is is in rw slot_is
@@ -107,11 +114,13 @@ module _ {tables seats : ℕ} {slots : List (Option Seated)} {places : List (Opt
 
   -- a table stands anew
   module _ (table index : ℕ) (at : IsTableOf tables table) (index_is : index ≡ table - 1) where
+    -- what holds of a seat book holds once a table has another lawful status
     pub status-keeps : (status : TableStatus) → IsStatusOf seats status
         → IsKept tables seats slots places counts (set statuses index status)
     status-keeps status lawful = rw index_is (kept-status tables seats table slots places counts statuses status kept
         at lawful)
 
+    -- the status that is read at the index of a table is that of the table
     pub status-read : (read : TableStatus) → read ≡ get_or statuses index read → read ≡ status_at statuses table
     status-read read is =
         let bound = table-bound kept at in

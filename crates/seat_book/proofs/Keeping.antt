@@ -2,9 +2,11 @@
 use Rattle.std.proofs.Common.{◌≡◌, ◌≢◌, ◌∙◌, refl, sym, ap, subst, ℕ, zero, suc, ◌+◌, ◌-◌, ◌*◌, ◌<◌, ◌≤◌, Bool, true, false, cond, ◌==◌, List, [], ◌∷◌, ◌++◌, length, take, drop, replicate, set, get_or, Option, None, Some, inl, inr, arith, length-take, length-set, get_or-set_same, get_or-set_other}
 use Rattle.std.specs.Prelude.{not, find, option_map}
 use Rattle.std.specs.List.{list_all}
-use Rattle.std.proofs.lemmas.Bool.{and_from, and_parts, cases_eq, cases_lt, eqb-true, eq-eqb, ne_eqb, lt-ltb, ltb-true}
-use Rattle.std.proofs.lemmas.List.{length-replicate, get_or_read, set_split, get_or-replicate, get_or_past}
+use Rattle.std.proofs.lemmas.Bool.{and_from, and_parts, cases_eq, eqb-true, eq-eqb, ne_eqb, lt-ltb, ltb-true}
+use Rattle.std.proofs.lemmas.List.{length-replicate, get_or_read, set_split, get_or-replicate}
 use Rattle.rulebook.specs.declared.limits.TheConstants.{MOST_ENTRIES}
+use Rattle.rulebook.proofs.Repeats.{get_or-repeated}
+use Rattle.rulebook.proofs.Tests.{find-all}
 use Rattle.seat_book.specs.declared.place.Place.{Place}
 use Rattle.seat_book.specs.declared.seated.Seated.{Seated}
 use Rattle.seat_book.specs.declared.table_status.TableStatus.{TableStatus}
@@ -15,7 +17,7 @@ use Rattle.seat_book.specs.Tables.{fresh_status, status_at, with_status, IsStatu
 use Rattle.seat_book.specs.Seatings.{is_entry, IsSeating}
 use Rattle.seat_book.specs.Kept.{slot_of, StandsIn, AllStand, IsKept}
 use Rattle.seat_book.proofs.Standing.{stand-empty, stand-moved, stand-take, stand-drop, stand-append, stand-ordered}
-use Rattle.seat_book.proofs.Passing.{none-find, found-all}
+use Rattle.seat_book.proofs.Passing.{none-find}
 use Rattle.seat_book.proofs.Splits.{front_of, back_of, players_in-split, players_in-set, stands-between, sit_down-between, lifted-between, with_stack-there}
 use Rattle.seat_book.proofs.Numbers.{have_not, list_all-parts, list_all-joined, apart-insert, apart-remove, place_of-with, place_of-without, count_at-with}
 use Rattle.seat_book.proofs.Rows.{count_at-most}
@@ -108,7 +110,7 @@ slot-read {tables} {seats} {slots} {places} {counts} {statuses} {place} slot rea
 pub entry-found : (players : List Seated) (place : Place) (seated : Seated) → list_all is_entry players ≡ true
     → player_at players place ≡ Some seated → seated.player < MOST_ENTRIES
 entry-found players place seated entries is = ltb-true seated.player MOST_ENTRIES
-    (found-all (sits_in place) is_entry players seated entries is)
+    (find-all (sits_in place) is_entry players seated is entries)
 
 -- what is kept of a number: the player, his place, and the slot that has him
 pub found-number : {tables seats : ℕ} {slots : List (Option Seated)} {places : List (Option Place)} {counts : List ℕ}
@@ -532,8 +534,4 @@ kept-empty tables seats some_tables most_tables some_seats most_seats = record {
 
     status_at-empty : (table count : ℕ) → status_at (replicate count fresh_status) table ≡ fresh_status
     status_at-empty zero count = refl
-    status_at-empty (suc below) count = elim (cases_lt below count) [
-      | inl within ↦ get_or-replicate count below fresh_status fresh_status within
-      | inr past ↦ get_or_past (replicate count fresh_status) below fresh_status
-          (omega (arith, length-replicate count fresh_status))
-    ]
+    status_at-empty (suc below) count = get_or-repeated count below fresh_status

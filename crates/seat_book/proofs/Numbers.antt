@@ -4,10 +4,9 @@ use Rattle.std.specs.Prelude.{not, find, option_map}
 use Rattle.std.specs.List.{list_all}
 use Rattle.std.specs.Option.{option_or}
 use Rattle.std.proofs.lemmas.Bool.{and_from, and_parts, eqb-true}
-use Rattle.std.proofs.lemmas.Bool.Decides.{nat_tests}
 use Rattle.std.proofs.lemmas.List.Folds.{find-append, list_all-append}
 use Rattle.std.proofs.lemmas.List.Sums.{sum_by-append}
-use Rattle.rulebook.proofs.Tests.{count_by-cons}
+use Rattle.rulebook.proofs.Tests.{count_by-cons, eqb-swap}
 use Rattle.seat_book.specs.declared.seated.Seated.{Seated}
 use Rattle.seat_book.specs.Players.{sits_at, is_numbered, place_of, are_apart}
 use Rattle.seat_book.specs.Counts.{count_at}
@@ -22,13 +21,11 @@ pub list_all-parts : {A : Type 0} (test : A → Bool) (xs ys : List A) → list_
     → (list_all test xs ≡ true) × (list_all test ys ≡ true)
 list_all-parts test xs ys all = and_parts (list_all test xs) (list_all test ys) (sym (list_all-append test xs ys) ∙ all)
 
+-- what all pass of each of two lists, all pass of both
 pub list_all-joined : {A : Type 0} (test : A → Bool) (xs ys : List A) → list_all test xs ≡ true
     → list_all test ys ≡ true → list_all test (xs ++ ys) ≡ true
 list_all-joined test xs ys first others = list_all-append test xs ys
     ∙ and_from (list_all test xs) (list_all test ys) first others
-
-other-way : (a b : ℕ) → not (a == b) ≡ true → not (b == a) ≡ true
-other-way a b apart = grind (arith, nat_tests)
 
 -- one more whose number nobody has
 pub apart-insert : (front back : List Seated) (seated : Seated) → are_apart (front ++ back) ≡ true
@@ -43,7 +40,7 @@ apart-insert (first ∷ front) back seated apart front_none back_none =
     and_from (have_not first.player (front ++ seated ∷ back)) (are_apart (front ++ seated ∷ back))
     (list_all-joined (λ other. not (is_numbered first.player other)) front (seated ∷ back) others.0
     (and_from (not (is_numbered first.player seated)) (have_not first.player back)
-    (other-way first.player seated.player none.0) others.1))
+    (ap not (eqb-swap seated.player first.player) ∙ none.0) others.1))
     (apart-insert front back seated parts.1 none.1 back_none)
 
 -- one less: nobody else has his number, and the others' numbers stay apart
@@ -60,7 +57,7 @@ apart-remove (first ∷ front) back seated apart =
       and_from (have_not first.player (front ++ back)) (are_apart (front ++ back))
           (list_all-joined (λ other. not (is_numbered first.player other)) front back others.0 here.1) rest.0,
       and_from (not (is_numbered seated.player first)) (have_not seated.player front)
-          (other-way seated.player first.player here.0) rest.1,
+          (ap not (eqb-swap first.player seated.player) ∙ here.0) rest.1,
       rest.2,
     )
 

@@ -1,28 +1,9 @@
 -- Lists all of whose elements pass a test.
-use Rattle.std.proofs.Common.{◌≡◌, refl, ap, ℕ, Bool, true, false, List, [], ◌∷◌, map, length, None, Some, arith}
+use Rattle.std.proofs.Common.{◌≡◌, refl, ap, Bool, true, false, List, [], ◌∷◌, map, length, None, Some, sym, ◌∙◌}
 use Rattle.std.specs.Prelude.{not, count_by, filter, find}
 use Rattle.std.specs.List.{list_all}
-use Rattle.std.proofs.lemmas.Bool.{and_parts, and_from, cond-true, cond-false, not-true}
-use Rattle.rulebook.proofs.Tests.{count_by-cons, find-all}
-
--- where all pass, all count
-pub count_by-all : {A : Type 0} (test : A → Bool) (xs : List A) → list_all test xs ≡ true → count_by test xs ≡ length xs
-count_by-all test [] all = refl
-count_by-all test (x ∷ xs) all =
-    let parts = and_parts (test x) (list_all test xs) all in
-    let one = count_by-cons test x xs in
-    let here = cond-true {A = ℕ} (test x) 1 0 parts.0 in
-    omega (arith, one, here, count_by-all test xs parts.1)
-
--- where none passes, none counts
-pub count_by-none : {A : Type 0} (test : A → Bool) (xs : List A) → list_all (λ x. not (test x)) xs ≡ true
-    → count_by test xs ≡ 0
-count_by-none test [] none = refl
-count_by-none test (x ∷ xs) none =
-    let parts = and_parts (not (test x)) (list_all (λ x. not (test x)) xs) none in
-    let one = count_by-cons test x xs in
-    let here = cond-false {A = ℕ} (test x) 1 0 (not-true (test x) parts.0) in
-    omega (arith, one, here, count_by-none test xs parts.1)
+use Rattle.std.proofs.lemmas.Bool.{and_parts, and_from, not-true}
+use Rattle.std.proofs.lemmas.List.Sums.{length-filter}
 
 -- where none passes, none is found
 pub find-none : {A : Type 0} (test : A → Bool) (xs : List A) → list_all (λ x. not (test x)) xs ≡ true
@@ -59,6 +40,15 @@ filter-none test (x ∷ xs) none =
     let parts = and_parts (not (test x)) (list_all (λ x. not (test x)) xs) none in
     rw (not-true (test x) parts.0) (filter-none test xs parts.1)
 
+-- where all pass, all count
+pub count_by-all : {A : Type 0} (test : A → Bool) (xs : List A) → list_all test xs ≡ true → count_by test xs ≡ length xs
+count_by-all test xs all = sym (length-filter test xs) ∙ ap length (filter-all test xs all)
+
+-- where none passes, none counts
+pub count_by-none : {A : Type 0} (test : A → Bool) (xs : List A) → list_all (λ x. not (test x)) xs ≡ true
+    → count_by test xs ≡ 0
+count_by-none test xs none = sym (length-filter test xs) ∙ ap length (filter-none test xs none)
+
 -- where each element that passes stays, the list stays
 pub map-fixed : {A : Type 0} (test : A → Bool) (change : A → A) (xs : List A)
     → ((x : A) → test x ≡ true → change x ≡ x) → list_all test xs ≡ true → map change xs ≡ xs
@@ -66,8 +56,3 @@ map-fixed test change [] fixed all = refl
 map-fixed test change (x ∷ xs) fixed all =
     let parts = and_parts (test x) (list_all test xs) all in
     rw (fixed x parts.0) (ap (λ rest. x ∷ rest) (map-fixed test change xs fixed parts.1))
-
--- what is found passes each test that all pass
-pub found-all : {A : Type 0} (test other : A → Bool) (xs : List A) (found : A) → list_all other xs ≡ true
-    → find test xs ≡ Some found → other found ≡ true
-found-all test other xs found all is = find-all test other xs found is all

@@ -57,10 +57,12 @@ pub before-apart : (a b x y : ℕ) → comes_before (record { table = a; seat = 
     (record { table = x; seat = y }) ≡ true → (a == x && b == y) ≡ false
 before-apart a b x y before = grind (arith, nat_tests)
 
+-- A place is not the same as one that comes before it.
 pub before-other : (a b x y : ℕ) → comes_before (record { table = a; seat = b })
     (record { table = x; seat = y }) ≡ true → (x == a && y == b) ≡ false
 before-other a b x y before = grind (arith, nat_tests)
 
+-- A place does not come before one that comes before it.
 pub before-back : (a b x y : ℕ) → comes_before (record { table = a; seat = b }) (record { table = x; seat = y }) ≡ true
     → comes_before (record { table = x; seat = y }) (record { table = a; seat = b }) ≡ false
 before-back a b x y before = grind (arith, nat_tests)

@@ -5,6 +5,7 @@ use Rattle.std.specs.List.{list_all, cons_option}
 use Rattle.std.proofs.lemmas.Bool.{and_parts, leb-true, eq-eqb}
 use Rattle.std.proofs.lemmas.Bool.Decides.{nat_tests}
 use Rattle.std.proofs.lemmas.Nat.{mul-add-lt}
+use Rattle.rulebook.proofs.Tests.{find-all}
 use Rattle.seat_book.specs.declared.place.Place.{Place}
 use Rattle.seat_book.specs.declared.seated.Seated.{Seated}
 use Rattle.seat_book.specs.Places.{comes_before, is_place_of, IsPlaceOf}
@@ -13,7 +14,6 @@ use Rattle.seat_book.specs.Seatings.{sits_within}
 use Rattle.seat_book.specs.Kept.{slot_of, StandsIn, AllStand}
 use Rattle.seat_book.proofs.PlaceOrder.{same-place}
 use Rattle.seat_book.proofs.Standing.{list_all-stand, stands-within}
-use Rattle.seat_book.proofs.Passing.{found-all}
 use Rattle.seat_book.proofs.Splits.{front_of, back_of, players_in-split, StandsBetween, stands-between, player_at-empty, player_at-there}
 use Rattle.seat_book.proofs.Numbers.{found-append}
 
@@ -109,15 +109,15 @@ pub found-slot : (number : ℕ) (front back : List Seated) (slot : Option Seated
     → slot ≡ Some seated
 found-slot number front back None seated between is =
     elim (found-append (is_numbered number) front back seated is) [
-      | inl first ↦ absurd (no_self seated.place (found-all (is_numbered number)
-          (λ other. comes_before other.place seated.place) front seated between.before first))
-      | inr last ↦ absurd (no_self seated.place (found-all (is_numbered number)
-          (λ other. comes_before seated.place other.place) back seated between.after last))
+      | inl first ↦ absurd (no_self seated.place (find-all (is_numbered number)
+          (λ other. comes_before other.place seated.place) front seated first between.before))
+      | inr last ↦ absurd (no_self seated.place (find-all (is_numbered number)
+          (λ other. comes_before seated.place other.place) back seated last between.after))
     ]
 found-slot number front back (Some here) seated between is =
     elim (found-append (is_numbered number) front (here ∷ back) seated is) [
-      | inl first ↦ absurd (no_self seated.place (found-all (is_numbered number)
-          (λ other. comes_before other.place seated.place) front seated between.before first))
+      | inl first ↦ absurd (no_self seated.place (find-all (is_numbered number)
+          (λ other. comes_before other.place seated.place) front seated first between.before))
       | inr last ↦ by_number (is_numbered number here) refl last
     ]
   where
@@ -125,16 +125,16 @@ found-slot number front back (Some here) seated between is =
         → Some here ≡ Some seated
     by_number true is found = rw is at found
     by_number false is found = let last : find (is_numbered number) back ≡ Some seated = rw is at found in
-        absurd (no_self seated.place (found-all (is_numbered number) (λ other. comes_before seated.place other.place)
-        back seated between.after last))
+        absurd (no_self seated.place (find-all (is_numbered number) (λ other. comes_before seated.place other.place)
+        back seated last between.after))
 
 -- the place of a number is one that the tables have, and its slot has the player
 pub slot-numbered : (tables seats number : ℕ) (slots : List (Option Seated)) (seated : Seated)
     → AllStand seats 0 slots → length slots ≡ tables * seats → player_of (players_in slots) number ≡ Some seated
     → IsPlaceOf tables seats seated.place × (get_or slots (slot_of seats seated.place) None ≡ Some seated)
 slot-numbered tables seats number slots seated stand room is =
-    let at = IsPlaceOf-test tables seats seated.place (found-all (is_numbered number) (sits_within tables seats)
-    (players_in slots) seated (all-within tables seats slots stand room) is) in
+    let at = IsPlaceOf-test tables seats seated.place (find-all (is_numbered number) (sits_within tables seats)
+    (players_in slots) seated is (all-within tables seats slots stand room)) in
     let slot = slot-within tables seats seated.place at in
     let within : slot_of seats seated.place < length slots = omega (arith, slot, room) in
     let parts = players_in-split (slot_of seats seated.place) slots within in (

@@ -19,6 +19,7 @@ use Rattle.showdown.proofs.Writes.{seats-hands_of}
 use Rattle.showdown.proofs.PotAwards.{list_all-get, some-in_play}
 use Rattle.showdown.proofs.AwardLaws.{IsPotAt}
 
+-- Once the next pot is awarded after the first ones, the awards are those of the first pots and that pot.
 pub awards_of-more : (hands : List (Option Hand)) (unit button seats : ℕ) (pots : List Pot) (index : ℕ) (pot : Pot)
     → index < length pots → slice_get pots index ≡ Some pot
     → award_pot hands unit button seats (awards_of hands unit button seats (take index pots)) pot
@@ -30,12 +31,14 @@ awards_of-more hands unit button seats pots index pot within is =
     (fold (award_pot hands unit button seats) (replicate 10 0) (take index pots)))
     (get_or_from_slice_get pots index pot pot is))
 
+-- The first pots and the next one come to the chips of the first pots and those of the next.
 pub total_of-more : (pots : List Pot) (index : ℕ) (pot : Pot) → index < length pots → slice_get pots index ≡ Some pot
     → total_of (take (index + 1) pots) ≡ total_of (take index pots) + pot.amount
 total_of-more pots index pot within is =
     sum_by_more (λ (p : Pot). p.amount) pots index pot within
     ∙ ap (λ (p : Pot). total_of (take index pots) + p.amount) (get_or_from_slice_get pots index pot pot is)
 
+-- The first pots and the next one come to no more chips than all pots.
 pub total_of-within : (pots : List Pot) (index : ℕ) (pot : Pot) → index < length pots → slice_get pots index ≡ Some pot
     → total_of (take index pots) + pot.amount ≤ total_of pots
 total_of-within pots index pot within is =

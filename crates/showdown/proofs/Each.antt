@@ -4,6 +4,8 @@ use Rattle.std.specs.Prelude.{◌==◌, ◌||◌, not, map, fold, Option, is_som
 use Rattle.std.specs.List.{list_all}
 use Rattle.std.proofs.Math.Nat.{div-add-mod, mul-add-mod_self_left, zero-mod}
 use Rattle.std.proofs.lemmas.Bool.{and_from, and_parts, eqb-true, not-true}
+use Rattle.rulebook.proofs.Pairs.{first_alone}
+use Rattle.rulebook.proofs.Repeats.{get_or-repeated}
 use Rattle.button_blinds.specs.SeatSets.{has_seat, seat_count}
 use Rattle.pot_layers.specs.declared.pot_list.Pot.{Pot}
 use Rattle.pot_layers.specs.Layers.{are_same_seats}
@@ -25,6 +27,7 @@ length-pots hands unit button seats awards (pot ∷ pots) =
     length-pots hands unit button seats (award_pot hands unit button seats awards pot) pots
     ∙ length-award_pot hands unit button seats awards pot
 
+-- There are ten awards once all pots are awarded.
 pub length-awards_of : (hands : List (Option Hand)) (unit button seats : ℕ) (pots : List Pot)
     → length (awards_of hands unit button seats pots) ≡ 10
 unfolding awards_of
@@ -122,12 +125,8 @@ out-of_all (is_in ∷ more) [] zero all out = let parts =
 out-of_all (is_in ∷ more) [] (suc index) all out =
     let parts = and_parts (not is_in) (are_all_in more []) all in out-of_all more [] index parts.1 refl
 out-of_all (is_in ∷ more) (other ∷ others) zero all out =
-    let parts = and_parts (not is_in || other) (are_all_in more others) all in either is_in other parts.0 out
-  where
-    either : (b c : Bool) → (not b || c) ≡ true → c ≡ false → b ≡ false
-    either true true is out = absurd cc
-    either true false is out = absurd cc
-    either false c is out = refl
+    let parts = and_parts (not is_in || other) (are_all_in more others) all in
+    not-true is_in (first_alone (not is_in) other parts.0 out)
 out-of_all (is_in ∷ more) (other ∷ others) (suc index) all out =
     let parts = and_parts (not is_in || other) (are_all_in more others) all in out-of_all more others index parts.1 out
 
@@ -141,15 +140,10 @@ none-pots hands unit button seats awards (pot ∷ pots) index out own =
     ∙ award_pot-other hands unit button seats awards pot index
     (out-of_all pot.eligible (map is_some hands) index parts.0 out)
 
-none-replicate : (count index : ℕ) → get_or (replicate count zero) index zero ≡ zero
-none-replicate zero index = refl
-none-replicate (suc count) zero = refl
-none-replicate (suc count) (suc index) = none-replicate count index
-
 -- Where nobody has a hand nothing is awarded.
 pub none-awards_of : (hands : List (Option Hand)) (unit button seats : ℕ) (pots : List Pot) (index : ℕ)
     → has_seat (map is_some hands) (suc index) ≡ false → are_for (map is_some hands) pots ≡ true
     → get_or (awards_of hands unit button seats pots) index 0 ≡ 0
 unfolding awards_of
 none-awards_of hands unit button seats pots index out own =
-    none-pots hands unit button seats (replicate 10 0) pots index out own ∙ none-replicate 10 index
+    none-pots hands unit button seats (replicate 10 0) pots index out own ∙ get_or-repeated 10 index 0

@@ -4,7 +4,7 @@ use Rattle.std.specs.Prelude.{nat_le, sum}
 use Rattle.std.specs.List.{list_all}
 use Rattle.std.proofs.lemmas.Bool.{and_parts, leb-true}
 use Rattle.std.proofs.lemmas.Bool.Decides.{nat_tests}
-use Rattle.std.proofs.lemmas.List.Sums.{sum_by-set, get_or-le-sum_by}
+use Rattle.std.proofs.lemmas.List.Sums.{sum_by-set}
 use Rattle.pot_layers.specs.Shares.{share_of, sum_below}
 use Rattle.pot_layers.proofs.ShareLaws.{sum_below-share_of}
 use Rattle.showdown.specs.Awards.{is_seat, award_to, pay_in_turn}
@@ -72,7 +72,3 @@ shares-within amount unit count index within whole =
     let grows = sum_below-grows (share_of amount unit count) (suc index) count (omega arith) in
     let all = sum_below-share_of amount unit count (omega arith) whole in
     omega (arith, grows, all)
-
--- An award is within the sum of all.
-pub award-within : (awards : List ℕ) (index : ℕ) → index < length awards → get_or awards index 0 ≤ sum awards
-award-within awards index within = get_or-le-sum_by (λ (n : ℕ). n) awards index 0 within

@@ -4,6 +4,7 @@ use Rattle.std.specs.Cmp.Lexicographic.{pointwise}
 use mathlib.Core.Bool.{beq}
 use Rattle.pot_layers.specs.Layers.{are_same_seats}
 
+-- Two sets agree seat by seat exactly where they have the same seats.
 pub pointwise-same : (one other : List Bool) → pointwise beq one other ≡ are_same_seats one other
 pointwise-same [] [] = refl
 pointwise-same [] (o ∷ others) = refl

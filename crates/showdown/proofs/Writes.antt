@@ -1,5 +1,5 @@
 -- A list that is written item by item.
-use Rattle.std.proofs.Common.{◌≡◌, ◌∙◌, ℕ, zero, suc, ◌+◌, ◌<◌, List, [], ◌∷◌, ◌++◌, Bool, true, false, cond, Some, None, length, get_or, set, take, drop, add-one, refl, ap, sym, arith}
+use Rattle.std.proofs.Common.{◌≡◌, ℕ, zero, suc, ◌<◌, List, [], ◌∷◌, ◌++◌, Bool, true, false, cond, Some, None, length, get_or, take, drop, refl, ap, arith}
 use Rattle.std.specs.Prelude.{Option, map, option_map, is_some, replicate}
 use Rattle.std.proofs.lemmas.List.{length-map}
 use Rattle.card_set.specs.declared.card.Card.{Card}
@@ -8,24 +8,6 @@ use Rattle.showdown.specs.declared.live.Live.{Live}
 use Rattle.showdown.specs.Hands.{hand_of, hands_of}
 use Rattle.showdown.specs.declared.hand.Hand.{Hand}
 use Rattle.showdown.specs.Winners.{in_play}
-
-written : {A : Type 0} (target before : List A) (index : ℕ) (value other : A) → index < length target
-    → length target ≡ length before → value ≡ get_or target index other
-    → set (take index target ++ drop index before) index value ≡ take (suc index) target ++ drop (suc index) before
-written [] before index value other within same is = absurd (omega arith)
-written (item ∷ more) [] index value other within same is = absurd (omega arith)
-written (item ∷ more) (old ∷ olds) zero value other within same is = rw is
-written (item ∷ more) (old ∷ olds) (suc index) value other within same is =
-    ap (λ items. item ∷ items) (written more olds index value other (omega arith) (omega arith) is)
-
--- The next item of a list is written.
-pub written-next : {A : Type 0} (target before now : List A) (index : ℕ) (value other : A)
-    → now ≡ take index target ++ drop index before → index < length target → length target ≡ length before
-    → value ≡ get_or target index other
-    → set now index value ≡ take (index + 1) target ++ drop (index + 1) before
-written-next target before now index value other so_far within same is =
-    ap (λ items. set items index value) so_far ∙ written target before index value other within same is
-    ∙ ap (λ n. take n target ++ drop n before) (sym (add-one index))
 
 -- As many hands are in play as there are seats.
 pub length-in_play : (eligible : List Bool) (hands : List (Option Hand))
@@ -76,6 +58,7 @@ hands_of-at game board [] index other within = absurd (omega arith)
 hands_of-at game board (first ∷ more) zero other within = refl
 hands_of-at game board (first ∷ more) (suc index) other within = hands_of-at game board more index other (omega arith)
 
+-- The list of hands is as long as the list of live players that they are made of.
 pub length-hands_of : (game : Game) (board : List Card) (live : List (Option Live))
     → length (hands_of game board live) ≡ length live
 unfolding hands_of

@@ -1,12 +1,11 @@
 -- The chips of a hand are kept.
-use Rattle.std.proofs.Common.{◌≡◌, ◌∙◌, ℕ, ◌+◌, ◌*◌, List, [], ◌∷◌, map, Bool, true, false, cond, sum, Some, None, refl, ap, sym, le_of_eq, arith}
+use Rattle.std.proofs.Common.{◌≡◌, ◌∙◌, ℕ, ◌+◌, ◌*◌, List, [], ◌∷◌, map, Bool, true, false, cond, sum, Some, None, refl, ap, sym, arith}
 use Rattle.std.specs.Prelude.{Option, ◌==◌, find, length, nat_le, sum_by, count_by}
 use Rattle.std.specs.List.{list_all}
 use Rattle.std.specs.Option.{is_some, option_map_or}
-use Rattle.std.proofs.Math.Nat.{le_antisymm}
 use Rattle.std.proofs.lemmas.Bool.{and_from, and_parts, eqb-true, le-leb}
-use Rattle.std.proofs.lemmas.List.Sums.{sum-map, sum_by-cons, sum_by-le-sum_by}
-use Rattle.rulebook.proofs.Tests.{list_all-always}
+use Rattle.std.proofs.lemmas.List.Sums.{sum-map, sum_by-cons}
+use Rattle.rulebook.proofs.Tests.{list_all-always, sum_by-plus}
 use Rattle.betting_round.specs.declared.bettor.Player.{Player}
 use Rattle.betting_round.specs.StreetActs.{street_after, sum_over}
 use Rattle.betting_round.specs.WhoIsDue.{is_live, is_there, player_in}
@@ -18,18 +17,6 @@ use Rattle.table_engine.specs.Plays.{IsLawfulPlay}
 use Rattle.table_engine.specs.Results.{pot, award, is_won_by_folds, starting_stacks}
 use Rattle.table_engine.proofs.BySeat.{AreFound, found-all, found-within, number_of, player_in-there, sum-of_street, there-at}
 use Rattle.table_engine.proofs.Sound.{AreThere, IsSound, sound-play}
-
--- A sum over a list that is made of another.
-pub sum_by-map : {X Y : Type 0} (f : Y → ℕ) (g : X → Y) (xs : List X) → sum_by f (map g xs) ≡ sum_by (λ x. f (g x)) xs
-sum_by-map f g [] = refl
-sum_by-map f g (x ∷ xs) = rw (sum_by-cons f (g x) (map g xs), sum_by-cons (λ y. f (g y)) x xs, sum_by-map f g xs)
-
--- The sum of sums.
-pub sum_by-plus : {X : Type 0} (f g h : X → ℕ) (xs : List X) → ((x : X) → f x + g x ≡ h x)
-    → sum_by f xs + sum_by g xs ≡ sum_by h xs
-sum_by-plus f g h [] each = refl
-sum_by-plus f g h (x ∷ xs) each =
-    omega (arith, sum_by-cons f x xs, sum_by-cons g x xs, sum_by-cons h x xs, each x, sum_by-plus f g h xs each)
 
 -- A player of a hand as he stands: he is on its street, and has the stack with which he began in two parts.
 pub record Stands (hand : HandTerms) (player : StartSeat) (now : Player) : Type 0 where
@@ -102,6 +89,7 @@ chips-by hand lawful play =
     let stack = his.1.stack in
     omega arith)
 
+-- What all players have behind and what they have put in come to the sum of the list of their starting stacks.
 pub chips-in_play : (hand : HandTerms) → IsLawfulStart hand.start → IsLawfulPlay hand
     → sum_by (behind hand) hand.start.seats + sum_by (put_in_hand hand) hand.start.seats ≡ sum (starting_stacks hand)
 chips-in_play hand lawful play = chips-by hand lawful play
@@ -188,10 +176,10 @@ one-gets hand lawful play won =
     let of_one : StartSeat → ℕ = number_of (λ (player : Player). cond player.bettor.live (pot hand) 0) slots in
     let each : (player : StartSeat) → award hand player ≡ of_one player =
     λ player. rw won (award-slot (player_in slots player.seat) (pot hand)) in
-    let up = sum_by-le-sum_by (award hand) of_one hand.start.seats (λ player. le_of_eq (each player)) in
-    let down = sum_by-le-sum_by of_one (award hand) hand.start.seats (λ player. le_of_eq (sym (each player))) in
+    let same : sum_by (award hand) hand.start.seats ≡ sum_by of_one hand.start.seats =
+    λ i. sum_by (λ player. each player i) hand.start.seats in
     let once : 1 * pot hand ≡ pot hand = omega arith in
-    le_antisymm up down ∙ by_slots ∙ sum-live (pot hand) slots ∙ ap (λ (n : ℕ). n * pot hand) one ∙ once
+    same ∙ by_slots ∙ sum-live (pot hand) slots ∙ ap (λ (n : ℕ). n * pot hand) one ∙ once
   where
     award-slot : (slot : Option Player) (n : ℕ)
         → cond (option_map_or (λ (player : Player). player.bettor.live) slot false) n 0

@@ -7,6 +7,8 @@ use Rattle.std.proofs.Math.Nat.{zero-mod}
 use Rattle.std.proofs.lemmas.Bool.{and_parts, cases_Bool}
 use Rattle.std.proofs.lemmas.List.Folds.{list_all-map}
 use Rattle.std.proofs.lemmas.List.Sums.{sum-map}
+use Rattle.rulebook.proofs.Multiples.{multiple-add}
+use Rattle.rulebook.proofs.Tests.{sum_by-map, sum_by-plus}
 use Rattle.betting_round.specs.declared.bettor.Player.{Player}
 use Rattle.betting_round.specs.WhoIsDue.{player_in}
 use Rattle.pot_layers.proofs.Units.{eqb_true, true_eqb}
@@ -18,11 +20,10 @@ use Rattle.table_engine.specs.Plays.{IsLawfulPlay}
 use Rattle.table_engine.specs.Results.{award, is_won_by_folds, players_after, pot, showdown_awards, stack_after_hand, stacks_after_hand, starting_stacks, with_stack}
 use Rattle.table_engine.specs.Starts.{IsLawfulStart, chips_of, is_playable_stack}
 use Rattle.table_engine.proofs.BySeat.{found-all, found-within, player_in-there}
-use Rattle.table_engine.proofs.Chips.{all-found, chips-in_play, map-found, one-gets, stands, sum_by-map, sum_by-plus}
+use Rattle.table_engine.proofs.Chips.{all-found, chips-in_play, map-found, one-gets, stands}
 use Rattle.table_engine.proofs.Showdowns.{awards-whole, is-showdown, showdown-gets}
 use Rattle.table_engine.proofs.Sound.{sound-play}
 use Rattle.table_engine.proofs.StacksAfter.{pot-whole}
-use Rattle.table_engine.proofs.Units.{multiple-add}
 
 -- What the players of a hand that is over get sums to the pot.
 pub gets-pot : (hand : HandTerms) → IsLawfulStart hand.start → IsLawfulPlay hand → is_over hand ≡ true

@@ -182,6 +182,7 @@ pub record ArePots (hand : HandTerms) : Type 0 where
   pub somebody : have_somebody (layers (puts_in_hand hand)) ≡ true
   pub units : are_whole_pots hand.start.unit (layers (puts_in_hand hand)) ≡ true
 
+-- A hand that comes to a showdown has pots of whole units for its live players, and somebody may win each.
 pub are-pots : (hand : HandTerms) → IsShowdown hand → ArePots hand
 are-pots hand showdown = record {
   own = subst (λ (set : List Bool). are_for set (layers (puts_in_hand hand)) ≡ true) (sym showdown.alike)

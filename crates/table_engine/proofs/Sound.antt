@@ -8,9 +8,11 @@ use Rattle.std.proofs.lemmas.Bool.Decides.{nat_tests}
 use Rattle.std.proofs.lemmas.List.{length-map}
 use Rattle.std.proofs.lemmas.List.Sums.{sum_by-cons}
 use Rattle.card_set.specs.declared.game.Game.{Game}
+use Rattle.card_set.proofs.Steps.{map_found}
 use Rattle.card_set.specs.declared.game.Game.TheVariants.{Holdem, Omaha, Hilo}
 use Rattle.floor_text.specs.declared.refusal.Refusal.TheVariants.{NotDealt}
 use Rattle.rulebook.proofs.Found.{none-by_test}
+use Rattle.rulebook.proofs.Multiples.{multiple-add, multiple-max, multiple-sub}
 use Rattle.betting_round.specs.declared.act.Act.{Act}
 use Rattle.betting_round.specs.declared.act.Act.TheVariants.{Fold, Check, Call, AllIn, Bet, Raise}
 use Rattle.betting_round.specs.declared.bettor.Bettor.{Bettor}
@@ -38,7 +40,6 @@ use Rattle.table_engine.proofs.BySeat.{along-at, along-past, player_in-there, su
 use Rattle.table_engine.proofs.Refusals.{refused-in_seat, refused-without_seat}
 use Rattle.table_engine.proofs.Standings.{lawful-small, ready-act, ready-start, right-next, somes-made, somes-street, streets-more, streets-none}
 use Rattle.table_engine.proofs.Starts.{right-first}
-use Rattle.table_engine.proofs.Units.{multiple-add, multiple-max, multiple-sub}
 use Rattle.table_engine.proofs.WholeUnits.{amount-whole, blinds-lawful, found-playable, posted-whole}
 
 -- What the player in a seat has put in on all streets so far.
@@ -263,12 +264,6 @@ sound-act start streets acts seat act sound free =
               (put_by_seat other after) other found grows (omega arith) (sound.each other found low elsewhere.1))
         ]
 
--- Who is at an index of a table that is made of another is made of who is there.
-made-from : {A B : Type 0} (f : A → B) (slot : Option A) (found : B) → option_map f slot ≡ Some found
-    → (was : A) × ((slot ≡ Some was) × (found ≡ f was))
-made-from f None found is = absurd cc
-made-from f (Some was) found is = let same : found ≡ f was = cc in (was, (refl, same))
-
 -- The greatest number is at least the least, and the least where no number is greater.
 pub greatest-least : {A : Type 0} (least : ℕ) (number : A → ℕ) (slots : List (Option A))
     → least ≤ greatest least number slots
@@ -323,11 +318,11 @@ each-next start streets acts seat now sound low there =
     ≡ option_map fresh (option_map at_next_street (player_at street.players seat)) =
     ap (λ (s : Street). player_at s.players seat) (street_start_is next) ∙ map_at fresh (seat - 1) (next_bettors street)
     ∙ ap (option_map fresh) (map_at at_next_street (seat - 1) street.players) in
-    let one = made-from fresh (option_map at_next_street (player_at street.players seat)) now (sym slots ∙ there) in
-    let two = made-from at_next_street (player_at street.players seat) one.0 one.1.0 in
+    let one = map_found fresh (option_map at_next_street (player_at street.players seat)) now (sym slots ∙ there) in
+    let two = map_found at_next_street (player_at street.players seat) one.0 one.1 in
     let was = two.0 in
-    let his = sound.each seat was low two.1.0 in
-    let is : now ≡ fresh (at_next_street was) = one.1.1 ∙ ap fresh two.1.1 in
+    let his = sound.each seat was low two.1 in
+    let is : now ≡ fresh (at_next_street was) = sym (ap fresh two.2 ∙ one.2) in
     let put = ap (λ (p : Player). p.bettor.put) is in
     let mine = put_from-there after.last seat now low there in
     let before = sum_by-cons (put_from seat) streets.last streets.before in
@@ -415,12 +410,12 @@ each-first start seat now lawful low there =
     ≡ option_map fresh (option_map (seated start) (slice_index_or (players_by_seat start) (seat - 1) None)) =
     ap (λ (s : Street). player_at s.players seat) began ∙ map_at fresh (seat - 1) first.bettors
     ∙ ap (option_map fresh) (map_at (seated start) (seat - 1) (players_by_seat start)) in
-    let one = made-from fresh (option_map (seated start) (slice_index_or (players_by_seat start) (seat - 1) None)) now
+    let one = map_found fresh (option_map (seated start) (slice_index_or (players_by_seat start) (seat - 1) None)) now
     (sym slots ∙ there) in
-    let two = made-from (seated start) (slice_index_or (players_by_seat start) (seat - 1) None) one.0 one.1.0 in
+    let two = map_found (seated start) (slice_index_or (players_by_seat start) (seat - 1) None) one.0 one.1 in
     let player = two.0 in
-    let is : now ≡ fresh (seated start player) = one.1.1 ∙ ap fresh two.1.1 in
-    let found = listed-at start seat player low two.1.0 in
+    let is : now ≡ fresh (seated start player) = sym (ap fresh two.2 ∙ one.2) in
+    let found = listed-at start seat player low two.1 in
     let blinds = blinds-lawful start lawful in
     let stack = found-playable start seat player lawful found in
     let posted_so = posted-whole start player blinds stack.1 in

@@ -62,11 +62,13 @@ pub numbers-after : (hand : HandTerms) → map (λ player. player.player) (playe
 numbers-after hand = same-whatever_stack (λ player. player.player) (stack_after_hand hand) hand.start.seats
     (λ player stack. refl)
 
+-- After the hand the players have the names that they had, in the same order.
 pub names-after : (hand : HandTerms) → map (λ player. player.name) (players_after hand)
     ≡ map (λ player. player.name) hand.start.seats
 names-after hand = same-whatever_stack (λ player. player.name) (stack_after_hand hand) hand.start.seats
     (λ player stack. refl)
 
+-- After the hand the players have the seats that they had, in the same order.
 pub seats-after : (hand : HandTerms) → map (λ player. player.seat) (players_after hand)
     ≡ map (λ player. player.seat) hand.start.seats
 seats-after hand = same-whatever_stack (λ player. player.seat) (stack_after_hand hand) hand.start.seats

@@ -100,12 +100,15 @@ lawful-tests start lawful =
     four-hold (nat_le 1 start.unit) (nat_le 1 start.small) (nat_le start.small start.big) (nat_le start.big 1000000000)
     (start.small % start.unit == 0 && start.big % start.unit == 0) lawful.blinds
 
+-- The big blind of a lawful start is at most 1000000000 chips.
 pub lawful-big : (start : HandStart) → IsLawfulStart start → start.big ≤ 1000000000
 lawful-big start lawful = leb-true start.big 1000000000 (lawful-tests start lawful).3
 
+-- The small blind of a lawful start is at most the big blind.
 pub lawful-small : (start : HandStart) → IsLawfulStart start → start.small ≤ start.big
 lawful-small start lawful = leb-true start.small start.big (lawful-tests start lawful).2
 
+-- The unit of a lawful start is at least one chip.
 pub lawful-unit : (start : HandStart) → IsLawfulStart start → 1 ≤ start.unit
 lawful-unit start lawful = leb-true 1 start.unit (lawful-tests start lawful).0
 

@@ -6,6 +6,7 @@ use Rattle.std.proofs.lemmas.Bool.{and_parts, cases_Bool, cases_lt}
 use Rattle.std.proofs.lemmas.Bool.Decides.{nat_tests}
 use Rattle.rulebook.proofs.Checks.{none_holds}
 use Rattle.rulebook.proofs.Tests.{find-all}
+use Rattle.rulebook.proofs.Multiples.{multiple-min, multiple-sub}
 use Rattle.betting_round.specs.declared.act.Act.{Act}
 use Rattle.betting_round.specs.declared.act.Act.TheVariants.{Fold, Check, Call, AllIn, Bet, Raise}
 use Rattle.betting_round.specs.declared.bettor.Player.{Player}
@@ -19,7 +20,6 @@ use Rattle.table_engine.specs.declared.start.HandStart.{HandStart}
 use Rattle.table_engine.specs.declared.start.StartSeat.{StartSeat}
 use Rattle.table_engine.specs.Starts.{IsLawfulStart, is_playable_stack}
 use Rattle.table_engine.specs.Hands.{blind_of, player_of, posted}
-use Rattle.table_engine.proofs.Units.{multiple-min, multiple-sub}
 
 is-whole : (n unit : ℕ) → not (not (n % unit == 0)) ≡ true → n % unit ≡ 0
 is-whole n unit so = grind (arith, nat_tests)
@@ -74,6 +74,7 @@ pub record AreBlinds (start : HandStart) : Type 0 where
   pub big : start.big % start.unit ≡ 0
   pub some : 0 < start.big
 
+-- The blinds of a lawful start are multiples of a unit above 0, and the big blind is above 0.
 pub blinds-lawful : (start : HandStart) → IsLawfulStart start → AreBlinds start
 blinds-lawful start lawful =
     let a = and_parts (nat_le 1 start.unit) _ lawful.blinds in

@@ -43,6 +43,7 @@ pub record MayBalance (book : BookState) (from to : ℕ) : Type 0 where
   pub gap : count_at book.seating.players to + 2 ≤ count_at book.seating.players from
   pub no_round : is_round_open book.seating ≡ false
 
+-- Where the book does not refuse a balance both tables are open, and one has at least two players more than the other.
 pub balance_passed : (book : BookState) (from to : ℕ) → book_refusal book (Balance from to) ≡ None
     → MayBalance book from to
 unfolding book_refusal

@@ -8,6 +8,7 @@ use Rattle.std.proofs.lemmas.Bool.{and_parts, not-true}
 use Rattle.std.proofs.lemmas.Bool.Decides.{nat_tests}
 use Rattle.std.proofs.lemmas.List.Folds.{list_all-map}
 use Rattle.std.proofs.lemmas.Option.{same_Some}
+use Rattle.rulebook.proofs.Found.{none-by_test}
 use Rattle.rulebook.specs.Pairs.{are_distinct}
 use Rattle.rulebook.proofs.Tests.{list_all-filter}
 use Rattle.rulebook.proofs.Pairs.{is_pairwise-filter}
@@ -41,7 +42,7 @@ use Rattle.tournament_rules.specs.Effects.{playing_from, begun_book}
 use Rattle.tournament_rules.specs.Valid.{IsValid, IsPlanned, IsStartAt, is_lent, without_stack}
 use Rattle.tournament_rules.proofs.Restacked.{count_changed, entered_changed}
 use Rattle.tournament_rules.proofs.Names.{seated_names}
-use Rattle.tournament_rules.proofs.Passed.{is_so, none_there}
+use Rattle.tournament_rules.proofs.Passed.{is_so}
 use Rattle.tournament_rules.proofs.Entries.{right_has}
 use Rattle.tournament_rules.proofs.Fitting.{table_range, each_status, fitting_changed, out_changed, play_changed, chips_out, due_more, marked_more}
 use Rattle.tournament_rules.proofs.KeptUnits.{keeps-set, out_kept, units_kept}
@@ -83,14 +84,15 @@ may_begin book table row free =
       two =
           two_sit (count_at book.seating.players table) parts.1 (not-true _ many.0);
       goes = not-true _ goes.0;
-      no_race = none_there (status_at book.seating.tables table).race (not-true _ race.0);
+      no_race = none-by_test (status_at book.seating.tables table).race race.0;
       fresh = not-true _ round.0;
     }
 
 -- No start is out at a table where no hand is played.
 pub none_out : (book : BookState) (table : ℕ) → IsValid book → is_playing book table ≡ false
     → start_at book.out table ≡ None
-none_out book table valid rests = none_there (start_at book.out table) (sym (valid.tables.playing table) ∙ rests)
+none_out book table valid rests =
+    none-by_test (start_at book.out table) (ap not (sym (valid.tables.playing table) ∙ rests))
 
 no_items : {A B : Type 0} (f : A → B) (items : List A) → map f items ≡ [] → items ≡ []
 no_items f [] none = refl

@@ -8,7 +8,7 @@ use Rattle.std.proofs.lemmas.Bool.Decides.{nat_tests}
 use Rattle.std.proofs.lemmas.List.Sorted.{sum_by-IsPermutation, list_any-IsPermutation}
 use Rattle.rulebook.specs.Pairs.{are_distinct}
 use Rattle.rulebook.proofs.Checks.{none_holds}
-use Rattle.rulebook.proofs.Tests.{count_by-cons, find-passes}
+use Rattle.rulebook.proofs.Tests.{count_by-cons, find-passes, none_by_count}
 use Rattle.seat_book.specs.declared.place.Place.{Place}
 use Rattle.seat_book.specs.declared.seated.Seated.{Seated}
 use Rattle.seat_book.specs.declared.table_status.TableStatus.{TableStatus}
@@ -73,6 +73,7 @@ drawn seating table places names (Some fill) is right = record {
   right = (draw-exact seating table fill places names (is_draw seating table fill places names) refl).0 right;
 }
 
+-- A break that the book does not refuse is of the last open table, which rests, and its draw is right.
 pub break_passed : (book : BookState) (table : ℕ) (places : List Place) (names : List (List ℕ))
     → book_refusal book (Break table places names) ≡ None → MayBreak book table places names
 unfolding book_refusal
@@ -161,21 +162,6 @@ come_once (first ∷ places) apart place =
         let here = ap (λ (b : Bool). cond {A = ℕ} b 1 0) is in
         omega (arith, one, here, rest)
 
-pub none_by_count : {A : Type 0} (test : A → Bool) (items : List A) → count_by test items ≡ 0
-    → list_all (λ item. not (test item)) items ≡ true
-none_by_count test [] none = refl
-none_by_count test (item ∷ items) none =
-    by_test (test item) refl (count_by-cons test item items) (none_by_count test items)
-  where
-    by_test : (b : Bool) → test item ≡ b
-        → count_by test (item ∷ items) ≡ cond (test item) 1 0 + count_by test items
-        → (count_by test items ≡ 0 → list_all (λ item. not (test item)) items ≡ true)
-        → (not b && list_all (λ item. not (test item)) items) ≡ true
-    by_test true is one rest =
-        let here = ap (λ (b : Bool). cond {A = ℕ} b 1 0) is in absurd (omega (arith, none, one, here))
-    by_test false is one rest =
-        let here = ap (λ (b : Bool). cond {A = ℕ} b 1 0) is in rest (omega (arith, none, one, here))
-
 -- The players of a table that rests may take these places: each is one of the plan's where nobody sits, and none comes
 -- twice. The table has no marks, and no race is pending.
 pub record MayTake (book : BookState) (table : ℕ) (places : List Place) : Type 0 where
@@ -237,6 +223,7 @@ taking seating table name place player apart found =
 
 module _ (book : BookState) (table : ℕ) (name : List ℕ) (place : Place) (places : List Place) (valid : IsValid book)
     (may : MayTake book table (place ∷ places)) where
+  -- This is the book once the player of a name at a table took a place.
   abbrev pub taken_book : BookState
   taken_book = record book { seating = after_taking table name place book.seating }
 

@@ -9,10 +9,13 @@ use Rattle.std.proofs.lemmas.List.Folds.{sum_by-replicate}
 use Rattle.std.proofs.lemmas.List.Sums.{sum_by-insert}
 use Rattle.std.proofs.lemmas.List.Elements.{All-nil, All-weaker}
 use Rattle.rulebook.specs.declared.limits.TheConstants.{MOST_ENTRIES}
+use Rattle.rulebook.proofs.Tests.{none_by_count}
+use Rattle.rulebook.proofs.Repeats.{get_or-repeated}
 use Rattle.place_list.specs.declared.bust.Bust.{Bust}
 use Rattle.level_plan.specs.Items.{is_between, greatest_amount, are_levels}
 use Rattle.level_plan.specs.Plans.{PlanTerms, is_right, unit_of_level}
 use Rattle.entry_list.specs.Entries.{is_known}
+use Rattle.entry_list.proofs.Added.{names-added}
 use Rattle.floor_events.specs.declared.event.Event.TheVariants.{Enter}
 use Rattle.level_plan.proofs.Levels.{unit_of_level_above}
 use Rattle.seat_book.specs.declared.seated.Seated.{Seated}
@@ -29,9 +32,9 @@ use Rattle.tournament_rules.specs.Units.{IsUnitOf, is_due}
 use Rattle.tournament_rules.specs.Valid.{IsValid, AreEntered, rows_owed, without_stack, is_lent}
 use Rattle.tournament_rules.proofs.Fitting.{table_range, marked_more, due_more}
 use Rattle.tournament_rules.proofs.Insertions.{list_all-insert, All-insert, filter-insert_no}
-use Rattle.tournament_rules.proofs.SitDown.{seating-sit_down, none_numbered}
+use Rattle.tournament_rules.proofs.SitDown.{seating-sit_down}
 use Rattle.tournament_rules.proofs.Passed.{entry_passed}
-use Rattle.tournament_rules.proofs.Names.{IsNamed, names-entered}
+use Rattle.tournament_rules.proofs.Names.{IsNamed}
 use Rattle.tournament_rules.proofs.Units.{next_times, whole_times, whole_earlier}
 
 -- What a right plan has.
@@ -96,11 +99,7 @@ unit_of_many status count (suc below) there =
 
 -- No hand is out where none is.
 pub start_none : (count table : ℕ) → start_at (replicate count None) table ≡ None
-start_none count table = by_place (cases_lt table count)
-  where
-    by_place : (table < count) ⊎ (count ≤ table) → start_at (replicate count None) table ≡ None
-    by_place (inl within) = get_or-replicate count table None None within
-    by_place (inr past) = get_or_past (replicate count None) table None (rw length-replicate past)
+start_none count table = get_or-repeated count table None
 
 -- A book is valid before any entry.
 pub valid_first : (plan : PlanTerms) → is_right plan ≡ true → IsValid (first_book plan)
@@ -200,7 +199,7 @@ entered-agree entries players busts new agree room unknown number =
     let added = length-append entries (new.name ∷ []) in
     record {
       few = omega (arith, added);
-      names = names-entered entries new.name unknown agree.names;
+      names = names-added entries new.name unknown agree.names;
       once = λ n.
           let counted = sum_by-insert (λ player. cond (is_numbered n player) 1 0) players behind new in
           let old = agree.once n in
@@ -231,7 +230,7 @@ valid_entered book name table seat valid none =
             (rw (valid.tables.tables, valid.tables.seats) (and_from _ _ may.there may.within))
             (lt-ltb (length book.entries) MOST_ENTRIES may.room)
             may.free
-            (none_numbered (length book.entries) book.seating.players
+            (none_by_count (is_numbered (length book.entries)) book.seating.players
             (let his = valid.entries.once (length book.entries) in
             omega (arith, his, nobody_yet (length book.entries))));
         tables = valid.tables.tables;

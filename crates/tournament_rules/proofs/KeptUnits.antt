@@ -1,10 +1,11 @@
 -- What stays of units where no table's unit changes, and no pending race.
 use Rattle.std.proofs.Common.{◌≡◌, ◌∙◌, refl, sym, ap, subst, ℕ, zero, suc, ◌%◌, ◌≤◌, Bool, true, false, ◌==◌, cond, List, [], ◌∷◌, length, get_or, arith}
-use Rattle.std.specs.Prelude.{count_by, Option, None, is_some}
+use Rattle.std.specs.Prelude.{not, count_by, Option, None, is_some}
 use Rattle.std.specs.List.{list_any}
 use Rattle.std.specs.Option.{ForSome}
 use Rattle.std.proofs.lemmas.Bool.{and_parts, and_from, or_parts}
 use Rattle.std.proofs.lemmas.List.Sums.{sum_by-set}
+use Rattle.rulebook.proofs.Found.{none-by_test}
 use Rattle.level_plan.specs.Items.{is_between}
 use Rattle.level_plan.specs.Plans.{PlanTerms, unit_of_level}
 use Rattle.seat_book.specs.declared.seated.Seated.{Seated}
@@ -15,7 +16,6 @@ use Rattle.tournament_rules.specs.Books.{start_at}
 use Rattle.tournament_rules.specs.Units.{IsRaceTo, IsUnitOf, AreWhole, AreDue, AreUnits, is_due}
 use Rattle.tournament_rules.specs.Valid.{IsStartAt, AreOut}
 use Rattle.tournament_rules.proofs.Fitting.{each_status}
-use Rattle.tournament_rules.proofs.Passed.{none_there}
 
 -- Each table has the unit that it had, and the race.
 pub record KeepsUnits (before after : List TableStatus) : Type 0 where
@@ -102,7 +102,7 @@ none_due tables none (suc below) = by_list tables below none
         → (get_or tables below fresh_status).race ≡ None
     by_list [] below none = refl
     by_list (status ∷ tables) zero none =
-        none_there status.race (or_parts (is_due status) (list_any is_due tables) none).0
+        none-by_test status.race (ap not (or_parts (is_due status) (list_any is_due tables) none).0)
     by_list (status ∷ tables) (suc below) none =
         by_list tables below (or_parts (is_due status) (list_any is_due tables) none).1
 

@@ -16,12 +16,12 @@ use Rattle.balance_rule.specs.Filling.{is_other_open, names_at}
 use Rattle.break_draw.proofs.FillLaws.{chosen-elsewhere}
 use Rattle.break_draw.proofs.Names.{names-length}
 use Rattle.break_draw.proofs.Room.{filled-length}
+use Rattle.entry_list.proofs.Added.{other_way}
 use Rattle.tournament_rules.specs.Books.{BookState, has_table}
 use Rattle.tournament_rules.specs.Effects.{broken}
 use Rattle.tournament_rules.specs.Moving.{is_called, after_taking, after_all}
 use Rattle.tournament_rules.specs.Valid.{IsValid}
 use Rattle.tournament_rules.proofs.Moved.{sum-moved}
-use Rattle.tournament_rules.proofs.Names.{other_way}
 use Rattle.tournament_rules.proofs.Breaks.{MayBreak, MayTake, all-permuted, find-filter, named-found, taking, taken, taken_book, bare_book, may_take, valid_forgotten}
 
 -- Whether a player of this name sits at a table.

@@ -7,6 +7,7 @@ use Rattle.std.proofs.lemmas.Bool.{and_parts, cases_Bool, eqb-true, and_right}
 use Rattle.std.proofs.lemmas.Option.{same_Some}
 use Rattle.std.proofs.lemmas.List.Elements.{All-filter, All-head, All-tail, filter-append}
 use Rattle.std.proofs.lemmas.List.Sums.{sum_by-append, sum_by-cons, sum_by-insert}
+use Rattle.rulebook.proofs.Tests.{find-all}
 use Rattle.button_blinds.specs.declared.marks.Marks.{Marks}
 use Rattle.seat_book.specs.declared.place.Place.{Place}
 use Rattle.seat_book.specs.declared.seated.Seated.{Seated}
@@ -15,7 +16,7 @@ use Rattle.seat_book.specs.Players.{sits_at, sits_in, is_numbered, player_at, pl
 use Rattle.seat_book.specs.Counts.{count_at}
 use Rattle.seat_book.specs.Tables.{status_at}
 use Rattle.seat_book.specs.Seatings.{is_entry}
-use Rattle.seat_book.proofs.Passing.{filter-all, find-none, found-all, none-find}
+use Rattle.seat_book.proofs.Passing.{filter-all, find-none, none-find}
 use Rattle.balance_rule.specs.Moves.{is_race_pending}
 use Rattle.tournament_rules.specs.Books.{BookState}
 use Rattle.tournament_rules.specs.Players.{start_seat}
@@ -184,7 +185,7 @@ valid_moved book player place valid may =
       tables = record {
         lawful = seating-sit_down (record book.seating { players = others }) new
             (seating_left book.seating (is_numbered player.player) lawful) may.within
-            (found-all (is_numbered player.player) is_entry players player lawful.entries may.found)
+            (find-all (is_numbered player.player) is_entry players player may.found lawful.entries)
             (find-none (sits_in place) others
             (all_stay (λ other. not (sits_in place other)) (is_numbered player.player) players
             (none-find (sits_in place) players may.free)))
@@ -210,7 +211,7 @@ valid_moved book player place valid may =
         units = valid.units.units;
         whole = all-moved place player players lawful.apart may.found (is_whole_at tables) valid.units.whole
             (ap (λ (unit : ℕ). player.stack % unit == 0) may.unit
-            ∙ found-all (is_numbered player.player) (is_whole_at tables) players player valid.units.whole may.found);
+            ∙ find-all (is_numbered player.player) (is_whole_at tables) players player may.found valid.units.whole);
         due = λ table new at. let none = none_due tables may.no_race table in absurd cc;
         few = valid.units.few;
       };

@@ -1,44 +1,16 @@
 -- Names of those who entered: no two are the same, and so no two who sit have one name.
-use Rattle.std.proofs.Common.{◌≡◌, sym, ap, subst, refl, ℕ, zero, suc, Bool, true, false, ◌==◌, List, [], ◌∷◌, ◌++◌, map, arith}
+use Rattle.std.proofs.Common.{◌≡◌, ap, subst, refl, ℕ, zero, suc, true, false, ◌==◌, List, [], ◌∷◌, map, arith}
 use Rattle.std.specs.Prelude.{not, slice_get, Some}
 use Rattle.std.specs.List.{list_all, All}
 use Rattle.std.specs.Str.{bytes_eq}
-use Rattle.std.proofs.lemmas.Bool.{and_parts, and_from, or_parts, not-true}
+use Rattle.std.proofs.lemmas.Bool.{and_parts, and_from, not-true}
 use Rattle.std.proofs.lemmas.Bool.Decides.{nat_tests}
-use Rattle.std.proofs.lemmas.List.{append-nil}
 use Rattle.std.proofs.lemmas.List.Elements.{All-head, All-tail}
 use Rattle.std.proofs.lemmas.Option.{same_Some}
-use Rattle.std.proofs.lemmas.Slice.Eq.{bytes_eq-Decides}
 use Rattle.rulebook.specs.Pairs.{are_distinct}
-use Rattle.rulebook.proofs.Pairs.{is_pairwise-between}
-use Rattle.entry_list.specs.Entries.{is_known}
+use Rattle.entry_list.proofs.Added.{other_way}
 use Rattle.seat_book.specs.declared.seated.Seated.{Seated}
 use Rattle.seat_book.specs.Players.{is_numbered, are_apart}
-
--- Two names that differ differ whichever is looked at first.
-pub other_way : (name other : List ℕ) → bytes_eq name other ≡ false → bytes_eq other name ≡ false
-other_way name other differ = by_test (bytes_eq other name) refl
-  where
-    by_test : (b : Bool) → bytes_eq other name ≡ b → b ≡ false
-    by_test true same =
-        let back : bytes_eq name other ≡ true = (bytes_eq-Decides name other).1
-        (sym ((bytes_eq-Decides other name).0 same)) in
-        absurd cc
-    by_test false apart = refl
-
--- No two entered under one name once one more entered under a new one.
-pub names-entered : (entries : List (List ℕ)) (name : List ℕ) → is_known entries name ≡ false
-    → are_distinct bytes_eq entries ≡ true → are_distinct bytes_eq (entries ++ name ∷ []) ≡ true
-names-entered entries name unknown apart =
-    is_pairwise-between (λ one other. not (bytes_eq one other)) entries name [] (rw (append-nil entries) apart)
-    (all_differ entries unknown) refl
-  where
-    all_differ : (entries : List (List ℕ)) → is_known entries name ≡ false
-        → list_all (λ other. not (bytes_eq other name)) entries ≡ true
-    all_differ [] unknown = refl
-    all_differ (first ∷ entries) unknown =
-        let parts = or_parts (bytes_eq name first) (is_known entries name) unknown in
-        and_from _ _ (ap not (other_way name first parts.0)) (all_differ entries parts.1)
 
 -- a name that differs from all of a list differs from each
 differs_from : (name : List ℕ) (entries : List (List ℕ)) (i : ℕ) (other : List ℕ)

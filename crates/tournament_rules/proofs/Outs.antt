@@ -1,13 +1,15 @@
 -- Everyone who entered is in or out, once: how many there are, and what is so once one leaves his seat.
-use Rattle.std.proofs.Common.{◌≡◌, refl, ap, ℕ, zero, suc, ◌+◌, ◌<◌, ◌≤◌, Bool, true, false, cond, ◌==◌, List, [], ◌∷◌, ◌++◌, length, arith}
+use Rattle.std.proofs.Common.{◌≡◌, refl, ap, ℕ, zero, suc, ◌+◌, ◌<◌, ◌≤◌, Bool, true, false, cond, ◌==◌, List, [], ◌∷◌, ◌++◌, length, arith, ◌∙◌}
 use Rattle.std.specs.Prelude.{not, nat_lt, count_by, find, option_map, is_some}
 use Rattle.std.specs.List.{list_any}
 use Rattle.std.proofs.lemmas.Bool.{eqb-true}
 use Rattle.std.proofs.lemmas.Bool.Decides.{nat_tests}
+use Rattle.std.proofs.lemmas.List.Folds.{Any-from_list_any}
 use Rattle.std.proofs.lemmas.List.Sums.{sum_by_push, count_by-le-length}
 use Rattle.rulebook.specs.declared.limits.TheConstants.{MOST_ENTRIES}
 use Rattle.rulebook.proofs.Tests.{at_most_one, count_by-cons}
 use Rattle.place_list.specs.declared.bust.Bust.{Bust}
+use Rattle.place_list.proofs.Counts.{count_by-some}
 use Rattle.seat_book.specs.declared.seated.Seated.{Seated}
 use Rattle.seat_book.specs.Players.{is_numbered, place_of, lifted}
 use Rattle.tournament_rules.specs.Valid.{AreOnce, rows_owed, is_bust_of}
@@ -102,19 +104,9 @@ all-counted entries players busts once =
 -- Where somebody passes a test, at least one counts.
 pub some_counted : {A : Type 0} (test : A → Bool) (items : List A) → list_any test items ≡ true
     → 1 ≤ count_by test items
-some_counted test [] some = absurd cc
-some_counted test (item ∷ items) some = by_test (test item) refl (some_counted test items)
-  where
-    by_test : (b : Bool) → test item ≡ b → (list_any test items ≡ true → 1 ≤ count_by test items)
-        → 1 ≤ count_by test (item ∷ items)
-    by_test true is rest =
-        let one = count_by-cons test item items in
-        let here = ap (λ (b : Bool). cond {A = ℕ} b 1 0) is in
-        omega (arith, one, here)
-    by_test false is rest =
-        let one = count_by-cons test item items in
-        let more = rest (rw is at some) in
-        omega (arith, one, more)
+some_counted test items some =
+    let his = Any-from_list_any test items some in
+    count_by-some test items his.0 his.1 his.2 (ap test his.3 ∙ his.4)
 
 -- Where none counts, nobody passes.
 pub none_counted : {A : Type 0} (test : A → Bool) (items : List A) → count_by test items ≡ 0

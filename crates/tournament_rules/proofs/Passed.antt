@@ -1,9 +1,10 @@
 -- What an event that is not refused tells of its checks.
 use Rattle.std.proofs.Common.{◌≡◌, ◌∙◌, refl, sym, ap, ℕ, ◌<◌, Bool, true, false, List, [], length}
-use Rattle.std.specs.Prelude.{not, Option, Some, None, is_some}
+use Rattle.std.specs.Prelude.{not, Option, Some, None}
 use Rattle.std.specs.Prelude.{option_and_then}
 use Rattle.std.specs.Option.{option_map_or, option_or}
 use Rattle.std.proofs.lemmas.Bool.{and_parts, leb-false, not-true}
+use Rattle.rulebook.proofs.Found.{none-by_test}
 use Rattle.rulebook.specs.Checks.{first_that_holds}
 use Rattle.seat_book.specs.Players.{player_at}
 use Rattle.entry_list.specs.Entries.{is_known}
@@ -19,13 +20,10 @@ use Rattle.tournament_rules.specs.Checks.{book_checks, hand_checks, before_hand_
 use Rattle.tournament_rules.specs.States.{PlayState, hand_of, refusal_of}
 use Rattle.tournament_rules.specs.Apart.{hand_refusal}
 
+-- A test that does not fail holds.
 pub is_so : (b : Bool) → not (not b) ≡ true → b ≡ true
 is_so true so = refl
 is_so false so = so
-
-pub none_there : {A : Type 0} (found : Option A) → is_some found ≡ false → found ≡ None
-none_there None absent = refl
-none_there (Some x) absent = cc
 
 -- What is so of an entry that is not refused.
 pub record MayEnter (book : BookState) (name : List ℕ) (table seat : ℕ) : Type 0 where
@@ -37,6 +35,7 @@ pub record MayEnter (book : BookState) (name : List ℕ) (table seat : ℕ) : Ty
   pub early : is_late book ≡ false
   pub room : length book.entries < MOST_ENTRIES
 
+-- An entry that the book does not refuse has a new name, and an empty seat at a table with the fewest players.
 pub entry_passed : (book : BookState) (name : List ℕ) (table seat : ℕ)
     → book_refusal book (Enter name table seat) ≡ None → MayEnter book name table seat
 unfolding book_refusal
@@ -55,7 +54,7 @@ entry_passed book name table seat none =
       new = not-true _ new.0;
       there = (and_parts _ _ (is_so _ there.0)).0;
       within = is_so _ seated.0;
-      free = none_there _ (not-true _ free.0);
+      free = none-by_test _ free.0;
       fewest = not-true _ fewest.0;
       early = not-true _ early.0;
       room = leb-false MOST_ENTRIES (length book.entries) (not-true _ room.0);
@@ -101,6 +100,7 @@ goes_on book table none =
     let playing = and_parts _ _ there.1 in
     record { there = is_so _ there.0; playing = is_so _ playing.0 }
 
+-- An act that the book does not refuse is at a table that is played at.
 pub act_passed : (book : BookState) (table : ℕ) (name : List ℕ) (act : Act)
     → book_refusal book (Acts table name act) ≡ None → MayGoOn book table
 unfolding book_refusal
@@ -112,10 +112,12 @@ act_passed book table name act none =
     let playing = and_parts _ _ there.1 in
     record { there = is_so _ there.0; playing = is_so _ playing.0 }
 
+-- A called time that the book does not refuse is at a table that is played at.
 pub time_passed : (book : BookState) (table : ℕ) → book_refusal book (Time table) ≡ None → MayGoOn book table
 unfolding book_refusal
 time_passed book table none = goes_on book table none
 
+-- A settle that the book does not refuse is at a table that is played at.
 pub settle_passed : (book : BookState) (table : ℕ) → book_refusal book (Settle table) ≡ None → MayGoOn book table
 unfolding book_refusal
 settle_passed book table none = goes_on book table none
@@ -129,6 +131,7 @@ pub plan_late : (book : BookState) (line : PlanLine) → book_refusal book (Plan
 unfolding book_refusal
 plan_late book line none = cc
 
+-- The end of a plan is always refused once the plan is whole.
 pub go_late : (book : BookState) → book_refusal book Go ≡ None → ⊥
 unfolding book_refusal
 go_late book none = cc

@@ -74,6 +74,7 @@ put_back-later payee payees (player ∷ players) none =
     let rest = put_back-later payee payees players parts.1 in
     cc
 
+-- A payee has a number exactly where it is in the list of the payees' numbers.
 pub any_number : (number : ℕ) (payees : List StartSeat)
     → list_any (has_number number) payees ≡ list_any (λ other. other == number) (numbers_of payees)
 any_number number [] = refl

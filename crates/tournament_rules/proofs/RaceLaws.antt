@@ -63,6 +63,7 @@ race-hands play table other row = kept_after (λ play. hand_at play other) play 
 pub level-hands : (play : PlayState) (table : ℕ) → hand_at (play_after play Level) table ≡ hand_at play table
 level-hands play table = kept_after (λ play. hand_at play table) play Level refl
 
+-- A level leaves the players as they are, with their seats and stacks.
 pub level-players : (play : PlayState) → (play_after play Level).book.seating.players ≡ play.book.seating.players
 level-players play = kept_after (λ play. play.book.seating.players) play Level
     (by_units (nat_lt (unit_of_level play.book.plan.blinds play.book.level)

@@ -13,7 +13,7 @@ use Rattle.std.proofs.Math.Bool.{and-false}
 use Rattle.rulebook.specs.Seats.{walk}
 use Rattle.rulebook.specs.Pairs.{is_pairwise}
 use Rattle.rulebook.proofs.Checks.{none_holds}
-use Rattle.rulebook.proofs.Tests.{eqb-swap, some_there}
+use Rattle.rulebook.proofs.Tests.{eqb-swap, find-all, some_there}
 use Rattle.card_set.specs.declared.card.Card.{Card}
 use Rattle.card_set.specs.declared.card.CardRow.{CardRow}
 use Rattle.card_set.specs.Decks.{IsDeck}
@@ -28,7 +28,6 @@ use Rattle.seat_book.specs.declared.table_status.TableStatus.{TableStatus}
 use Rattle.seat_book.specs.Players.{sits_at, sits_in, player_at}
 use Rattle.seat_book.specs.Counts.{count_at}
 use Rattle.seat_book.specs.Tables.{fresh_status, status_at, with_status}
-use Rattle.seat_book.proofs.Passing.{found-all}
 use Rattle.seat_book.proofs.TakenSeats.{sits_in_seats, seats_of_places}
 use Rattle.balance_rule.proofs.Movers.{found-place}
 use Rattle.level_plan.specs.Items.{is_between, is_next_unit}
@@ -61,6 +60,7 @@ pub record MayRace (book : BookState) (table : ℕ) (cards : List Card) : Type 0
   pub unit : ℕ
   pub due : (status_at book.seating.tables table).race ≡ Some unit
 
+-- A race that the book does not refuse is pending at an open table that rests, and is made with a deck.
 pub race_passed : (book : BookState) (table : ℕ) (row : CardRow) → book_refusal book (Race table row) ≡ None
     → MayRace book table row.cards
 unfolding book_refusal
@@ -247,7 +247,7 @@ stacks-whole tables table players whole = by_seats ten_seats
     by_player seat (Some player) is =
         let here = found-place players (record { table = table; seat = seat }) player is in
         ap (λ (place : Place). player.stack % (status_at tables place.table).unit == 0) (sym here)
-        ∙ found-all (sits_in (record { table = table; seat = seat })) (is_whole_at tables) players player whole is
+        ∙ find-all (sits_in (record { table = table; seat = seat })) (is_whole_at tables) players player is whole
 
     by_seats : (seats : List ℕ)
         → are_whole unit (map (λ seat. stack_in players (record { table = table; seat = seat })) seats) ≡ true

@@ -1,11 +1,10 @@
 -- What holds of a seating once a player sits down in a free seat.
-use Rattle.std.proofs.Common.{◌≡◌, ◌∙◌, refl, sym, ap, subst, ℕ, suc, ◌+◌, Bool, true, false, cond, ◌==◌, ◌&&◌, List, [], ◌∷◌, take, drop, arith}
+use Rattle.std.proofs.Common.{◌≡◌, ◌∙◌, refl, sym, ap, subst, ℕ, suc, Bool, true, false, cond, ◌==◌, ◌&&◌, List, [], ◌∷◌, take, drop, arith}
 use Rattle.std.specs.Prelude.{not, count_by, Some, None}
 use Rattle.std.specs.List.{list_all}
 use Rattle.std.proofs.lemmas.Bool.{and_parts, and_from}
 use Rattle.std.proofs.lemmas.Bool.Decides.{nat_tests}
 use Rattle.std.proofs.lemmas.List.Folds.{list_all-map}
-use Rattle.std.proofs.lemmas.List.Sums.{sum_by-cons}
 use Rattle.std.proofs.lemmas.List.{take-append-drop}
 use Rattle.rulebook.specs.Pairs.{is_pairwise}
 use Rattle.seat_book.specs.declared.seated.Seated.{Seated}
@@ -13,7 +12,8 @@ use Rattle.seat_book.specs.Places.{comes_before}
 use Rattle.seat_book.specs.Players.{sits_in, is_numbered, player_at, sit_down, are_in_order, are_apart}
 use Rattle.seat_book.specs.Seatings.{Seating, IsSeating, sits_within, is_entry}
 use Rattle.rulebook.proofs.Pairs.{is_pairwise-between}
-use Rattle.rulebook.proofs.Tests.{eqb-swap}
+use Rattle.rulebook.proofs.Tests.{eqb-swap, count_by-cons, list_all-follows}
+use Rattle.seat_book.proofs.Passing.{count_by-none}
 use Rattle.seat_book.proofs.PlaceOrder.{before-back, before-before}
 use Rattle.tournament_rules.proofs.Insertions.{list_all-insert, is_pairwise-insert}
 
@@ -56,21 +56,13 @@ before_later new first (next ∷ players) before later =
         before-before new.place.table new.place.seat first.place.table first.place.seat next.place.table
         next.place.seat before later
 
--- the first of a list counts for one, or for none
-pub count-first : {A : Type 0} (test : A → Bool) (first : A) (others : List A) (b : Bool) → test first ≡ b
-    → count_by test (first ∷ others) ≡ cond b 1 0 + count_by test others
-count-first test first others b is = sum_by-cons (λ x. cond (test x) 1 0) first others ∙ ap
-    (λ (c : Bool). cond c 1 0 + count_by test others) is
-
 -- nobody who comes after a player counts as before him
 none_back : (new : Seated) (players : List Seated) → list_all (sits_before new) players ≡ true
     → count_by (λ other. sits_before other new) players ≡ 0
-none_back new [] later = refl
-none_back new (next ∷ players) later =
-    let parts = and_parts (sits_before new next) (list_all (sits_before new) players) later in
-    let back = before-back new.place.table new.place.seat next.place.table next.place.seat parts.0 in
-    let one = count-first (λ other. sits_before other new) next players false back in
-    omega (arith, one, none_back new players parts.1)
+none_back new players later =
+    count_by-none (λ other. sits_before other new) players
+    (list_all-follows (sits_before new) (λ other. not (sits_before other new)) players
+    (λ next is. ap not (before-back new.place.table new.place.seat next.place.table next.place.seat is)) later)
 
 free_first : (new first : Seated) (players : List Seated) → player_at (first ∷ players) new.place ≡ None
     → (sits_in new.place first ≡ false) × (player_at players new.place ≡ None)
@@ -91,18 +83,20 @@ parts-step : (new first : Seated) (players : List Seated) (b : Bool) → sits_be
     → Parts new players (count_by (λ other. sits_before other new) players)
     → Parts new (first ∷ players) (count_by (λ other. sits_before other new) (first ∷ players))
 parts-step new first players true is later free parts =
-    let one = count-first (λ other. sits_before other new) first players true is in
+    let one = count_by-cons (λ other. sits_before other new) first players in
+    let here = ap (λ (b : Bool). cond {A = ℕ} b 1 0) is in
     let next : suc (count_by (λ other. sits_before other new) players) ≡ count_by (λ other. sits_before other new)
-    (first ∷ players) = omega (arith, one) in
+    (first ∷ players) = omega (arith, one, here) in
     subst (λ (n : ℕ). Parts new (first ∷ players) n) next
     (record { before = and_from _ _ is parts.before; after = parts.after })
 parts-step new first players false is later free parts =
-    let here = after_other first.place.table first.place.seat new.place.table new.place.seat free is in
-    let all = before_later new first players here later in
-    let one = count-first (λ other. sits_before other new) first players false is in
+    let behind = after_other first.place.table first.place.seat new.place.table new.place.seat free is in
+    let all = before_later new first players behind later in
+    let one = count_by-cons (λ other. sits_before other new) first players in
+    let here = ap (λ (b : Bool). cond {A = ℕ} b 1 0) is in
     let none : 0 ≡ count_by (λ other. sits_before other new) (first ∷ players) = omega
-    (arith, one, none_back new players all) in
-    subst (λ (n : ℕ). Parts new (first ∷ players) n) none (record { before = refl; after = and_from _ _ here all })
+    (arith, one, here, none_back new players all) in
+    subst (λ (n : ℕ). Parts new (first ∷ players) n) none (record { before = refl; after = and_from _ _ behind all })
 
 parted : (new : Seated) (players : List Seated) → is_pairwise sits_before players ≡ true
     → player_at players new.place ≡ None → Parts new players (count_by (λ other. sits_before other new) players)
@@ -156,16 +150,3 @@ seating-sit_down seating new lawful within entry free differ = record {
   entries = list_all-insert is_entry seating.players _ new lawful.entries entry;
   apart = apart-sit_down new seating.players lawful.apart differ;
 }
-
--- Where no player counts as having a number, all have others.
-pub none_numbered : (number : ℕ) (players : List Seated) → count_by (is_numbered number) players ≡ 0
-    → list_all (λ other. not (is_numbered number other)) players ≡ true
-none_numbered number [] none = refl
-none_numbered number (player ∷ players) none = by_test (is_numbered number player) refl (none_numbered number players)
-  where
-    by_test : (b : Bool) → is_numbered number player ≡ b
-        → (count_by (is_numbered number) players ≡ 0
-        → list_all (λ other. not (is_numbered number other)) players ≡ true)
-        → (not b && list_all (λ other. not (is_numbered number other)) players) ≡ true
-    by_test true is rest = let one = count-first (is_numbered number) player players true is in absurd (omega arith)
-    by_test false is rest = let one = count-first (is_numbered number) player players false is in rest (omega arith)

@@ -8,7 +8,7 @@ use Rattle.std.proofs.lemmas.List.Folds.{list_all-append}
 use Rattle.std.proofs.lemmas.List.Sums.{sum_by-append, sum_by-cons}
 use Rattle.std.proofs.lemmas.List.Elements.{All-filter, All-head, All-tail}
 use Rattle.rulebook.specs.Pairs.{is_pairwise}
-use Rattle.rulebook.proofs.Tests.{count_by-cons, list_all-kept}
+use Rattle.rulebook.proofs.Tests.{count_by-cons, list_all-kept, sum_by-map}
 use Rattle.level_plan.specs.Plans.{PlanTerms}
 use Rattle.place_list.specs.declared.bust.Bust.{Bust}
 use Rattle.seat_book.specs.declared.seated.Seated.{Seated}
@@ -17,7 +17,6 @@ use Rattle.seat_book.specs.Counts.{count_at}
 use Rattle.seat_book.specs.Seatings.{Seating, IsSeating, sits_within, is_entry}
 use Rattle.table_engine.specs.declared.start.HandStart.{HandStart}
 use Rattle.table_engine.specs.declared.start.StartSeat.{StartSeat}
-use Rattle.table_engine.proofs.Chips.{sum_by-map}
 use Rattle.tournament_rules.specs.Players.{is_one_of, start_seat, with_rest, put_back, stayed}
 use Rattle.tournament_rules.specs.Effects.{bust_of}
 use Rattle.tournament_rules.specs.Valid.{AreEntered, AreOnce, AreGrouped, IsFitting, is_bust_of, is_lent}
@@ -281,6 +280,7 @@ once_left entries table group leaving players busts once same = λ number.
     let before = once number in
     omega (arith, parts, out, rows, before)
 
+-- A group of players who go out is not later than itself.
 pub same_group : (group : ℕ) → nat_le group group ≡ true
 same_group group = grind (arith, nat_tests)
 
@@ -295,6 +295,7 @@ past_later (bust ∷ busts) group next most past =
     still : (one group next : ℕ) → group ≤ next → nat_le one group ≡ true → nat_le one next ≡ true
     still one group next most past = grind (arith, nat_tests)
 
+-- Where a group passes a test, so does that of each player who goes out in it.
 pub all_in_group : (test : ℕ → Bool) (group : ℕ) (leaving : List StartSeat) → test group ≡ true
     → list_all (λ (bust : Bust). test bust.group) (map (bust_of group) leaving) ≡ true
 all_in_group test group [] passes = refl

@@ -8,7 +8,8 @@ use Rattle.std.proofs.lemmas.Bool.Decides.{nat_tests}
 use Rattle.std.proofs.lemmas.List.Sums.{sum_by-insert}
 use Rattle.card_set.specs.declared.card.CardRow.{CardRow}
 use Rattle.rulebook.proofs.Found.{none-found}
-use Rattle.rulebook.proofs.Tests.{at_most_one}
+use Rattle.rulebook.proofs.Pairs.{first_alone}
+use Rattle.rulebook.proofs.Tests.{at_most_one, none_by_count}
 use Rattle.button_blinds.specs.declared.marks.Marks.{Marks}
 use Rattle.seat_book.specs.declared.place.Place.{Place}
 use Rattle.seat_book.specs.declared.seated.Seated.{Seated}
@@ -33,7 +34,7 @@ use Rattle.tournament_rules.proofs.Members.{has_number, any_without}
 use Rattle.tournament_rules.proofs.Fitting.{table_range}
 use Rattle.tournament_rules.proofs.Passed.{passed-parts, entry_passed}
 use Rattle.tournament_rules.proofs.Begins.{may_begin}
-use Rattle.tournament_rules.proofs.Breaks.{break_passed, none_by_count}
+use Rattle.tournament_rules.proofs.Breaks.{break_passed}
 use Rattle.tournament_rules.proofs.Left.{broken_left}
 use Rattle.tournament_rules.proofs.MoveLaws.{not_refused, no_table}
 
@@ -89,11 +90,8 @@ one_table number table other (player ∷ players) apart here there =
   where
     his : (at : ℕ) → list_all (λ other. not (is_numbered number other)) players ≡ true
         → (sits_at at player || list_any (sits_numbered number at) players) ≡ true → sits_at at player ≡ true
-    his at none some = by_test (sits_at at player) (none_sits number at players none) some
-      where
-        by_test : (b : Bool) {c : Bool} → c ≡ false → (b || c) ≡ true → b ≡ true
-        by_test true none some = refl
-        by_test false none some = cc
+    his at none some = first_alone (sits_at at player) (list_any (sits_numbered number at) players) some
+        (none_sits number at players none)
 
     by_number : (b : Bool) → is_numbered number player ≡ b
         → list_all (λ other. not (is_numbered player.player other)) players ≡ true

@@ -1,15 +1,16 @@
 -- The unit of a later level is that of an earlier one times a whole number.
-use Rattle.std.proofs.Common.{◌≡◌, ◌∙◌, refl, sym, ap, ℕ, zero, suc, ◌+◌, ◌-◌, ◌*◌, ◌/◌, ◌%◌, ◌<◌, ◌≤◌, true, ◌==◌, ◌&&◌, List, [], ◌∷◌, length, inl, inr, arith}
+use Rattle.std.proofs.Common.{◌≡◌, ◌∙◌, refl, sym, ap, ℕ, zero, suc, ◌+◌, ◌-◌, ◌*◌, ◌/◌, ◌%◌, ◌<◌, ◌≤◌, true, ◌==◌, ◌&&◌, List, [], ◌∷◌, length, arith}
 use Rattle.std.specs.Prelude.{slice_get, Option, Some, None}
 use Rattle.std.specs.Option.{option_map_or}
-use Rattle.std.proofs.lemmas.Bool.{and_parts, cases_lt, eqb-true}
+use Rattle.std.proofs.lemmas.Bool.{and_parts, eqb-true}
 use Rattle.std.proofs.lemmas.List.Folds.{Any-from_list_any}
-use Rattle.std.proofs.Math.Nat.{mul-mod_right, mul_assoc, div-add-mod, mod-eq_of_lt}
+use Rattle.std.proofs.Math.Nat.{mul-mod_right, mul_assoc, div-add-mod}
 use Rattle.std.proofs.lemmas.Bool.Decides.{nat_tests}
 use Rattle.level_plan.specs.declared.plan.Blind.{Blind}
 use Rattle.level_plan.specs.Items.{is_blind, is_next_unit, are_levels}
 use Rattle.level_plan.specs.Plans.{unit_of_level}
 use Rattle.level_plan.proofs.Levels.{is_blind_level}
+use Rattle.chip_race.proofs.Given.{multiple-le}
 
 -- One number is another times a whole number.
 abbrev pub IsTimes : ℕ → ℕ → Type 0
@@ -95,18 +96,12 @@ pub small_unit : (blinds : List Blind) (level : ℕ) → are_levels blinds ≡ t
     → unit_of_level blinds level ≤ 1000000000
 small_unit blinds level levels = by_find (slice_get blinds (level - 1)) refl
   where
-    at_most : (unit amount : ℕ) → 1 ≤ amount → amount % unit ≡ 0 → unit ≤ amount
-    at_most unit amount some whole = elim (cases_lt amount unit) [
-      | inl less ↦ let same = mod-eq_of_lt less in absurd (omega (arith, same, whole, some))
-      | inr enough ↦ enough
-    ]
-
     one : (blind : Blind) → is_blind blind ≡ true → blind.unit ≤ 1000000000
     one blind lawful =
         let small : 1 ≤ blind.small = grind (arith, nat_tests) in
         let big : blind.small ≤ 1000000000 = grind (arith, nat_tests) in
         let whole : blind.small % blind.unit ≡ 0 = grind (arith, nat_tests) in
-        let most = at_most blind.unit blind.small small whole in
+        let most = multiple-le blind.unit blind.small whole small in
         omega (arith, most, big)
 
     by_find : (found : Option Blind) → slice_get blinds (level - 1) ≡ found

@@ -4,7 +4,7 @@ use Rattle.std.specs.Prelude.{not, count_by, filter}
 use Rattle.std.specs.List.{list_all, list_any}
 use Rattle.std.proofs.lemmas.Bool.{and_parts, and_from, or_left, or_right, or_cases, cases_Bool, eq-eqb, eqb-true}
 use Rattle.rulebook.specs.Pairs.{are_rising, are_distinct}
-use Rattle.rulebook.proofs.Tests.{list_all-filter, eqb-swap, list_all-kept}
+use Rattle.rulebook.proofs.Tests.{list_all-filter, eqb-swap, list_all-kept, count_by-cons}
 use Rattle.button_blinds.specs.SeatSets.{no_seats, has_seat, with_seat, with_seats, seat_count}
 use Rattle.button_blinds.proofs.SeatSetLaws.{has_seat-with_seat, no_seats-none}
 use Rattle.button_blinds.proofs.Distances.{dominated}
@@ -14,7 +14,6 @@ use Rattle.seat_book.specs.Players.{sits_at, is_numbered, taken_seats, places_of
 use Rattle.seat_book.proofs.TakenSeats.{sits_in_seats, seats_at, seats_rise, taken_count}
 use Rattle.table_engine.specs.declared.start.StartSeat.{StartSeat}
 use Rattle.tournament_rules.specs.Players.{start_seat, is_dealt_in, dealt_seats}
-use Rattle.tournament_rules.proofs.SitDown.{count-first}
 
 -- some of the players are in order too
 ordered_filter : (keep : Seated → Bool) (players : List Seated) → are_in_order players ≡ true
@@ -162,7 +161,7 @@ count_front : (table : ℕ) (keep : Seated → Bool) (player : Seated) (players 
     → count_by (sits_at table) (cond b (player ∷ filter keep players) (filter keep players))
     ≡ cond b (cond (sits_at table player) 1 0) 0 + count_by (sits_at table) (filter keep players)
 count_front table keep player players true kept =
-    count-first (sits_at table) player (filter keep players) (sits_at table player) refl
+    count_by-cons (sits_at table) player (filter keep players)
 count_front table keep player players false kept = omega arith
 
 -- who sits at a table is dealt in or waits
@@ -171,10 +170,10 @@ dealt_or_waits : (table : ℕ) (waiting : List Bool) (players : List Seated)
     (filter (λ player. has_seat waiting player.place.seat) players) ≡ count_by (sits_at table) players
 dealt_or_waits table waiting [] = refl
 dealt_or_waits table waiting (player ∷ players) =
-    let dealt = count-first (is_dealt_in table waiting) player players (is_dealt_in table waiting player) refl in
+    let dealt = count_by-cons (is_dealt_in table waiting) player players in
     let waits = count_front table (λ player. has_seat waiting player.place.seat) player players
     (has_seat waiting player.place.seat) refl in
-    let sits = count-first (sits_at table) player players (sits_at table player) refl in
+    let sits = count_by-cons (sits_at table) player players in
     let both = split_step (sits_at table player) (has_seat waiting player.place.seat) in
     omega (arith, dealt, waits, sits, both, dealt_or_waits table waiting players)
 
@@ -182,7 +181,7 @@ length_dealt : (table : ℕ) (waiting : List Bool) (players : List Seated)
     → length (dealt_seats table waiting players) ≡ count_by (is_dealt_in table waiting) players
 length_dealt table waiting [] = refl
 length_dealt table waiting (player ∷ players) =
-    let one = count-first (is_dealt_in table waiting) player players (is_dealt_in table waiting player) refl in
+    let one = count_by-cons (is_dealt_in table waiting) player players in
     let here = step player (filter (is_dealt_in table waiting) players) (is_dealt_in table waiting player) in
     omega (arith, one, here, length_dealt table waiting players)
   where

@@ -7,7 +7,7 @@ use Rattle.std.proofs.lemmas.Bool.{and_parts, not-true, eq-eqb}
 use Rattle.std.proofs.lemmas.List.Elements.{All-head, All-tail}
 use Rattle.rulebook.specs.Pairs.{are_distinct}
 use Rattle.rulebook.proofs.Checks.{none_holds}
-use Rattle.rulebook.proofs.Tests.{some_there}
+use Rattle.rulebook.proofs.Tests.{some_there, none_by_count}
 use Rattle.card_set.specs.declared.card.Card.{Card}
 use Rattle.betting_round.specs.declared.act.Act.{Act}
 use Rattle.place_list.proofs.Counts.{count_by-some}
@@ -27,7 +27,6 @@ use Rattle.tournament_rules.specs.Valid.{IsValid, IsValidPlay, is_bust_of, is_le
 use Rattle.tournament_rules.specs.Apart.{hand_refusal}
 use Rattle.tournament_rules.proofs.Members.{has_number, none_picked, any_without}
 use Rattle.tournament_rules.proofs.Outs.{one_row}
-use Rattle.tournament_rules.proofs.SitDown.{none_numbered}
 use Rattle.tournament_rules.proofs.Names.{IsNamed, names_differ}
 use Rattle.tournament_rules.proofs.Passed.{is_so, passed-parts, act_passed}
 use Rattle.tournament_rules.proofs.Steps.{accepted_none}
@@ -48,7 +47,7 @@ pub not_dealt : (book : BookState) (table number : ℕ) (cards : List Card)
     → is_among number (next_start book table cards).seats ≡ false
 not_dealt book table number cards none =
     none_picked number (is_dealt_in table (next_at book table).waiting) book.seating.players
-    (none_numbered number book.seating.players none)
+    (none_by_count (is_numbered number) book.seating.players none)
 
 -- Who has no seat is in no hand that is out.
 pub in_no_hand : (book : BookState) (table number : ℕ) → IsValid book
@@ -57,7 +56,8 @@ pub in_no_hand : (book : BookState) (table number : ℕ) → IsValid book
 in_no_hand book table number valid none =
     sym (any_without number (players_out (start_at book.out table)))
     ∙ (ap (λ (starters : List StartSeat). list_any (has_number number) starters) (sym (valid.hands.lent table))
-    ∙ none_picked number (is_lent table) book.seating.players (none_numbered number book.seating.players none))
+    ∙ none_picked number (is_lent table) book.seating.players
+    (none_by_count (is_numbered number) book.seating.players none))
 
 -- whether a player of a start has this name
 abbrev has_name : List ℕ → StartSeat → Bool
@@ -100,7 +100,7 @@ name_in_no_hand book table number name valid is none =
     sym (any_name_without name (players_out (start_at book.out table)))
     ∙ (ap (λ (starters : List StartSeat). list_any (has_name name) starters) (sym (valid.hands.lent table))
     ∙ none_named book.entries number name (is_lent table) book.seating.players valid.entries.names is
-    valid.entries.named (none_numbered number book.seating.players none))
+    valid.entries.named (none_by_count (is_numbered number) book.seating.players none))
 
 -- A player whose act a hand does not refuse is dealt in.
 act_dealt : (hand : HandTerms) (table : ℕ) (name : List ℕ) (act : Act)

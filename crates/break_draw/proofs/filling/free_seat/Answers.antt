@@ -1,18 +1,15 @@
-use Rattle.std.proofs.Common.{◌≡◌, ◌∙◌, ◌||◌, ◌&&◌, refl, sym, ap, Bool, true, false, not, length, arith}
+use Rattle.std.proofs.Common.{◌∙◌, ◌||◌, sym, ap, not, length, arith}
 use Rattle.std.specs.List.{list_any}
 use Rattle.std.specs.Option.{is_some}
 use Rattle.std.proofs.Math.Bool.{or-false}
 use Rattle.std.proofs.lemmas.List.{take_all}
+use Rattle.rulebook.proofs.Tests.{not-or}
 use Rattle.button_blinds.specs.SeatSets.{has_seat}
 use Rattle.seat_book.specs.Players.{player_at}
 use Rattle.seat_book.proofs.TakenPlaces.{has_seat-taken, taken-size}
 use Rattle.balance_rule.specs.Filling.{is_same_place, is_free}
 use Rattle.balance_rule.proofs.FreeSeats.{first-alike}
 use Rattle.break_draw.proofs.filling.free_seat.Goals as goal
-
-neither : (one other : Bool) → not (one || other) ≡ (not one && not other)
-neither true other = refl
-neither false other = refl
 
 pub loop-place-init : goal.loop-place-init
 loop-place-init c = record {
@@ -33,6 +30,6 @@ returns c =
     (λ at first last. ap not (c.loop-place.invariant.taken at first (omega (arith, last, seats.most_seats))
     ∙ ap (λ chosen. is_some (player_at c.args.book.now.players (record { table = c.args.table; seat = at }))
     || list_any (is_same_place (record { table = c.args.table; seat = at })) chosen) all)
-    ∙ neither (is_some (player_at c.args.book.now.players (record { table = c.args.table; seat = at })))
+    ∙ not-or (is_some (player_at c.args.book.now.players (record { table = c.args.table; seat = at })))
     (list_any (is_same_place (record { table = c.args.table; seat = at })) c.args.chosen.now)) in
     sym alike ∙ rw c.seat_count-seats.ensures.seats at c.empty_seat_after.ensures.next

@@ -1,9 +1,10 @@
 use Rattle.std.proofs.Common.{◌≡◌, ◌∙◌, ◌<◌, ◌+◌, ap, sym, subst, length, get_or, drop, ◌∷◌, arith}
+use Rattle.std.proofs.lemmas.List.{drop_more}
 use Rattle.seat_book.specs.declared.place.Place.{Place}
 use Rattle.seat_book.specs.Seatings.{Seating}
 use Rattle.floor_core.specs.Moves.{AreFree}
 use Rattle.floor_core.proofs.Moved.{free-rest, taking-tables}
-use Rattle.floor_core.proofs.Taking.{taking-next, taking-over, left-from}
+use Rattle.floor_core.proofs.Taking.{taking-next, taking-over}
 use Rattle.floor_core.proofs.moving.take_places.Goals as goal
 
 pub loop-index-preserved : goal.loop-index-preserved
@@ -18,7 +19,7 @@ loop-index-preserved c =
     let placed : c.loop-index.index < length c.args.places.now =
     omega (arith, c.loop-index-test.true, c.min-index-end.ensures) in
     let rest : drop c.loop-index.index c.args.places.now ≡ place ∷ drop (c.loop-index.index + 1) c.args.places.now =
-    left-from places index (record { table = 0; seat = 0 }) placed in
+    drop_more places index (record { table = 0; seat = 0 }) placed in
     let free : AreFree c.loop-index.seats (place ∷ drop (c.loop-index.index + 1) c.args.places.now) =
     subst (AreFree c.loop-index.seats) rest c.loop-index.invariant.free in
     record {

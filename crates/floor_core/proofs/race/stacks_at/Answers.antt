@@ -1,7 +1,7 @@
 use Rattle.std.proofs.Common.{◌≡◌, ◌∙◌, ◌<◌, ◌++◌, sym, ap, ℕ, List, [], ◌∷◌, take, drop, set, get_or, arith}
+use Rattle.rulebook.proofs.Rewrites.{written-next}
 use Rattle.tournament_rules.specs.Racing.{stacks_at}
 use Rattle.tournament_rules.proofs.BySeats.{stacks-at}
-use Rattle.floor_core.proofs.Raced.{written-next}
 use Rattle.floor_core.proofs.race.stacks_at.Goals as goal
 
 pub loop-below-preserved : goal.loop-below-preserved
@@ -14,7 +14,7 @@ loop-below-preserved c =
     let stack : c.stack_in.result ≡ get_or stacks below 0 =
     c.stack_in.ensures ∙ sym (stacks-at seats.players c.args.table below within) in
     ap (λ (index : ℕ). set c.loop-below.stacks index c.stack_in.result) c.from.ensures
-    ∙ written-next stacks zeros c.loop-below.stacks below c.stack_in.result within within c.loop-below.invariant stack
+    ∙ written-next stacks zeros c.loop-below.stacks below c.stack_in.result 0 c.loop-below.invariant within within stack
 
 pub returns : goal.returns
 returns c =

@@ -1,16 +1,18 @@
-use Rattle.std.proofs.Common.{◌≡◌, ◌∙◌, ◌+◌, ◌-◌, ◌<◌, [], drop, length, add-one, ap, arith}
+use Rattle.std.proofs.Common.{◌≡◌, ◌∙◌, ◌+◌, ◌-◌, ◌<◌, [], drop, length, add-one, ap, arith, ℕ}
 use Rattle.std.specs.Prelude.{slice_index_or}
 use Rattle.std.proofs.Math.ListN.{drop_of_length-le}
 use Rattle.std.proofs.lemmas.List.{length-set}
+use Rattle.std.proofs.lemmas.List.Sums.{get_or-le-sum_by}
 use Rattle.pot_layers.specs.Shares.{share_of, sum_below}
 use Rattle.showdown.specs.Awards.{split}
-use Rattle.showdown.proofs.Payments.{paid-next, seat-at, sum-award, shares-within, award-within}
+use Rattle.showdown.proofs.Payments.{paid-next, seat-at, sum-award, shares-within}
 use Rattle.showdown.proofs.awarding.split.Goals as goal
 
 pub overflow_add-awards : goal.overflow_add-awards
 overflow_add-awards c =
     let seat = seat-at c.args.order.now c.loop-index.index c.requires.seats c.loop-index-test.true in
-    let own = award-within c.loop-index.awards (slice_index_or c.args.order.now c.loop-index.index 0 - 1)
+    let own = get_or-le-sum_by (λ (n : ℕ). n) c.loop-index.awards
+    (slice_index_or c.args.order.now c.loop-index.index 0 - 1) 0
     (omega (arith, seat.1, c.loop-index.invariant.ten)) in
     let shares = shares-within c.args.amount c.args.unit
     (length c.args.order.now) c.loop-index.index c.loop-index-test.true c.requires.whole in

@@ -1,6 +1,7 @@
 use Rattle.std.proofs.Common.{◌∙◌, ap, None, length, arith}
+use Rattle.rulebook.proofs.Rewrites.{written-next}
 use Rattle.showdown.specs.Hands.{hands_of}
-use Rattle.showdown.proofs.Writes.{written-next, written-all, hands_of-at, length-hands_of}
+use Rattle.showdown.proofs.Writes.{written-all, hands_of-at, length-hands_of}
 use Rattle.showdown.proofs.hand.hands_of.Goals as goal
 
 pub loop-index-preserved : goal.loop-index-preserved

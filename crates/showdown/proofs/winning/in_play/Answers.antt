@@ -1,8 +1,9 @@
 use Rattle.std.proofs.Common.{◌≡◌, ◌∙◌, None, true, false, get_or, length, ap, sym, add-one, arith}
 use Rattle.std.proofs.lemmas.List.{get_or_default}
+use Rattle.rulebook.proofs.Rewrites.{written-next}
 use Rattle.button_blinds.specs.SeatSets.{has_seat}
 use Rattle.showdown.specs.Winners.{in_play}
-use Rattle.showdown.proofs.Writes.{written-next, written-all, length-in_play, get_or-in_play}
+use Rattle.showdown.proofs.Writes.{written-all, length-in_play, get_or-in_play}
 use Rattle.showdown.proofs.winning.in_play.Goals.{then-has, else-has}
 use Rattle.showdown.proofs.winning.in_play.Goals as goal
 

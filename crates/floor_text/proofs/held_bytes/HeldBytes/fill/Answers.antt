@@ -1,8 +1,9 @@
 use Rattle.std.proofs.Common.{◌≤◌, ℕ, List, length, drop, take, Result, Ok, Err, OnErr, ap, ◌∙◌, arith}
+use Rattle.std.proofs.lemmas.List.{take_at}
 use Rattle.std.proofs.lemmas.Option.{IfSome_then}
 use Rattle.std.proofs.Math.Seq.{take-length}
 use Rattle.floor_text.specs.HeldBytes.{Holding}
-use Rattle.floor_text.proofs.HeldLists.{moved_by_call, moved_kept, moved_front, moved_count, moved_behind, written_back}
+use Rattle.floor_text.proofs.HeldLists.{moved_by_call, moved_kept, moved_front, moved_count, moved_behind}
 use Rattle.floor_text.proofs.held_bytes.HeldBytes.fill.Goals as goal
 
 -- what holds in any case holds after an error
@@ -36,8 +37,8 @@ returns-clause-count g c =
     c.copy_within.new.self.len (omega arith) (omega arith) c.min-kept.ensures
     (ap (λ (h : Holding). h.held) c.self.view_is) c.copy_within.ensures.items c.deref_mut.ensures.value
     c.in_ok-n.ensures.front (omega arith) in
-    let back = written_back c.copy_within.new.self.items c.take_at.new.buffer c.copy_within.new.self.len
-    (omega arith) in
+    let back = take_at c.take_at.new.buffer (drop (length c.take_at.new.buffer) c.copy_within.new.self.items)
+    c.copy_within.new.self.len (omega arith) in
     let count : c.in_ok-n.n ≤ c.args.ask = c.in_ok-n.ensures.count in
     (count, moved_count c.args.self.now.held _ c.min-kept.result c.in_ok-n.n is (omega (arith, ap length back)))
 
@@ -57,8 +58,8 @@ returns-clause-bytes g c =
     c.copy_within.new.self.len (omega arith) (omega arith) c.min-kept.ensures
     (ap (λ (h : Holding). h.held) c.self.view_is) c.copy_within.ensures.items c.deref_mut.ensures.value
     c.in_ok-n.ensures.front (omega arith) in
-    let back = written_back c.copy_within.new.self.items c.take_at.new.buffer c.copy_within.new.self.len
-    (omega arith) in
+    let back = take_at c.take_at.new.buffer (drop (length c.take_at.new.buffer) c.copy_within.new.self.items)
+    c.copy_within.new.self.len (omega arith) in
     IfSome_then (g.S.Source.left c.args.source.now) c.in_ok-n.ensures.bytes (λ bytes gives. record {
       within = gives.within;
       rest = gives.rest;

@@ -1,9 +1,9 @@
-use Rattle.std.proofs.Common.{◌≡◌, ◌∙◌, sum, ap, arith}
+use Rattle.std.proofs.Common.{◌≡◌, ◌∙◌, sum, length, drop, ap, arith}
+use Rattle.std.proofs.lemmas.List.{take_at}
 use Rattle.table_engine.specs.contracts.hand.Hand.{the_view}
 use Rattle.table_engine.specs.Awards.{awards_in_hand}
 use Rattle.table_engine.proofs.BySeat.{lawful-seats}
 use Rattle.table_engine.proofs.ChipsAfter.{chips-after, street-stacks}
-use Rattle.rulebook.proofs.Rewrites.{written-back}
 use Rattle.table_engine.proofs.hand.Hand.finish.Goals as goal
 
 pub pay-requires : goal.pay-requires
@@ -19,7 +19,8 @@ pay-requires c =
 pub returns-clause-complete : goal.returns-clause-complete
 returns-clause-complete c =
     let hand = the_view c.self.inside in
-    let back = written-back c.self.inside.stacks.len c.pay.new.stacks c.self.inside.stacks.items (omega arith) in
+    let back = take_at c.pay.new.stacks (drop (length c.pay.new.stacks) c.self.inside.stacks.items)
+    c.self.inside.stacks.len (omega arith) in
     let awards : c.awards-awards.result ≡ awards_in_hand hand =
     rw (← c.self.view_is) at c.awards-awards.ensures.awards in
     record {
