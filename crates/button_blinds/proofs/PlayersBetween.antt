@@ -7,13 +7,6 @@ use Rattle.rulebook.proofs.Walks.{walk-next}
 use Rattle.button_blinds.specs.SeatSets.{has_seat}
 use Rattle.button_blinds.specs.Marks.{players_before}
 
--- At small's seat nobody more comes before it.
-pub players_before-small : (occupied : List Bool) (small : ℕ) (step : ℕ → ℕ) (steps taken seat : ℕ) → taken < steps
-    → (step seat == small) ≡ true
-    → players_before occupied small (walk step (steps - taken) seat) ≡ []
-players_before-small occupied small step steps taken seat within here =
-    rw (walk-next step steps taken seat within, here)
-
 -- A seat that is not small's comes before small, and then those of the rest that do.
 pub players_before-other : (occupied : List Bool) (small seat : ℕ) (more : List ℕ) → (seat == small) ≡ false
     → players_before occupied small (seat ∷ more)
@@ -49,10 +42,3 @@ players_before-empty occupied small step steps taken seat within other nobody =
           (walk step (steps - (taken + 1)) (step seat)) other,
       nobody,
     ) refl
-
--- With no seat left nobody more comes before small.
-pub players_before-over : (occupied : List Bool) (small : ℕ) (step : ℕ → ℕ) (steps taken seat : ℕ) → steps ≡ taken
-    → players_before occupied small (walk step (steps - taken) seat) ≡ []
-players_before-over occupied small step steps taken seat over =
-    let left : steps - taken ≡ 0 = omega arith in
-    rw left

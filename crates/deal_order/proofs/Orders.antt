@@ -15,14 +15,6 @@ use Rattle.rulebook.proofs.Tests.{list_all-kept}
 use Rattle.button_blinds.specs.SeatSets.{AreSeatsOf, has_seat, seat_count}
 use Rattle.deal_order.specs.DealOrder.{count_up, dealt_in_order, index_in}
 
--- The next seat of a walk, where it is dealt in and the one looked for.
-pub index-here : (dealt : ℕ → Bool) (step : ℕ → ℕ) (steps taken next seat : ℕ) → taken < steps
-    → dealt (step next) ≡ true → step next ≡ seat
-    → index_in seat (filter dealt (walk step (steps - taken) next)) ≡ 0
-index-here dealt step steps taken next seat within sits same =
-    let is : (step next == seat) ≡ true = grind (arith, nat_tests) in
-    rw (walk-next step steps taken next within, sits, is)
-
 -- The next seat of a walk, where it is dealt in and another than the one looked for.
 pub index-passed : (dealt : ℕ → Bool) (step : ℕ → ℕ) (steps taken next seat : ℕ) → taken < steps
     → dealt (step next) ≡ true → (step next == seat) ≡ false
@@ -37,12 +29,6 @@ pub index-empty : (dealt : ℕ → Bool) (step : ℕ → ℕ) (steps taken next 
     → index_in seat (filter dealt (walk step (steps - taken) next))
     ≡ index_in seat (filter dealt (walk step (steps - (taken + 1)) (step next)))
 index-empty dealt step steps taken next seat within nobody = rw (walk-next step steps taken next within, nobody)
-
--- With no step left nobody more comes before.
-pub index-over : (dealt : ℕ → Bool) (step : ℕ → ℕ) (steps taken next seat : ℕ) → steps ≤ taken
-    → index_in seat (filter dealt (walk step (steps - taken) next)) ≡ 0
-index-over dealt step steps taken next seat over =
-    let left : steps - taken ≡ 0 = omega arith in rw left
 
 -- A test that each number passes.
 abbrev pub always : ℕ → Bool

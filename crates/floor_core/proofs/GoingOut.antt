@@ -153,11 +153,6 @@ stay_next players test group before now out out_now index player so_far within i
       once = so_far.once;
     }
 
--- Once all are passed, those whom a test picks of them are those of all.
-pub all_passed : (players : List StartSeat) (test : StartSeat → Bool) (index : ℕ) → length players ≤ index
-    → filter test (take index players) ≡ filter test players
-all_passed players test index all = ap (filter test) (take_all index players all)
-
 -- The stacks after a hand have each player's in his place.
 pub stack_at : (hand : HandTerms) (stacks : List ℕ) (index : ℕ) (player : StartSeat) → stacks ≡ stacks_after_hand hand
     → index < length hand.start.seats → player ≡ get_or hand.start.seats index player

@@ -32,12 +32,6 @@ in_parts book hands event tied =
     ∙ ap (λ (hand : Option HandTerms). option_or (book_refusal book event)
     (option_and_then (hand_refusal event) hand)) (hand_for-read book hands event tied)
 
--- What the book refuses is refused.
-pub by_book : (book : BookState) (hands : List (Option HandTerms)) (event : Event) (found : Refusal)
-    → map start_of hands ≡ book.out → book_refusal book event ≡ Some found → refusal_of (seen book hands) event
-    ≡ Some found
-by_book book hands event found tied is = in_parts book hands event tied ∙ rw is refl
-
 -- An event about no hand is refused by the book alone.
 pub by_book_alone : (book : BookState) (hands : List (Option HandTerms)) (event : Event) → map start_of hands
     ≡ book.out → hand_for hands event ≡ None → refusal_of (seen book hands) event ≡ book_refusal book event

@@ -94,15 +94,3 @@ raised-all unit before now below all now_is =
     now_is ∙ (ap (raised_so_far unit before) all
     ∙ ap (λ (tables : List TableStatus). record before { tables = tables })
     (first-all unit before.players 1 before.tables))
-
--- The refusal of a level is that of its checks.
-pub level_refusal : (book : BookState) → book_refusal book Level ≡ first_that_holds (level_checks book)
-unfolding book_refusal
-level_refusal book = refl
-
--- The fields that a level writes make the book of the definition.
-pub leveled_state : (book : BookState) (before unit : ℕ) (seats : Seating)
-    → before ≡ unit_of_level book.plan.blinds book.level → unit ≡ unit_of_level book.plan.blinds (book.level + 1)
-    → seats ≡ (if nat_lt before unit then raised unit book.seating else book.seating)
-    → record book { seating = seats; level = book.level + 1; accepted = book.accepted + 1 } ≡ leveled book
-leveled_state book before unit seats before_is unit_is seats_is = rw (seats_is, before_is, unit_is) refl

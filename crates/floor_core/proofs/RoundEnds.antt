@@ -10,17 +10,6 @@ use Rattle.tournament_rules.specs.Books.{BookState}
 use Rattle.tournament_rules.specs.Checks.{going_checks, over_checks, hands_checks, end_round_checks, book_refusal}
 use Rattle.tournament_rules.specs.Effects.{round_ended}
 
--- The refusal of a switch is that of its checks.
-pub hands_refusal : (book : BookState) (on : Bool) → book_refusal book (Hands on)
-    ≡ first_that_holds (hands_checks book on)
-unfolding book_refusal
-hands_refusal book on = refl
-
--- The refusal of the end of a round is that of its checks.
-pub round_refusal : (book : BookState) → book_refusal book Round ≡ first_that_holds (end_round_checks book)
-unfolding book_refusal
-round_refusal book = refl
-
 -- Where no check of a switch holds, none of its own does.
 pub may_be_switched : (book : BookState) (on : Bool) → first_that_holds (hands_checks book on) ≡ None
     → first_that_holds (switch_checks on book.seating) ≡ None

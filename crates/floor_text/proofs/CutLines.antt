@@ -101,17 +101,8 @@ lines_of_bytes-last [] none some = absurd (omega arith)
 lines_of_bytes-last (b ∷ bs) none some =
     ap (λ (ps : List (List ℕ)). map cut_line (without_empty_last ps)) (slice_split-none (b ∷ bs) none)
 
-pub cut_short : (line : List ℕ) → length line ≤ 400 → cut_line line ≡ Some line
-cut_short line short = grind (arith, nat_tests)
-
 pub cut_long : (line : List ℕ) → 400 < length line → cut_line line ≡ None
 cut_long line long = grind (arith, nat_tests)
-
--- a line that is not too long, whatever follows its line feed
-pub lines_of_bytes-short : (line rest : List ℕ) → HasNoFeed line → length line ≤ 400
-    → lines_of_bytes (line ++ 10 ∷ rest) ≡ Some line ∷ lines_of_bytes rest
-lines_of_bytes-short line rest none short =
-    lines_of_bytes-line line rest none ∙ ap (λ (l : Option (List ℕ)). l ∷ lines_of_bytes rest) (cut_short line short)
 
 long_last : (xs rest : List ℕ) → HasNoFeed xs → 400 < length xs → HasNoFeed rest
     → lines_of_bytes (xs ++ rest) ≡ None ∷ []

@@ -9,10 +9,6 @@ abbrev pub IsWritten : Option (List ℕ) → Option (List ℕ) → List ℕ → 
 IsWritten old now all rest =
     (k : ℕ) × (k ≤ length all) × (rest ≡ drop k all) × IfSome old (λ before. now ≡ Some (before ++ take k all))
 
-pub written_none : (o : Option (List ℕ)) (all : List ℕ) → IsWritten o o all all
-written_none None all = (0, omega arith, refl, tt)
-written_none (Some before) all = (0, omega arith, refl, ap Some (sym (append-nil before)))
-
 -- one piece more
 pub written_more : (old now next : Option (List ℕ)) (all rest more : List ℕ) (n : ℕ) → IsWritten old now all rest
     → n ≤ length rest → more ≡ drop n rest → IfSome now (λ before. next ≡ Some (before ++ take n rest))

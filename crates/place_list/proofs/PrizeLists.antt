@@ -49,12 +49,6 @@ part-left pool paid prizes left index within few parts whole =
     let is = ap sum parts in
     omega (arith, all, next, is, whole)
 
--- What the first place gets is added to its prize.
-pub first_gets-set : (left : ℕ) (prizes : List ℕ) → 1 ≤ length prizes → set prizes 0 (get_or prizes 0 0 + left)
-    ≡ first_gets left prizes
-first_gets-set left [] some = absurd (omega arith)
-first_gets-set left (first ∷ others) some = refl
-
 -- Of a list no more can be taken than there is.
 pub take-min : (items : List ℕ) (n m : ℕ) → m ≡ min (length items) n → take m items ≡ take n items
 take-min items n m is = elim (which (length items) n) [

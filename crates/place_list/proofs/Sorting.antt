@@ -119,13 +119,3 @@ ordered-unique (standing ∷ standings) falling falls same =
     let equal = same test in
     omega (arith, all, fewer, equal)))
     ∙ out.put
-
--- What comes before all that are behind it, place by place.
-pub falls-from : (standings : List Standing) → ((i j : ℕ) (d : Standing) → i < j → j < length standings
-    → comes_before (get_or standings i d) (get_or standings j d) ≡ true) → Falls standings
-falls-from [] before = tt
-falls-from (standing ∷ standings) before = (
-  count_by-none (λ other. not (comes_before standing other)) standings
-      (λ k d within. ap not (before zero (suc k) d (omega arith) (omega arith))),
-  falls-from standings (λ i j d first within. before (suc i) (suc j) d (omega arith) (omega arith)),
-)

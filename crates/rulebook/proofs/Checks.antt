@@ -49,16 +49,3 @@ none_holds (check ∷ checks) none = by_test check.1 none (none_holds checks)
         → (not holds && list_all (λ check. not check.1) checks) ≡ true
     by_test true none rest = cc
     by_test false none rest = rest none
-
--- Where what each check answers is put in other words, the first that holds is the same in these words.
-pub first_that_holds-map : {A B : Type 0} (words : A → B) (checks : List (A × Bool))
-    → first_that_holds (map (λ check. (words check.0, check.1)) checks) ≡ option_map words (first_that_holds checks)
-first_that_holds-map words [] = refl
-first_that_holds-map words (check ∷ checks) = by_test check.1 (first_that_holds-map words checks)
-  where
-    by_test : (holds : Bool)
-        → first_that_holds (map (λ check. (words check.0, check.1)) checks) ≡ option_map words (first_that_holds checks)
-        → cond holds (Some (words check.0)) (first_that_holds (map (λ check. (words check.0, check.1)) checks))
-        ≡ option_map words (cond holds (Some check.0) (first_that_holds checks))
-    by_test true rest = refl
-    by_test false rest = rest

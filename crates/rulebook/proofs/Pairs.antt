@@ -18,15 +18,6 @@ is_pairwise-follows one other (item ∷ items) follows pairs =
     and_from _ _ (list_all-follows (one item) (other item) items (follows item) parts.0)
     (is_pairwise-follows one other items follows parts.1)
 
--- Numbers that rise differ.
-pub distinct-rising : (numbers : List ℕ) → are_rising numbers ≡ true
-    → are_distinct (λ one other. one == other) numbers ≡ true
-distinct-rising numbers rising =
-    is_pairwise-follows nat_lt (λ one other. not (one == other)) numbers below-differs rising
-  where
-    below-differs : (one other : ℕ) → nat_lt one other ≡ true → not (one == other) ≡ true
-    below-differs one other below = grind (arith, nat_tests)
-
 -- What holds between the items of a list holds between some of them.
 pub is_pairwise-filter : {A K : Type 0} (test : K → K → Bool) (key : A → K) (keep : A → Bool) (items : List A)
     → is_pairwise test (map key items) ≡ true
@@ -69,44 +60,3 @@ first_alone false others some none = cc
 pub others_alone : (first others : Bool) → (first || others) ≡ true → first ≡ false → others ≡ true
 others_alone true others some none = absurd cc
 others_alone false others some none = some
-
--- Where no two items have one key and some item with a key passes a test, each item with this key does.
-pub distinct-alike : {A K : Type 0} (same : K → K → Bool) (key : A → K) (test : A → Bool) (wanted : K) (items : List A)
-    → ((one other : K) → same one wanted ≡ true → same other wanted ≡ true → same one other ≡ true)
-    → are_distinct same (map key items) ≡ true
-    → list_any (λ item. same (key item) wanted && test item) items ≡ true
-    → list_all (λ item. not (same (key item) wanted) || test item) items ≡ true
-distinct-alike same key test wanted [] joined distinct some = refl
-distinct-alike {A = A} {K = K} same key test wanted (item ∷ items) joined distinct some =
-    let parts = and_parts (list_all (λ other. not (same (key item) other)) (map key items))
-    (is_pairwise (λ one other. not (same one other)) (map key items)) distinct in
-    by_key (same (key item) wanted) refl parts.0
-    (λ later. distinct-alike same key test wanted items joined parts.1 later)
-  where
-    by_key : (his : Bool) → same (key item) wanted ≡ his
-        → list_all (λ other. not (same (key item) other)) (map key items) ≡ true
-        → (list_any (λ item. same (key item) wanted && test item) items ≡ true
-        → list_all (λ item. not (same (key item) wanted) || test item) items ≡ true)
-        → ((not (same (key item) wanted) || test item) && list_all
-        (λ item. not (same (key item) wanted) || test item) items) ≡ true
-    by_key true his apart rest =
-        let others = list_all-map (λ (other : K). not (same (key item) other)) key items in
-        let alone = list_all-follows (λ (other : A). not (same (key item) (key other)))
-        (λ other. not (same (key other) wanted)) items (λ other differs. differs_too (key other) his differs)
-        (rw others at apart) in
-        let none = nobody (λ (other : A). same (key other) wanted) test items alone in
-        let passes = first_alone (test item) (list_any (λ (other : A). same (key other) wanted && test other) items)
-        (rw his at some) none in
-        and_from _ _ (or_right _ _ passes)
-        (list_all-follows (λ (other : A). not (same (key other) wanted))
-        (λ other. not (same (key other) wanted) || test other) items (λ other differs. or_left _ _ differs) alone)
-      where
-        differs_too : (other : K) → same (key item) wanted ≡ true → not (same (key item) other) ≡ true
-            → not (same other wanted) ≡ true
-        differs_too other his differs =
-            elim (cases_Bool (same other wanted)) [
-              | inl hers ↦ let one : same (key item) other ≡ true = joined (key item) other his hers in let two =
-                  not-true (same (key item) other) differs in absurd cc
-              | inr else ↦ rw else
-            ]
-    by_key false other apart rest = rw other (rest (rw other at some))

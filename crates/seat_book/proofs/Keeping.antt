@@ -485,13 +485,6 @@ kept-status tables seats table slots places counts statuses status kept at lawfu
           rw (get_or-set_other statuses (table - 1) below status fresh_status differ) (kept.lawful (suc below))
     ]
 
--- a table stands anew
-pub with_status-set : (table : ℕ) (statuses : List TableStatus) (status : TableStatus) → 1 ≤ table
-    → set statuses (table - 1) status ≡ with_status statuses table status
-with_status-set zero statuses status first = absurd (omega arith)
-with_status-set (suc below) statuses status first = let same : suc below - 1 ≡ below = omega arith in ap
-    (λ (n : ℕ). set statuses n status) same
-
 -- how a table stands
 pub status_at-get : (table : ℕ) (statuses : List TableStatus) → 1 ≤ table
     → get_or statuses (table - 1) fresh_status ≡ status_at statuses table

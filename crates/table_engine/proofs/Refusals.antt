@@ -56,19 +56,3 @@ pub done-in_seat : (hand : HandTerms) (name : List ℕ) (act : Act) (seat : ℕ)
     → done_of_act hand name act ≡ done_in_seat hand act seat
 unfolding done_of_act
 done-in_seat hand name act seat found = rw found
-
--- A fault that tells the refusal that there is answers an act.
-pub answer-refused : {T : Type 0} (result : Result T ActFault) (refusal : Option Refusal) (reason : Refusal)
-    → refusal ≡ Some reason → IsErr result × IsErrAnd result (λ fault. fault ≡ No reason)
-    → IsAnswer refusal result
-answer-refused (Ok done) refusal reason is failed = let never : false ≡ true = failed.0 in cc
-answer-refused {T = T} (Err fault) refusal reason is failed =
-    subst (λ (f : ActFault). IsAnswer {T = T} refusal (Err f)) (sym failed.1) is
-
--- Want of memory answers an act that nothing refuses.
-pub answer-memory : {T : Type 0} (result : Result T ActFault) (refusal : Option Refusal) → refusal ≡ None
-    → IsErr result × IsErrAnd result (λ fault. fault ≡ NoMemory)
-    → IsAnswer refusal result
-answer-memory (Ok done) refusal none failed = none
-answer-memory {T = T} (Err fault) refusal none failed =
-    subst (λ (f : ActFault). IsAnswer {T = T} refusal (Err f)) (sym failed.1) none

@@ -42,10 +42,6 @@ pub players-of_record : (done : HandRecord) → IsCompletePlay done
 players-of_record done complete = rw complete.stacks
     (with_stacks-made (stack_after_hand (hand_of done)) done.start.seats)
 
--- The record of a complete play has a stack for each player of the start.
-pub stacks-counted : (done : HandRecord) → IsCompletePlay done → length done.stacks ≡ length done.start.seats
-stacks-counted done complete = ap length complete.stacks ∙ length-map done.start.seats (stack_after_hand (hand_of done))
-
 -- What does not look at a player's stack is the same of players with other stacks.
 same-whatever_stack : {K : Type 0} (key : StartSeat → K) (stack_of : StartSeat → ℕ) (players : List StartSeat)
     → ((player : StartSeat) (stack : ℕ) → key (with_stack player stack) ≡ key player)

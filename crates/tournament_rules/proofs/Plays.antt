@@ -267,15 +267,6 @@ play_keeps play events.Round valid none = record {
 }
 play_keeps play events.Stop valid none = play_stopped play valid
 
--- Any event leaves a tournament valid.
-pub valid_play_after : (play : PlayState) (event : Event) → IsValidPlay play → IsValidPlay (play_after play event)
-valid_play_after play event valid = by_refusal (refusal_of play event) refl
-  where
-    by_refusal : (found : Option Refusal) → refusal_of play event ≡ found
-        → IsValidPlay (if is_none found then play_effect play event else play)
-    by_refusal None is = play_keeps play event valid is
-    by_refusal (Some refusal) is = valid
-
 -- A tournament is valid before any entry.
 pub valid_first_play : (plan : PlanTerms) → is_right plan ≡ true → IsValidPlay (first_play plan)
 valid_first_play plan right = record {
