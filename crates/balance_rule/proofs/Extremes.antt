@@ -1,16 +1,12 @@
 -- The greatest and the least count of the open tables bound the count of each.
-use Rattle.std.proofs.Common.{◌≡◌, ◌∙◌, refl, sym, ap, ℕ, zero, suc, ◌+◌, ◌<◌, ◌≤◌, Bool, true, false, cond, ◌==◌, List, [], ◌∷◌, max, min, map, inl, inr, arith}
-use Rattle.std.specs.Prelude.{filter, fold, ◌⊎◌}
-use Rattle.std.specs.List.{list_any}
+use Rattle.std.proofs.Common.{◌≡◌, ap, ℕ, zero, suc, ◌+◌, ◌<◌, ◌≤◌, true, ◌==◌, List, [], ◌∷◌, max, min, map, inl, inr, arith}
+use Rattle.std.specs.Prelude.{filter, fold}
 use Rattle.std.proofs.lemmas.Bool.{cases_eq, eq-eqb, eqb-true, or_left, or_right, or_cases}
 use Rattle.rulebook.specs.Seats.{walk}
+use Rattle.rulebook.proofs.Among.{is_among, among-filter}
 use Rattle.seat_book.specs.declared.seated.Seated.{Seated}
 use Rattle.seat_book.specs.Places.{IsTableOf}
 use Rattle.seat_book.specs.Counts.{count_at, is_open, table_numbers, greatest_count, least_count, least_of}
-
--- a number is in a list
-abbrev pub is_among : ℕ → List ℕ → Bool
-is_among number numbers = list_any (λ other. other == number) numbers
 
 among-walk : (steps from number : ℕ) → from < number → number ≤ from + steps
     → is_among number (walk suc steps from) ≡ true
@@ -25,24 +21,6 @@ among-walk (suc steps) from number above within = elim (cases_eq (suc from) numb
 -- The number of a table is among those of all tables.
 pub among-tables : (tables table : ℕ) → IsTableOf tables table → is_among table (table_numbers tables) ≡ true
 among-tables tables table at = among-walk tables 0 table (omega (arith, at.first)) (omega (arith, at.last))
-
--- A number of a list that passes a test is among those that pass.
-pub among-filter : (test : ℕ → Bool) (number : ℕ) (numbers : List ℕ) → test number ≡ true
-    → is_among number numbers ≡ true → is_among number (filter test numbers) ≡ true
-among-filter test number [] passes among = cc
-among-filter test number (first ∷ numbers) passes among =
-    by_test (test first) refl (among-filter test number numbers passes)
-    (or_cases (first == number) (is_among number numbers) among)
-  where
-    by_test : (b : Bool) → test first ≡ b
-        → (is_among number numbers ≡ true → is_among number (filter test numbers) ≡ true)
-        → ((first == number) ≡ true) ⊎ (is_among number numbers ≡ true)
-        → is_among number (cond b (first ∷ filter test numbers) (filter test numbers)) ≡ true
-    by_test true is later (inl here) = or_left (first == number) (is_among number (filter test numbers)) here
-    by_test true is later (inr among) = or_right (first == number) (is_among number (filter test numbers)) (later among)
-    by_test false is later (inl here) =
-        let same : test number ≡ false = ap test (sym (eqb-true first number here)) ∙ is in absurd cc
-    by_test false is later (inr among) = later among
 
 max-start : (start : ℕ) (numbers : List ℕ) → start ≤ fold max start numbers
 max-start start [] = omega arith

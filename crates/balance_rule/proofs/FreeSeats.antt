@@ -1,19 +1,18 @@
 -- Seats that are free: where fewer are taken than a table has, a walk round it finds one.
-use Rattle.std.proofs.Common.{◌≡◌, ◌∙◌, refl, ap, ℕ, zero, suc, ◌<◌, ◌≤◌, ◌==◌, Bool, true, false, cond, List, [], ◌∷◌, Option, None, Some, inl, inr, arith}
+use Rattle.std.proofs.Common.{◌≡◌, ◌∙◌, refl, ap, ℕ, zero, suc, ◌<◌, ◌≤◌, ◌==◌, Bool, true, false, cond, List, [], ◌∷◌, Option, None, Some, arith}
 use Rattle.std.specs.Option.{is_some}
-use Rattle.std.specs.Prelude.{not, ◌&&◌, ◌||◌, find, unwrap_or, slice_index_or}
+use Rattle.std.specs.Prelude.{not, ◌&&◌, ◌||◌, find, slice_index_or}
 use Rattle.std.proofs.Math.Bool.{and_comm}
-use Rattle.std.proofs.lemmas.Bool.{both_ways, cases_lt, eq-eqb, eqb-true, and_parts, not-true}
-use Rattle.std.proofs.lemmas.Bool.Decides.{nat_tests}
+use Rattle.std.proofs.lemmas.Bool.{both_ways, and_parts, not-true}
 use Rattle.rulebook.specs.Seats.{seat_after, walk, clockwise_after}
 use Rattle.rulebook.proofs.Found.{none-by_test}
-use Rattle.rulebook.proofs.OccupiedSeats.{seat_after-within, walk-higher, walk-round}
+use Rattle.rulebook.proofs.OccupiedSeats.{comes-to, seat_after-within}
 use Rattle.rulebook.proofs.Tests.{count_by-cons, eqb-swap, find-all, find-passes, not-or}
 use Rattle.button_blinds.specs.SeatSets.{has_seat, with_seat, seat_count}
 use Rattle.button_blinds.specs.declared.marks.Marks.{Marks}
 use Rattle.seat_book.specs.declared.seated.Seated.{Seated}
 use Rattle.seat_book.specs.Players.{player_at, taken_seats}
-use Rattle.seat_book.proofs.Passing.{none-find}
+use Rattle.rulebook.proofs.Passing.{none-find}
 use Rattle.seat_book.proofs.TakenPlaces.{has_seat-one_more, has_seat-taken, taken-size}
 use Rattle.balance_rule.specs.EmptySeats.{is_empty_seat, first_after, worst_of}
 
@@ -33,28 +32,6 @@ pub some-free : (set : List Bool) (seats : ℕ) → seat_count set < seats
 some-free set seats fewer =
     let test = false-test set seats fewer in
     (suc test.0, (omega arith, omega (arith, test.1.0), test.1.1))
-
--- the walk round a table comes to each seat
-comes-to : (seats seat target : ℕ) → seat ≤ seats → 1 ≤ target → target ≤ seats
-    → find (λ other. other == target) (clockwise_after seats seat) ≡ Some target
-comes-to seats seat target within first last = found (find (λ other. other == target) (clockwise_after seats seat)) refl
-  where
-    is_target : (unwrap_or (find (λ other. other == target) (clockwise_after seats seat)) (suc target) == target) ≡ true
-    is_target = elim (cases_lt seat target) [
-      | inl higher ↦ walk-higher (λ other. other == target) seats seats seat target (suc target)
-          (eq-eqb target target refl) higher last (omega arith)
-      | inr lower ↦ walk-round (λ other. other == target) seats seats seat target (suc target)
-          (eq-eqb target target refl) within first last (omega arith)
-    ]
-
-    found : (result : Option ℕ) → find (λ other. other == target) (clockwise_after seats seat) ≡ result
-        → find (λ other. other == target) (clockwise_after seats seat) ≡ Some target
-    found None is = let same : (suc target == target) ≡ true = rw is at is_target in absurd (not_above same)
-      where
-        not_above : (suc target == target) ≡ true → ⊥
-        not_above same = grind (arith, nat_tests)
-    found (Some other) is = let same : (other == target) ≡ true = rw is at is_target in is
-        ∙ ap Some (eqb-true other target same)
 
 -- A walk round a table finds a seat that passes a test, where a seat of the table does.
 pub walk-finds : (seats : ℕ) (test : ℕ → Bool) (seat target : ℕ) → seat ≤ seats → 1 ≤ target → target ≤ seats

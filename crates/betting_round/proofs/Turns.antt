@@ -1,15 +1,14 @@
 -- Whose turn it is, and what an act that is not refused puts in.
-use Rattle.std.proofs.Common.{◌-◌, ◌≡◌, ◌∙◌, ℕ, zero, suc, ◌+◌, ◌%◌, ◌≤◌, Bool, true, false, cond, List, [], ◌∷◌, Some, None, refl, ap, inl, inr, arith}
-use Rattle.std.specs.Prelude.{Option, IfSome, IsSome, ◌==◌, ◌&&◌, not, find, nat_lt}
+use Rattle.std.proofs.Common.{◌-◌, ◌≡◌, ◌∙◌, ℕ, ◌+◌, ◌≤◌, Bool, true, false, cond, List, [], ◌∷◌, Some, None, refl, ap, inl, inr, arith}
+use Rattle.std.specs.Prelude.{Option, IfSome, IsSome, ◌==◌, find, nat_lt}
 use Rattle.std.specs.Option.{option_map_or}
-use Rattle.std.proofs.lemmas.Bool.{cases_Bool, cases_eq, ltb-false}
+use Rattle.std.proofs.lemmas.Bool.{and_parts, cases_Bool, cases_eq, ltb-false, not-true}
 use Rattle.std.proofs.lemmas.Bool.Decides.{nat_tests}
-use Rattle.floor_text.specs.declared.refusal.Refusal.{Refusal}
-use Rattle.floor_text.specs.declared.refusal.Refusal.TheVariants.{BetFacing, NothingToRaise, NotReopened, NotUnit, PastPot, PastStack, TooSmall}
 use Rattle.rulebook.specs.Checks.{first_that_holds}
-use Rattle.rulebook.proofs.Checks.{first_that_holds-later, none_holds-both}
+use Rattle.rulebook.proofs.Checks.{first_that_holds-later, none_holds, none_holds-both}
+use Rattle.rulebook.proofs.OccupiedSeats.{found-within}
 use Rattle.rulebook.proofs.Tests.{find-passes}
-use Rattle.rulebook.specs.Seats.{clockwise_after, seat_after, walk}
+use Rattle.rulebook.specs.Seats.{clockwise_after}
 use Rattle.betting_round.specs.declared.act.Act.{Act}
 use Rattle.betting_round.specs.declared.act.Act.TheVariants.{Fold, Check, Call, AllIn, Bet, Raise}
 use Rattle.betting_round.specs.declared.bettor.Bettor.{Bettor}
@@ -58,41 +57,19 @@ pub due-can_act : (street : Street) (seat : ℕ) → due_seat street ≡ Some se
 due-can_act street seat due =
     can_act-due street.level (player_at street.players seat) (due-may street seat due)
 
--- What is found on a walk clockwise is a seat from 1 on.
-found-low : (test : ℕ → Bool) (seats steps from seat : ℕ) → find test (walk (seat_after seats) steps from) ≡ Some seat
-    → 1 ≤ seat
-found-low test seats zero from seat found = absurd cc
-found-low test seats (suc steps) from seat found =
-    elim (cases_Bool (test (seat_after seats from))) [
-      | inl is ↦
-          let first : Some (seat_after seats from) ≡ Some seat = rw is at found in
-          let same : seat_after seats from ≡ seat = cc in
-          let low : 1 ≤ seat_after seats from = grind (arith, nat_tests) in omega arith
-      | inr passed ↦ found-low test seats steps (seat_after seats from) seat (rw passed at found)
-    ]
-
--- What is found on a walk clockwise is a seat of the table.
-found-high : (test : ℕ → Bool) (seats steps from seat : ℕ) → 1 ≤ seats
-    → find test (walk (seat_after seats) steps from) ≡ Some seat → seat ≤ seats
-found-high test seats zero from seat some found = absurd cc
-found-high test seats (suc steps) from seat some found =
-    elim (cases_Bool (test (seat_after seats from))) [
-      | inl is ↦
-          let first : Some (seat_after seats from) ≡ Some seat = rw is at found in
-          let same : seat_after seats from ≡ seat = cc in
-          let high : seat_after seats from ≤ seats = grind (arith, nat_tests) in omega arith
-      | inr passed ↦ found-high test seats steps (seat_after seats from) seat some (rw passed at found)
-    ]
+-- Who is due sits in one of ten seats.
+due-within : (street : Street) (seat : ℕ) → due_seat street ≡ Some seat → (1 ≤ seat) × (seat ≤ 10)
+due-within street seat due =
+    found-within (λ s. is_there (may_be_due street.level) (player_at street.players s)) 10 10 street.after seat
+    (omega arith) (due-found street seat due)
 
 -- Who is due sits in a seat from 1 on.
 pub due-low : (street : Street) (seat : ℕ) → due_seat street ≡ Some seat → 1 ≤ seat
-due-low street seat due = found-low (λ s. is_there (may_be_due street.level)
-    (player_at street.players s)) 10 10 street.after seat (due-found street seat due)
+due-low street seat due = (due-within street seat due).0
 
--- Who is due sits in one of ten seats.
+-- Who is due sits in a seat up to 10.
 pub due-high : (street : Street) (seat : ℕ) → due_seat street ≡ Some seat → seat ≤ 10
-due-high street seat due = found-high (λ s. is_there (may_be_due street.level)
-    (player_at street.players s)) 10 10 street.after seat (omega arith) (due-found street seat due)
+due-high street seat due = (due-within street seat due).1
 
 -- Where it is a seat's turn no check of the turn holds.
 pub turn-none : (street : Street) (seat : ℕ) → due_seat street ≡ Some seat
@@ -136,13 +113,12 @@ accepted-due limits street seat act accepted =
     turn-due street seat (none_holds-both (turn_checks street seat)
     (act_checks limits street.unit (facing_in street seat) act) accepted).0
 
--- Where none of three checks and the rest holds, the third does not.
-third-fails : (one two three : Bool) (first second third : Refusal) (rest : Option Refusal)
-    → cond one (Some first) (cond two (Some second) (cond three (Some third) rest)) ≡ None → three ≡ false
-third-fails true two three first second third rest none = absurd cc
-third-fails false true three first second third rest none = absurd cc
-third-fails false false true first second third rest none = absurd cc
-third-fails false false false first second third rest none = refl
+-- A raise that no check of the act refuses is within the player's stack.
+not_past : (limits : Limits) (unit : ℕ) (facing : Facing) (n : ℕ)
+    → first_that_holds (act_checks limits unit facing (Raise n)) ≡ None → nat_lt (facing.put + facing.behind) n ≡ false
+not_past limits unit facing n none =
+    let all = none_holds (act_checks limits unit facing (Raise n)) none in
+    not-true _ (and_parts _ _ (and_parts _ _ (and_parts _ _ all).1).1).0
 
 -- A player has the chips for an act that no check of the act refuses.
 checked-covered : (limits : Limits) (unit : ℕ) (facing : Facing) (act : Act)
@@ -153,19 +129,11 @@ checked-covered limits unit facing Check none = omega arith
 checked-covered limits unit facing Call none = omega arith
 checked-covered limits unit facing AllIn none = omega arith
 checked-covered limits unit facing (Bet n) none =
-    let within =
-    third-fails (nat_lt 0 facing.level) (nat_lt n (limits.least facing) && not (n == facing.behind))
-    (nat_lt facing.behind n) BetFacing TooSmall PastStack
-    (first_that_holds ((PastPot, nat_lt (limits.most facing) n) ∷ (NotUnit, not (n % unit == 0)) ∷ [])) none in
+    let all = none_holds (act_checks limits unit facing (Bet n)) none in
+    let within = not-true _ (and_parts _ _ (and_parts _ _ (and_parts _ _ all).1).1).0 in
     ltb-false facing.behind n within
 checked-covered limits unit facing (Raise n) none =
-    let within =
-    third-fails (facing.level == 0) (nat_lt n (limits.least facing) && not
-    (n == facing.put + facing.behind && nat_lt facing.level n))
-    (nat_lt (facing.put + facing.behind) n) NothingToRaise TooSmall PastStack
-    (first_that_holds ((PastPot, nat_lt (limits.most facing) n) ∷ (NotReopened, not (limits.reopened facing)) ∷
-    (NotUnit, not (n % unit == 0)) ∷ [])) none in
-    let most = ltb-false (facing.put + facing.behind) n within in omega arith
+    omega (arith, ltb-false (facing.put + facing.behind) n (not_past limits unit facing n none))
 
 -- A player has the chips for an act that is not refused.
 pub accepted-covered : (limits : Limits) (street : Street) (seat : ℕ) (act : Act)

@@ -1,11 +1,12 @@
 -- What holds of the seats that are chosen.
 use Rattle.std.proofs.Common.{◌≡◌, ◌∙◌, refl, sym, ap, subst, ℕ, zero, suc, ◌+◌, ◌<◌, ◌≤◌, ◌==◌, Bool, true, false, cond, List, [], ◌∷◌, Option, None, Some, inl, inr, arith}
-use Rattle.std.specs.Prelude.{filter, find, nat_le, ◌&&◌}
+use Rattle.std.specs.Prelude.{filter}
 use Rattle.std.specs.List.{list_all}
 use Rattle.std.proofs.lemmas.Bool.{eqb-true, or_cases, or_left, or_right, and_from}
 use Rattle.std.proofs.lemmas.Bool.Decides.{nat_tests}
-use Rattle.rulebook.specs.Seats.{seat_after, walk}
-use Rattle.rulebook.proofs.OccupiedSeats.{seat_after-within}
+use Rattle.rulebook.specs.Seats.{walk}
+use Rattle.rulebook.proofs.Among.{is_among}
+use Rattle.rulebook.proofs.OccupiedSeats.{found-within}
 use Rattle.seat_book.specs.declared.place.Place.{Place}
 use Rattle.seat_book.specs.Places.{IsTableOf, is_place_of}
 use Rattle.seat_book.specs.Counts.{table_numbers}
@@ -13,7 +14,6 @@ use Rattle.seat_book.specs.Seatings.{Seating}
 use Rattle.seat_book.proofs.Numbers.{list_all-joined}
 use Rattle.balance_rule.specs.EmptySeats.{lowest_seat}
 use Rattle.balance_rule.specs.Filling.{is_other_open, other_open_tables, count_with, lowest_table, is_free, place_at, seat_there, next_to_fill, filled}
-use Rattle.balance_rule.proofs.Extremes.{is_among}
 use Rattle.break_draw.proofs.Room.{lowest-among, filled-last}
 
 -- who is among those of a list that pass a test passes it, and is in the list
@@ -59,23 +59,6 @@ other-table seating table other among =
     table_of : 1 ≤ other → other ≤ seating.table_count → IsTableOf seating.table_count other
     table_of first last = record { first = first; last = last }
 
--- What a walk round the table finds is one of its seats.
-pub found-within : (test : ℕ → Bool) (seats steps seat found : ℕ) → 1 ≤ seats
-    → find test (walk (seat_after seats) steps seat) ≡ Some found → (1 ≤ found) × (found ≤ seats)
-found-within test seats zero seat found some is = absurd cc
-found-within test seats (suc steps) seat found some is =
-    by_test (test (seat_after seats seat)) refl is (found-within test seats steps (seat_after seats seat) found some)
-  where
-    by_test : (b : Bool) → test (seat_after seats seat) ≡ b → cond b (Some (seat_after seats seat))
-        (find test (walk (seat_after seats) steps (seat_after seats seat))) ≡ Some found
-        → (find test (walk (seat_after seats) steps (seat_after seats seat)) ≡ Some found
-        → (1 ≤ found) × (found ≤ seats)) → (1 ≤ found) × (found ≤ seats)
-    by_test true passes here later =
-        let same : seat_after seats seat ≡ found = cc in
-        let bounds = seat_after-within seats seat some in
-        (omega (arith, same, bounds.0), omega (arith, same, bounds.1))
-    by_test false fails there later = later there
-
 -- The lowest seat that passes a test is one of the table's.
 pub lowest-within : (test : ℕ → Bool) (seats found : ℕ) → lowest_seat seats test ≡ Some found
     → (1 ≤ found) × (found ≤ seats)
@@ -115,6 +98,11 @@ next-parts seating table chosen place is =
         let rest = by_seat at (lowest_seat seating.seat_count (is_free seating.players chosen at)) refl there in
         (found_is ∙ ap Some rest.0, rest.1)
 
+-- A seat of one of the tables is a place that the tables have.
+pub place-within : (tables seats at seat : ℕ) → 1 ≤ at → at ≤ tables → 1 ≤ seat → seat ≤ seats
+    → is_place_of tables seats (record { table = at; seat = seat }) ≡ true
+place-within tables seats at seat first last low high = grind (arith, nat_tests)
+
 -- Each chosen seat is a place that the tables have.
 pub chosen-places : (seating : Seating) (table n : ℕ) (chosen : List Place) → filled seating table n ≡ Some chosen
     → list_all (is_place_of seating.table_count seating.seat_count) chosen ≡ true
@@ -127,11 +115,8 @@ chosen-places seating table (suc n) chosen is =
     let at = other-table seating table last.1.0.table (lowest-among (count_with seating.players last.0)
     (other_open_tables seating table) last.1.0.table next.0) in
     let seat = lowest-within (is_free seating.players last.0 last.1.0.table) seating.seat_count last.1.0.seat next.1 in
-    let here = is_place last.1.0.table last.1.0.seat at.1.first at.1.last seat.0 seat.1 in
+    let here = place-within seating.table_count seating.seat_count last.1.0.table last.1.0.seat at.1.first at.1.last
+    seat.0 seat.1 in
     ap (list_all (is_place_of seating.table_count seating.seat_count)) last.1.1.2
     ∙ list_all-joined (is_place_of seating.table_count seating.seat_count) last.0 (last.1.0 ∷ []) before
     (and_from (is_place_of seating.table_count seating.seat_count last.1.0) true here refl)
-  where
-    is_place : (at seat : ℕ) → 1 ≤ at → at ≤ seating.table_count → 1 ≤ seat → seat ≤ seating.seat_count
-        → ((nat_le 1 at && nat_le at seating.table_count) && (nat_le 1 seat && nat_le seat seating.seat_count)) ≡ true
-    is_place at seat first last low high = grind (arith, nat_tests)

@@ -8,7 +8,8 @@ use Rattle.std.proofs.lemmas.Bool.Decides.{nat_tests}
 use Rattle.std.proofs.lemmas.List.Folds.{list_any-append}
 use Rattle.rulebook.specs.Seats.{clockwise_after}
 use Rattle.rulebook.specs.Pairs.{are_distinct}
-use Rattle.rulebook.proofs.Pairs.{first_alone}
+use Rattle.rulebook.proofs.Among.{is_among, among-filter}
+use Rattle.rulebook.proofs.Sides.{first_alone}
 use Rattle.rulebook.proofs.Tests.{find-passes, not-or}
 use Rattle.seat_book.specs.declared.place.Place.{Place}
 use Rattle.seat_book.specs.Places.{IsTableOf}
@@ -17,7 +18,7 @@ use Rattle.seat_book.specs.Seatings.{Seating}
 use Rattle.seat_book.proofs.Numbers.{list_all-joined}
 use Rattle.balance_rule.specs.EmptySeats.{is_empty_seat}
 use Rattle.balance_rule.specs.Filling.{is_other_open, other_open_tables, is_at, is_same_place, count_with, is_free, next_to_fill, filled}
-use Rattle.balance_rule.proofs.Extremes.{is_among, among-tables, among-filter}
+use Rattle.balance_rule.proofs.Extremes.{among-tables}
 use Rattle.break_draw.proofs.Room.{lowest-among, lowest-least, filled-last, count_with-more}
 use Rattle.break_draw.proofs.Chosen.{other-table, next-parts}
 

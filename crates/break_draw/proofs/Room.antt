@@ -5,13 +5,13 @@ use Rattle.std.proofs.lemmas.Bool.{cases_eq, eq-eqb, eqb-true, ltb-true, ltb-fal
 use Rattle.std.proofs.lemmas.Bool.Decides.{nat_tests}
 use Rattle.std.proofs.lemmas.List.Sums.{sum_by-append}
 use Rattle.rulebook.specs.Seats.{walk}
+use Rattle.rulebook.proofs.Among.{is_among}
 use Rattle.rulebook.proofs.Tests.{at_most_one, count_by-cons}
 use Rattle.seat_book.specs.declared.place.Place.{Place}
 use Rattle.seat_book.specs.declared.seated.Seated.{Seated}
 use Rattle.seat_book.specs.Counts.{count_at}
 use Rattle.seat_book.specs.Seatings.{Seating}
 use Rattle.balance_rule.specs.Filling.{is_other_open, other_open_tables, empty_elsewhere, is_at, count_with, lower_of, lowest_table, next_to_fill, with_one, one_more, filled}
-use Rattle.balance_rule.proofs.Extremes.{is_among}
 use Rattle.break_draw.proofs.Growing.{sum-first}
 
 -- what a table with the lowest count is, of a list and one that was found before

@@ -8,11 +8,12 @@ use Rattle.std.proofs.Math.Seq.{take-add}
 use Rattle.std.proofs.lemmas.List.Sums.{sum_by-cons}
 use Rattle.card_set.specs.declared.card.Card.{Card}
 use Rattle.card_set.specs.Decks.{IsDeck}
+use Rattle.rulebook.proofs.Passing.{filter-always}
 use Rattle.chip_race.specs.Races.{odd_chips, SingleCard, cards_for, single_cards, ordered, players_in_order, winners, is_among}
 use Rattle.chip_race.specs.BestCards.{best_cards, is_ahead, is_among_first}
 use Rattle.chip_race.proofs.Scores.{strength, score, card_score, same_strength, strength-some, is_higher-strength, score-ordered, score-best_cards}
 use Rattle.chip_race.proofs.Counts.{count_from, count_from-same, count_by-count_from}
-use Rattle.chip_race.proofs.Order.{Apart, AllApart, Seated, Seated-ordered, Falling-ordered, comes_before, comes_before-score, filter-all, among-first}
+use Rattle.chip_race.proofs.Order.{Apart, AllApart, Seated, Seated-ordered, Falling-ordered, comes_before, comes_before-score, among-first}
 
 -- The cards that are dealt are the first cards of the deck.
 map-cards_for : (index : ℕ) (cards : List Card) → map (λ (single : SingleCard). single.card) (cards_for index cards)
@@ -112,7 +113,8 @@ winners-score old new chips stacks cards player seats deck =
     (λ other low high. comes_before-score (ordered singles) falling other player
     ∙ ap (λ n. nat_lt n (score (ordered singles) other)) (score-ordered singles player)
     ∙ ap (λ n. nat_lt (score singles player) n) (score-ordered singles other)) in
-    ap (λ players. is_among (take chips players) player) (sym (filter-all (players_in_order (ordered singles))))
+    ap (λ players. is_among (take chips players) player)
+    (sym (filter-always (λ player. true) (players_in_order (ordered singles)) (λ player. refl)))
     ∙ among-first (ordered singles) (λ other. true) chips player
     (Seated-ordered singles (Seated-single_cards old new 0 stacks cards (omega arith)))
     ∙ ap (λ n. nat_lt 0 n && nat_lt (count_from 0 10 (λ other. comes_before (ordered singles) other player)) chips)

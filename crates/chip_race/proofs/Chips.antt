@@ -8,13 +8,14 @@ use Rattle.std.proofs.Math.Bool.{and-false}
 use Rattle.std.proofs.Math.Nat.{div-add-mod, eq-zero-or-pos, sub-le, zero-max, mod-lt, dvd-mod_iff, div-le_of_le-mul, mul-le-mul_right}
 use Rattle.std.proofs.lemmas.Nat.Gcd.{dvd_of_mod-eq-zero, mod-eq-zero_of_dvd}
 use Rattle.card_set.specs.declared.card.Card.{Card}
+use Rattle.rulebook.proofs.Passing.{filter-always, filter-filter}
 use Rattle.chip_race.specs.Races.{odd_value, odd_chips, SingleCard, cards_for, single_cards, ordered, players_in_order, removed_value, awarded_chips, winners, are_whole}
 use Rattle.chip_race.specs.BestCards.{highest}
 use Rattle.chip_race.proofs.Best.{odd_chips-le}
 use Rattle.chip_race.proofs.BestPlayers.{Seated-single_cards}
 use Rattle.chip_race.proofs.Scores.{score, strength, strength-some, score-ordered, score-append, score-cards_for, score-cards_for_other, card_score}
 use Rattle.chip_race.proofs.Counts.{count_from, count_from-same, count_from-more, count_from-none}
-use Rattle.chip_race.proofs.Order.{filter-all, filter-filter, max-some, Seated, Seated-ordered}
+use Rattle.chip_race.proofs.Order.{max-some, Seated, Seated-ordered}
 
 left-out : (kept is_out : Bool) (top rest : ℕ) → (is_out ≡ true → kept ≡ false)
     → ((not is_out && kept) && nat_lt 0 rest) ≡ (kept && nat_lt 0 (max (if is_out then top else 0) rest))
@@ -47,7 +48,7 @@ count-players (single ∷ singles) keep seated =
         → length (filter keep (filter (λ player. not (player == single.index)) (players_in_order singles)))
         ≡ count_from 0 10 (λ player. (not (player == single.index) && keep player) && nat_lt 0
         (score singles player))
-    further counts = ap length (filter-filter keep (λ player. not (player == single.index))
+    further counts = ap length (filter-filter (λ player. not (player == single.index)) keep
         (players_in_order singles)) ∙ counts
 
     one_more : keep single.index ≡ true
@@ -175,7 +176,7 @@ length-winners stacks cards old new seats enough chip unit most multiple whole =
     let within = value-within old new 0 stacks cards chip unit most multiple whole (omega arith) in
     let players : length (players_in_order (ordered singles))
     ≡ count_from 0 10 (λ player. nat_lt 0 (score singles player)) =
-    ap length (sym (filter-all (players_in_order (ordered singles))))
+    ap length (sym (filter-always (λ player. true) (players_in_order (ordered singles)) (λ player. refl)))
     ∙ count-players (ordered singles) (λ player. true)
     (Seated-ordered singles (Seated-single_cards old new 0 stacks cards (omega arith)))
     ∙ count-from_ordered singles in

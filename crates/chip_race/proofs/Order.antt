@@ -6,6 +6,7 @@ use Rattle.std.proofs.Math.Nat.{zero-max}
 use Rattle.std.proofs.lemmas.Bool.{cases_Bool, eq-eqb, eqb-true, ne_eqb}
 use Rattle.std.proofs.lemmas.Bool.Decides.{nat_tests}
 use Rattle.card_set.specs.declared.card.Card.{Card}
+use Rattle.rulebook.proofs.Passing.{filter-filter}
 use Rattle.chip_race.specs.Races.{SingleCard, is_higher, put_in_order, ordered, players_in_order, is_among}
 use Rattle.chip_race.proofs.Scores.{strength, own_score, score, is_higher-strength, strength-some, score-put_in_order}
 use Rattle.chip_race.proofs.Counts.{count_from, count_from-same, count_from-more, count_from-none}
@@ -128,24 +129,6 @@ comes_before-score (single ∷ singles) falling one other =
 pub max-some : (a b : ℕ) → 1 ≤ a → nat_lt 0 (max a b) ≡ true
 max-some a b some = grind (arith, nat_tests)
 
--- What always passes leaves nothing out.
-pub filter-all : (items : List ℕ) → filter (λ item. true) items ≡ items
-filter-all [] = refl
-filter-all (item ∷ items) = ap (λ rest. item ∷ rest) (filter-all items)
-
--- What passes one test and then another passes both.
-pub filter-filter : (one other : ℕ → Bool) (items : List ℕ) → filter one (filter other items)
-    ≡ filter (λ item. other item && one item) items
-filter-filter one other [] = refl
-filter-filter one other (item ∷ items) =
-    elim (cases_Bool (other item)) [
-      | inl passed ↦ elim (cases_Bool (one item)) [
-        | inl also ↦ rw (passed, also) (ap (λ rest. item ∷ rest) (filter-filter one other items))
-        | inr left ↦ rw (passed, left) (filter-filter one other items)
-      ]
-      | inr left ↦ rw left (filter-filter one other items)
-    ]
-
 point-left : (kept is_out before : Bool) → (is_out ≡ true → kept ≡ false) → ((not is_out && kept) && before)
     ≡ (kept && (is_out || before))
 point-left kept true before out = rw (out refl) refl
@@ -240,7 +223,7 @@ among-first (single ∷ singles) keep chips player seated =
           (λ n. among-first singles (λ other. not (other == single.index) && keep other) n player seated.1))
       | inr left ↦ rw left
           (ap (λ players. is_among (take chips players) player)
-          (filter-filter keep (λ other. not (other == single.index)) (players_in_order singles))
+          (filter-filter (λ other. not (other == single.index)) keep (players_in_order singles))
           ∙ among-first singles (λ other. not (other == single.index) && keep other) chips player seated.1
           ∙ left-out player single.index keep (λ other. comes_before singles other player) (strength single.card)
           (score singles player) chips left)
@@ -261,7 +244,7 @@ among-first (single ∷ singles) keep chips player seated =
         (count_from 0 10 (λ other. keep other && comes_before (single ∷ singles) other player)))
     with_first (suc n) kept later =
         ap (λ players. (player == single.index) || is_among (take n players) player)
-        (filter-filter keep (λ other. not (other == single.index)) (players_in_order singles))
+        (filter-filter (λ other. not (other == single.index)) keep (players_in_order singles))
         ∙ ap (λ test. (player == single.index) || test) (later n)
         ∙ first-in player single.index keep (λ other. comes_before singles other player) (strength single.card)
         (score singles player) n kept (strength-some single.card) seated.0

@@ -1,55 +1,20 @@
 -- A player's cards and the board are different cards.
 use Rattle.std.proofs.Common.{◌≡◌, ℕ, zero, suc, ◌+◌, ◌*◌, ◌<◌, ◌≤◌, Bool, true, List, [], ◌∷◌, ◌++◌, length, map, refl, inl, inr, arith}
-use Rattle.std.specs.Prelude.{◌==◌, ◌||◌, filter, nat_lt, not}
-use Rattle.std.specs.List.{list_all, list_any}
-use Rattle.std.proofs.lemmas.Bool.{agree_below, agree_below_at, and_from, and_parts, cases_Bool, eqb-true}
+use Rattle.std.specs.Prelude.{◌==◌, nat_lt}
+use Rattle.std.specs.List.{list_all}
+use Rattle.std.proofs.lemmas.Bool.{and_from, and_parts, cases_Bool}
 use Rattle.std.proofs.lemmas.Bool.Decides.{nat_tests}
 use Rattle.rulebook.specs.Pairs.{are_rising}
 use Rattle.rulebook.specs.Seats.{clockwise_after}
+use Rattle.rulebook.proofs.Among.{is_among, among-filter}
+use Rattle.rulebook.proofs.OccupiedSeats.{among-clockwise}
 use Rattle.rulebook.proofs.Tests.{list_all-follows}
 use Rattle.button_blinds.specs.SeatSets.{AreSeatsOf, has_seat, seat_count}
 use Rattle.deal_order.specs.DealOrder.{count_up, dealt_in_order, index_in, places_of_board, places_of_player}
-use Rattle.deal_order.proofs.Orders.{always, dealt-count}
-
--- A walk round a table comes to each of its seats.
-comes-checked : agree_below (λ seats. agree_below (λ button. agree_below
-    (λ below. not (nat_lt below seats) || list_any (λ other. other == suc below) (clockwise_after seats button)) always
-    10) always 11) always 11 ≡ true
-comes-checked = refl
-
--- A walk round a table comes to each of its seats.
-pub clockwise-comes : (seats button below : ℕ) → seats ≤ 10 → button ≤ seats → below < seats
-    → list_any (λ other. other == suc below) (clockwise_after seats button) ≡ true
-clockwise-comes seats button below most at within =
-    let checked = agree_below_at (λ k. not (nat_lt k seats) || list_any (λ other. other == suc k)
-    (clockwise_after seats button)) always 10 below
-    (agree_below_at (λ b. agree_below (λ k. not (nat_lt k seats) || list_any (λ other. other == suc k)
-    (clockwise_after seats b)) always 10) always 11 button
-    (agree_below_at (λ s. agree_below (λ b. agree_below
-    (λ k. not (nat_lt k s) || list_any (λ other. other == suc k) (clockwise_after s b)) always 10) always 11) always 11
-    seats
-    comes-checked (omega arith))
-    (omega arith))
-    (omega arith) in
-    let inside : nat_lt below seats ≡ true = grind (arith, nat_tests) in
-    rw inside at checked
-
--- Who is in a list and passes a test is among those who pass it.
-kept-has : (kept : ℕ → Bool) (seat : ℕ) (seats : List ℕ) → kept seat ≡ true
-    → list_any (λ other. other == seat) seats ≡ true
-    → list_any (λ other. other == seat) (filter kept seats) ≡ true
-kept-has kept seat [] keeps has = absurd cc
-kept-has kept seat (first ∷ seats) keeps has =
-    elim (cases_Bool (first == seat)) [
-      | inl here ↦ let same = eqb-true first seat here in let stays : kept first ≡ true =
-          rw same keeps in rw (stays, here)
-      | inr elsewhere ↦
-          let later = kept-has kept seat seats keeps (rw elsewhere at has) in
-          elim (cases_Bool (kept first)) [ inl is ↦ rw (is, elsewhere) later | inr out ↦ rw out later ]
-    ]
+use Rattle.deal_order.proofs.Orders.{dealt-count}
 
 -- Fewer come before who is in a list than are in it.
-index-within : (seat : ℕ) (seats : List ℕ) → list_any (λ other. other == seat) seats ≡ true
+index-within : (seat : ℕ) (seats : List ℕ) → is_among seat seats ≡ true
     → index_in seat seats < length seats
 index-within seat [] has = absurd cc
 index-within seat (first ∷ seats) has =
@@ -59,15 +24,15 @@ index-within seat (first ∷ seats) has =
     ]
 
 -- Who is dealt in has fewer before him than are dealt in.
-pub index-dealt : (dealt : List Bool) (button seats seat : ℕ) → AreSeatsOf seats dealt → seats ≤ 10 → button ≤ seats
+pub index-dealt : (dealt : List Bool) (button seats seat : ℕ) → AreSeatsOf seats dealt → button ≤ seats
     → has_seat dealt seat ≡ true
     → index_in seat (dealt_in_order dealt button seats) < seat_count dealt
-index-dealt dealt button seats zero table most at sits = absurd cc
-index-dealt dealt button seats (suc below) table most at sits =
+index-dealt dealt button seats zero table at sits = absurd cc
+index-dealt dealt button seats (suc below) table at sits =
     let inside = table.within (suc below) sits in
-    let comes = clockwise-comes seats button below most at (omega arith) in
+    let comes = among-clockwise seats button (suc below) at (omega arith) (omega arith) in
     let within = index-within (suc below) (dealt_in_order dealt button seats)
-    (kept-has (has_seat dealt) (suc below) (clockwise_after seats button) sits comes) in
+    (among-filter (has_seat dealt) (suc below) (clockwise_after seats button) sits comes) in
     let count = dealt-count dealt button seats table at in
     omega arith
 
@@ -116,7 +81,7 @@ pub player-rising : (dealt : List Bool) (button seats holes seat : ℕ) → AreS
     → are_rising (places_of_player dealt button seats holes seat ++ places_of_board (seat_count dealt) holes) ≡ true
 player-rising dealt button seats holes seat table most at sits =
     let n = seat_count dealt in
-    let within = index-dealt dealt button seats seat table most at sits in
+    let within = index-dealt dealt button seats seat table at sits in
     let none : (0 + holes) * n ≡ holes * n = grind arith in
     let first : (0 + holes) * n ≤ holes * n + 0 + 1 = omega arith in
     holes-rising n (index_in seat (dealt_in_order dealt button seats)) holes 0 (holes * n + 0 + 1)

@@ -11,7 +11,7 @@ use Rattle.rulebook.specs.Seats.{clockwise_after, seat_after, walk}
 use Rattle.rulebook.specs.Pairs.{are_distinct}
 use Rattle.rulebook.proofs.OccupiedSeats.{seat_after-below, seat_after-last}
 use Rattle.rulebook.proofs.Walks.{walk-next}
-use Rattle.rulebook.proofs.Tests.{list_all-kept}
+use Rattle.rulebook.proofs.Pairs.{is_pairwise-kept}
 use Rattle.button_blinds.specs.SeatSets.{AreSeatsOf, has_seat, seat_count}
 use Rattle.deal_order.specs.DealOrder.{count_up, dealt_in_order, index_in}
 
@@ -49,17 +49,6 @@ clockwise-distinct seats button most at =
     (λ s. agree_below (λ b. are_distinct (λ one other. one == other) (clockwise_after s b)) always 11) always 11 seats
     distinct-checked (omega arith))
     (omega arith)
-
--- Of seats that are distinct, those are that a test keeps.
-kept-distinct : (kept : ℕ → Bool) (seats : List ℕ) → are_distinct (λ one other. one == other) seats ≡ true
-    → are_distinct (λ one other. one == other) (filter kept seats) ≡ true
-kept-distinct kept [] distinct = refl
-kept-distinct kept (seat ∷ seats) distinct =
-    let both = and_parts (list_all (λ other. not (seat == other)) seats)
-    (are_distinct (λ one other. one == other) seats) distinct in
-    let later = kept-distinct kept seats both.1 in
-    let apart = list_all-kept (λ other. not (seat == other)) kept seats both.0 in
-    elim (cases_Bool (kept seat)) [ inl is ↦ rw (is, apart, later) | inr empty ↦ rw empty later ]
 
 -- A place, from the number of the round's first place, for each seat of a list that comes after another seat.
 later-places : (first : ℕ) (before : ℕ) (seats rest : List ℕ) → list_all (λ other. not (before == other)) rest ≡ true
@@ -194,7 +183,8 @@ dealt-count dealt button seats table at =
 -- Of the seats that are dealt in none comes twice.
 pub dealt-distinct : (dealt : List Bool) (button seats : ℕ) → seats ≤ 10 → button ≤ seats
     → are_distinct (λ one other. one == other) (dealt_in_order dealt button seats) ≡ true
-dealt-distinct dealt button seats most at = kept-distinct (has_seat dealt) (clockwise_after seats button)
+dealt-distinct dealt button seats most at = is_pairwise-kept (λ one other. not (one == other)) (has_seat dealt)
+    (clockwise_after seats button)
     (clockwise-distinct seats button most at)
 
 -- No more are dealt in than the table has seats.

@@ -1,6 +1,6 @@
 -- The book once a hand has begun, and once one has ended, as its fields are written.
-use Rattle.std.proofs.Common.{◌≡◌, ◌∙◌, refl, sym, ap, ◌≤◌, ◌<◌, ℕ, ◌+◌, Bool, true, false, cond, List, [], ◌∷◌, ◌++◌, length, get_or, map, arith}
-use Rattle.std.specs.Prelude.{not, nat_le, ◌&&◌, filter, slice_set, Option, Some, None}
+use Rattle.std.proofs.Common.{◌≡◌, ◌∙◌, refl, sym, ap, ◌≤◌, ◌<◌, ℕ, ◌+◌, Bool, true, List, ◌++◌, length, get_or, map, arith}
+use Rattle.std.specs.Prelude.{not, nat_le, ◌&&◌, slice_set, Option, Some, None}
 use Rattle.std.specs.List.{list_all}
 use Rattle.std.proofs.lemmas.Bool.Decides.{nat_tests}
 use Rattle.std.proofs.lemmas.List.{get_or_default}
@@ -9,6 +9,7 @@ use Rattle.card_set.specs.declared.card.CardRow.{CardRow}
 use Rattle.card_set.specs.declared.game.Game.{Game}
 use Rattle.level_plan.specs.declared.plan.Blind.{Blind}
 use Rattle.level_plan.specs.Items.{is_between}
+use Rattle.rulebook.proofs.Passing.{filter-filter}
 use Rattle.rulebook.proofs.Tests.{list_all-follows, list_all-kept}
 use Rattle.button_blinds.specs.SeatSets.{has_seat}
 use Rattle.button_blinds.specs.declared.marks.NextMarks.{NextMarks}
@@ -101,26 +102,11 @@ lawful_seats seating table lawful =
     (λ player there. seat_known seating.table_count seating.seat_count player.place.table player.place.seat
     lawful.most_seats there) lawful.within)
 
--- Whom one test picks of those whom another picks are picked by both.
-picked_twice : (one other : Seated → Bool) (players : List Seated) → filter other (filter one players)
-    ≡ filter (λ player. one player && other player) players
-picked_twice one other [] = refl
-picked_twice one other (player ∷ players) = by_tests (one player) (other player) (picked_twice one other players) refl
-  where
-    by_tests : (a b : Bool) → filter other (filter one players)
-        ≡ filter (λ player. one player && other player) players → other player ≡ b
-        → filter other (cond a (player ∷ filter one players) (filter one players))
-        ≡ cond (a && b) (player ∷ filter (λ player. one player && other player) players)
-        (filter (λ player. one player && other player) players)
-    by_tests true true rest is = rw is (ap (◌∷◌ player) rest)
-    by_tests true false rest is = rw is rest
-    by_tests false b rest is = rest
-
 -- Those of a table who do not wait are dealt in.
 pub dealt_at : (table : ℕ) (waiting : List Bool) (players : List Seated)
     → dealt_of waiting (players_at players table) ≡ dealt_seats table waiting players
 dealt_at table waiting players =
-    ap (map start_seat) (picked_twice (sits_at table) (λ player. not (has_seat waiting player.place.seat)) players)
+    ap (map start_seat) (filter-filter (sits_at table) (λ player. not (has_seat waiting player.place.seat)) players)
 
 -- The players of a start that is out may be paid.
 pub payees_of : (start : HandStart) → IsLawfulStart start → ArePayees start.seats

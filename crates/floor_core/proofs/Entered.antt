@@ -2,13 +2,13 @@
 use Rattle.std.proofs.Common.{◌≡◌, refl, ℕ, ◌+◌, false, List, [], ◌∷◌, ◌++◌, length, arith, ap}
 use Rattle.std.specs.Prelude.{Option, None, count_by, option_map}
 use Rattle.std.proofs.lemmas.Bool.Decides.{nat_tests}
+use Rattle.rulebook.proofs.Passing.{find-none}
 use Rattle.rulebook.proofs.Tests.{none_by_count}
 use Rattle.place_list.specs.declared.bust.Bust.{Bust}
 use Rattle.seat_book.specs.declared.place.Place.{Place}
 use Rattle.seat_book.specs.declared.seated.Seated.{Seated}
 use Rattle.seat_book.specs.Players.{is_numbered, place_of, sit_down}
 use Rattle.seat_book.specs.Seatings.{Seating}
-use Rattle.seat_book.proofs.Passing.{find-none}
 use Rattle.level_plan.specs.Plans.{PlanTerms}
 use Rattle.table_engine.specs.declared.start.HandStart.{HandStart}
 use Rattle.tournament_rules.specs.Books.{BookState, no_hands}

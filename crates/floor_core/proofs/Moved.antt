@@ -8,13 +8,13 @@ use Rattle.std.proofs.lemmas.Bool.Decides.{nat_tests}
 use Rattle.std.proofs.lemmas.Option.{same_Some}
 use Rattle.rulebook.specs.Pairs.{are_distinct}
 use Rattle.rulebook.specs.declared.limits.TheConstants.{MOST_ENTRIES}
-use Rattle.rulebook.proofs.Tests.{find-all}
+use Rattle.rulebook.proofs.Passing.{find-none, none-find}
+use Rattle.rulebook.proofs.Tests.{find-all, list_all-filtered}
 use Rattle.seat_book.specs.declared.place.Place.{Place}
 use Rattle.seat_book.specs.declared.seated.Seated.{Seated}
 use Rattle.seat_book.specs.Places.{IsPlaceOf, is_place_of}
 use Rattle.seat_book.specs.Players.{sits_in, is_numbered, player_at, player_of, place_of, players_at, lifted}
 use Rattle.seat_book.specs.Seatings.{Seating, IsSeating, is_entry, sits_within}
-use Rattle.seat_book.proofs.Passing.{find-none, none-find}
 use Rattle.balance_rule.specs.declared.balance.Move.{Move}
 use Rattle.balance_rule.specs.EmptySeats.{is_empty_seat}
 use Rattle.balance_rule.specs.Balance.{next_big_seat, balance_move, after_move}
@@ -23,7 +23,7 @@ use Rattle.balance_rule.proofs.Movers.{found-place}
 use Rattle.tournament_rules.specs.Moving.{is_called, after_taking}
 use Rattle.tournament_rules.proofs.Breaks.{named-found, taking, still_free}
 use Rattle.tournament_rules.proofs.Balances.{mover}
-use Rattle.tournament_rules.proofs.Moved.{moved, all-moved, none_gone}
+use Rattle.tournament_rules.proofs.Moved.{moved, all-moved}
 use Rattle.floor_core.specs.Moves.{AreFree}
 use Rattle.tournament_rules.proofs.Stayed.{all_stay}
 
@@ -39,7 +39,8 @@ empty-lifted players number place empty =
 pub stands-lifted : (players : List Seated) (number : ℕ) → place_of (lifted number players) number ≡ None
 stands-lifted players number =
     ap (option_map (λ (seated : Seated). seated.place))
-    (find-none (is_numbered number) (lifted number players) (none_gone (is_numbered number) players))
+    (find-none (is_numbered number) (lifted number players)
+    (list_all-filtered (λ other. not (is_numbered number other)) players))
 
 -- Who is found by a name at a table is found by his number.
 pub called-sits : (seating : Seating) (table : ℕ) (name : List ℕ) (found : Option Seated) → IsSeating seating

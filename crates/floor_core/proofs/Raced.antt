@@ -1,11 +1,12 @@
 -- Stacks of a table for a race, and players who have theirs after it, seat by seat.
 use Rattle.std.proofs.Common.{◌≡◌, ◌∙◌, refl, sym, ap, ◌<◌, ℕ, ◌+◌, ◌-◌, Bool, true, false, cond, ◌==◌, ◌&&◌, List, [], ◌∷◌, map, get_or, arith}
-use Rattle.std.specs.Prelude.{nat_le, Some, None}
+use Rattle.std.specs.Prelude.{not, nat_le, None}
 use Rattle.std.specs.List.{list_all}
-use Rattle.std.proofs.lemmas.Bool.{and_parts}
+use Rattle.std.proofs.lemmas.Bool.{and_parts, not-true}
 use Rattle.std.proofs.lemmas.Bool.Decides.{nat_tests}
 use Rattle.rulebook.specs.Checks.{first_that_holds}
-use Rattle.rulebook.proofs.Tests.{some_there}
+use Rattle.rulebook.proofs.Passing.{find-none, map-fixed, none-find}
+use Rattle.rulebook.proofs.Tests.{list_all-follows, some_there}
 use Rattle.card_set.specs.declared.card.Card.{Card}
 use Rattle.card_set.specs.declared.card.CardRow.{CardRow}
 use Rattle.chip_race.specs.declared.race_result.RaceResult.{RaceResult}
@@ -23,19 +24,18 @@ use Rattle.tournament_rules.specs.Effects.{with_table, raced}
 use Rattle.tournament_rules.specs.Players.{with_rest}
 use Rattle.tournament_rules.specs.Racing.{stacks_at, unit_after, race_at, restacked, raced_off}
 use Rattle.tournament_rules.specs.Valid.{IsValid}
+use Rattle.tournament_rules.proofs.DealtBelow.{seat_within}
 use Rattle.tournament_rules.proofs.Races.{CanRace, can_race}
 
 -- Nobody sits in a seat that the tables do not have.
 pub nobody-beyond : (tables seats : ℕ) (players : List Seated) (table seat : ℕ) → seats < seat
     → list_all (sits_within tables seats) players ≡ true
     → player_at players (record { table = table; seat = seat }) ≡ None
-nobody-beyond tables seats [] table seat beyond within = refl
-nobody-beyond tables seats (player ∷ players) table seat beyond within =
-    let parts = and_parts (sits_within tables seats player) (list_all (sits_within tables seats) players) within in
+nobody-beyond tables seats players table seat beyond within =
     let place : Place = record { table = table; seat = seat } in
-    let other : sits_in place player ≡ false =
-    elsewhere player.place.table player.place.seat parts.0 in
-    rw other (nobody-beyond tables seats players table seat beyond parts.1)
+    find-none (sits_in place) players
+    (list_all-follows (sits_within tables seats) (λ player. not (sits_in place player)) players
+    (λ player there. ap not (elsewhere player.place.table player.place.seat there)) within)
   where
     elsewhere : (at of : ℕ) → ((nat_le 1 at && nat_le at tables) && (nat_le 1 of && nat_le of seats)) ≡ true
         → (at == table && of == seat) ≡ false
@@ -44,16 +44,12 @@ nobody-beyond tables seats (player ∷ players) table seat beyond within =
 -- Where nobody sits nobody's stack changes.
 pub with_stack-nobody : (players : List Seated) (place : Place) (stack : ℕ) → player_at players place ≡ None
     → with_stack place stack players ≡ players
-with_stack-nobody [] place stack nobody = refl
-with_stack-nobody (player ∷ players) place stack nobody =
-    by_test (sits_in place player) refl nobody (λ none. with_stack-nobody players place stack none)
-  where
-    by_test : (b : Bool) → sits_in place player ≡ b
-        → cond (sits_in place player) (Some player) (player_at players place) ≡ None
-        → (player_at players place ≡ None → with_stack place stack players ≡ players)
-        → with_stack place stack (player ∷ players) ≡ player ∷ players
-    by_test true is none rest = let never : Some player ≡ None = rw is at none in absurd cc
-    by_test false is none rest = rw is (ap (◌∷◌ player) (rest (rw is at none)))
+with_stack-nobody players place stack nobody =
+    map-fixed (λ (player : Seated). not (sits_in place player))
+    (λ player. cond (sits_in place player) (with_rest player stack) player) players
+    (λ player away. ap (λ (b : Bool). cond b (with_rest player stack) player)
+    (not-true (sits_in place player) away))
+    (none-find (sits_in place) players nobody)
 
 -- a player once those of a table who sit in its first so many seats have their stacks after its race
 abbrev pub restacked_to : ℕ → ℕ → List ℕ → Seated → Seated
@@ -113,7 +109,7 @@ at-ends tables seats table stacks [] within = (refl, refl)
 at-ends tables seats table stacks (player ∷ players) within =
     let parts = and_parts (sits_within tables seats player) (list_all (sits_within tables seats) players) within in
     let rest = at-ends tables seats table stacks players parts.1 in
-    let tests = seated player.place.table player.place.seat parts.0 in
+    let tests = seat_within tables seats player.place.table player.place.seat parts.0 in
     let changed = with_rest player (get_or stacks (player.place.seat - 1) 0) in
     let none : player ≡ restacked_to 0 table stacks player =
     rw tests.0 (sym (no_one (sits_at table player) changed)) in
@@ -121,10 +117,6 @@ at-ends tables seats table stacks (player ∷ players) within =
     rw tests.1 (each (sits_at table player) changed) in
     ((λ i. none i ∷ rest.0 i), (λ i. all i ∷ rest.1 i))
   where
-    seated : (at of : ℕ) → ((nat_le 1 at && nat_le at tables) && (nat_le 1 of && nat_le of seats)) ≡ true
-        → (nat_le of 0 ≡ false) × (nat_le of seats ≡ true)
-    seated at of there = (grind (arith, nat_tests), grind (arith, nat_tests))
-
     no_one : (here : Bool) (changed : Seated) → cond (here && false) changed player ≡ player
     no_one true changed = refl
     no_one false changed = refl

@@ -1,18 +1,12 @@
 -- Tables that a level raises one after another.
 use Rattle.std.proofs.Common.{◌≡◌, ◌∙◌, refl, sym, ap, ◌<◌, ℕ, zero, suc, ◌+◌, List, [], ◌∷◌, map, length, set, get_or, add-one, arith}
-use Rattle.std.specs.Prelude.{nat_lt, if◌then◌else◌}
 use Rattle.std.specs.List.{enumerate_from}
-use Rattle.rulebook.specs.Checks.{first_that_holds}
-use Rattle.level_plan.specs.Plans.{unit_of_level}
 use Rattle.seat_book.specs.declared.seated.Seated.{Seated}
 use Rattle.seat_book.specs.declared.table_status.TableStatus.{TableStatus}
 use Rattle.seat_book.specs.Counts.{is_open}
 use Rattle.seat_book.specs.Tables.{fresh_status}
 use Rattle.seat_book.specs.Seatings.{Seating}
-use Rattle.floor_events.specs.declared.event.Event.TheVariants.{Level}
-use Rattle.tournament_rules.specs.Books.{BookState}
-use Rattle.tournament_rules.specs.Checks.{level_checks, book_refusal}
-use Rattle.tournament_rules.specs.Effects.{with_table, leveled}
+use Rattle.tournament_rules.specs.Effects.{with_table}
 use Rattle.tournament_rules.specs.Racing.{raised_table, raised}
 
 -- the tables of which so many are raised, where the first has this number

@@ -5,9 +5,8 @@ use Rattle.rulebook.specs.Checks.{first_that_holds}
 use Rattle.rulebook.proofs.Checks.{none_holds-both}
 use Rattle.hand_rounds.specs.Rounds.{round_checks as close_checks, switch_checks, round_closed}
 use Rattle.seat_book.specs.Seatings.{Seating}
-use Rattle.floor_events.specs.declared.event.Event.TheVariants.{Hands, Round}
 use Rattle.tournament_rules.specs.Books.{BookState}
-use Rattle.tournament_rules.specs.Checks.{going_checks, over_checks, hands_checks, end_round_checks, book_refusal}
+use Rattle.tournament_rules.specs.Checks.{going_checks, over_checks, hands_checks, end_round_checks}
 use Rattle.tournament_rules.specs.Effects.{round_ended}
 
 -- Where no check of a switch holds, none of its own does.

@@ -3,7 +3,7 @@ use Rattle.std.proofs.Common.{◌≡◌, ℕ, ◌+◌, ◌-◌, ◌<◌, ◌≤�
 use Rattle.std.specs.Prelude.{Option}
 use Rattle.std.proofs.lemmas.Bool.{and_from, and_left, not-false, not_from_true, or_right}
 use Rattle.std.proofs.lemmas.Bool.Decides.{nat_tests}
-use Rattle.rulebook.proofs.Pairs.{first_alone, others_alone}
+use Rattle.rulebook.proofs.Sides.{first_alone, others_alone}
 use Rattle.card_set.specs.declared.card.Card.{Card}
 use Rattle.hand_rank.specs.Held.{IsHighestRunWith}
 use Rattle.hand_rank.specs.Picks.{highest_below}

@@ -1,9 +1,10 @@
 -- So many ranks of some, with others among them: which are the greatest.
 use Rattle.std.proofs.Common.{◌≡◌, ℕ, zero, suc, ◌+◌, ◌<◌, ◌≤◌, inr, Bool, true, false, ◌&&◌, ◌||◌, not, eqb, cond, List, [], ◌∷◌, length, Some, None, refl, sym, ap, ap₂, ◌∙◌, subst, eqb-true, zero-le, le_refl, arith}
 use Rattle.std.specs.Prelude.{Option}
+use Rattle.std.proofs.lemmas.Bool.{and_from, and_parts, not-false, not-true}
 use Rattle.std.proofs.lemmas.Bool.Decides.{nat_tests}
 use Rattle.std.proofs.lemmas.Option.{same_Some}
-use Rattle.rulebook.proofs.Pairs.{others_alone}
+use Rattle.rulebook.proofs.Sides.{others_alone, others_fail}
 use Rattle.card_choices.proofs.ListOrder.{Upto, max_upper}
 use Rattle.hand_rank.specs.declared.rank_set.RankSet.{RankSet}
 use Rattle.hand_rank.specs.BestHigh.{greater}
@@ -108,21 +109,15 @@ falling-upto s c (suc n) lower few =
 
 -- a rank that is among some and not among others
 pub both-are : (a b : Bool) → (a && not b) ≡ true → (a ≡ true) × (b ≡ false)
-both-are true false is = (refl, refl)
-both-are true true is = absurd cc
-both-are false b is = absurd cc
+both-are a b is = let parts = and_parts a (not b) is in (parts.0, not-true b parts.1)
 
 -- and the other way round
 pub both-from : (a b : Bool) → a ≡ true → b ≡ false → (a && not b) ≡ true
-both-from true false p q = refl
-both-from true true p q = absurd cc
-both-from false b p q = absurd cc
+both-from a b p q = and_from a (not b) p (ap not q)
 
 -- a rank that is among some, where none is among them and not among others, is among the others
 pub none-left : (a b : Bool) → (a && not b) ≡ false → a ≡ true → b ≡ true
-none-left true true fails is = refl
-none-left true false fails is = absurd cc
-none-left false b fails is = absurd cc
+none-left a b fails is = not-false b (others_fail a (not b) fails is)
 
 -- without a rank the others are as they were
 pub but_one-other : (b : Bool) (r rank : ℕ) → (r ≡ rank → ⊥) → (b && not (eqb r rank)) ≡ b

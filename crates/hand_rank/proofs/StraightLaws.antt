@@ -7,7 +7,7 @@ use Rattle.std.proofs.lemmas.Option.{same_Some}
 use Rattle.card_set.specs.declared.card.Card.{Card}
 use Rattle.card_choices.proofs.ListOrder.{Upto}
 use Rattle.rulebook.proofs.Found.{some-found}
-use Rattle.rulebook.proofs.Pairs.{others_alone}
+use Rattle.rulebook.proofs.Sides.{others_alone}
 use Rattle.hand_rank.specs.declared.held.Held.{Held}
 use Rattle.hand_rank.specs.declared.shown.Shown.{Shown}
 use Rattle.hand_rank.specs.Held.{hands, count_of_some_suit, IsHeld, RunsWith, IsHighestRunWith, IsBestIn}

@@ -1,7 +1,7 @@
 -- The best two pair.
 use Rattle.std.proofs.Common.{◌≡◌, ℕ, zero, suc, ◌+◌, ◌<◌, ◌≤◌, ◌⊎◌, inl, inr, Bool, true, false, ◌&&◌, ◌||◌, not, eqb, leb, cond, List, [], ◌∷◌, ◌++◌, length, Some, None, refl, sym, ap, ap₂, ◌∙◌, subst, zero-le, le_refl, le_trans, eqb-true, leb-true, le-leb, lit≤, arith}
 use Rattle.std.specs.Prelude.{Option}
-use Rattle.std.proofs.lemmas.Bool.{and_from, and_parts, eqb-false, ne_eqb}
+use Rattle.std.proofs.lemmas.Bool.{and_from, and_parts, eqb-false, ne_eqb, not-true, not_from_false, or_parts}
 use Rattle.std.proofs.lemmas.Bool.Decides.{nat_tests}
 use Rattle.card_set.specs.declared.card.Card.{Card}
 use Rattle.card_choices.proofs.ListOrder.{Upto}
@@ -147,16 +147,12 @@ two-reached hole board first second others two five may are =
         ] refl
 
 both_not : (a b c : Bool) → a ≡ true → b ≡ false → c ≡ false → (a && not (b || c)) ≡ true
-both_not true false false p q r = refl
-both_not true false true p q r = absurd cc
-both_not true true c p q r = absurd cc
-both_not false b c p q r = absurd cc
+both_not a b c p q r = rw (p, q, r) refl
 
 neither : (a b c : Bool) → (a && not (b || c)) ≡ true → (a ≡ true) × (b ≡ false) × (c ≡ false)
-neither true false false is = (refl, refl, refl)
-neither true false true is = absurd cc
-neither true true c is = absurd cc
-neither false b c is = absurd cc
+neither a b c is =
+    let parts = and_parts a (not (b || c)) is in
+    let none = or_parts b c (not-true (b || c) parts.1) in (parts.0, none.0, none.1)
 
 -- what is asked of the rank beside two pairs, as tests on a set of the two
 abbrev from_test : Held → ℕ → ℕ → ℕ → Bool
@@ -616,15 +612,10 @@ no-third held hole board first second found best is may greatest none is_none =
         (is.all.of_once.at r under ∙ le-leb 1 (count_of_rank (hole ++ board) r) (omega arith)) parts.1
 
     less_first : (a b c : Bool) → (a && not (b || c)) ≡ true → (a && not b) ≡ true
-    less_first true false c is = refl
-    less_first true true c is = absurd cc
-    less_first false b c is = absurd cc
+    less_first a b c is = let all = neither a b c is in and_from a (not b) all.0 (not_from_false b all.1)
 
     less_second : (a b c : Bool) → (a && not (b || c)) ≡ true → (a && not c) ≡ true
-    less_second true b false is = refl
-    less_second true true true is = absurd cc
-    less_second true false true is = absurd cc
-    less_second false b c is = absurd cc
+    less_second a b c is = let all = neither a b c is in and_from a (not c) all.0 (not_from_false c all.2)
 
     few : length (falling (pair_test held first second) 16) ≤ 1
     few =

@@ -1,8 +1,9 @@
 -- A draft in which nothing is wrong at the end has each item, and these make a right plan.
 use Rattle.std.proofs.Common.{◌≡◌, ℕ, refl, subst, sym, true, false, length, Option, Some, None, arith}
-use Rattle.std.specs.Prelude.{Bool, ◌==◌, ◌%◌, not, nat_lt, IsSome, is_none, unwrap_or, if◌then◌else◌}
+use Rattle.std.specs.Prelude.{Bool, ◌==◌, ◌%◌, not, nat_lt, IsSome, unwrap_or, if◌then◌else◌}
 use Rattle.std.proofs.lemmas.Bool.{and_from, not-false}
 use Rattle.std.proofs.lemmas.Bool.Decides.{nat_tests}
+use Rattle.rulebook.proofs.Found.{some-by_test}
 use Rattle.level_plan.specs.declared.line.PlanItem.{PlanItem}
 use Rattle.level_plan.specs.Items.{is_between}
 use Rattle.level_plan.specs.Drafts.{Draft, go_fault, is_lawful_if_given, IsLawful}
@@ -13,10 +14,6 @@ passed : (holds : Bool) (item : PlanItem) (rest : Option PlanItem) → (if holds
     → (holds ≡ false) × (rest ≡ None)
 passed true item rest none = cc
 passed false item rest none = (refl, none)
-
-given : {A : Type 0} (o : Option A) → is_none o ≡ false → IsSome o
-given None missing = cc
-given (Some x) here = refl
 
 -- each item of a draft is there
 pub record IsComplete (draft : Draft) : Type 0 where
@@ -44,13 +41,13 @@ complete draft none =
     let level = passed _ _ _ shares.1 in
     let whole = passed _ _ _ level.1 in
     record {
-      game = given draft.game game.0;
-      tables = given draft.tables tables.0;
-      seats = given draft.seats seats.0;
-      stack = given draft.stack stack.0;
-      buyin = given draft.buyin buyin.0;
-      late = given draft.late late.0;
-      shares = given draft.shares shares.0;
+      game = some-by_test draft.game game.0;
+      tables = some-by_test draft.tables tables.0;
+      seats = some-by_test draft.seats seats.0;
+      stack = some-by_test draft.stack stack.0;
+      buyin = some-by_test draft.buyin buyin.0;
+      late = some-by_test draft.late late.0;
+      shares = some-by_test draft.shares shares.0;
       level = level.0;
       whole = whole.0;
     }

@@ -1,14 +1,14 @@
 -- The low value of a hand under changes of its cards' order and suits.
-use Rattle.std.proofs.Common.{◌≡◌, ℕ, Bool, true, false, ◌&&◌, ◌||◌, not, eqb, leb, List, [], ◌∷◌, ◌++◌, refl, sym, ap, ap₂, ◌∙◌, arith}
+use Rattle.std.proofs.Common.{◌≡◌, ℕ, Bool, true, false, ◌&&◌, ◌||◌, not, eqb, leb, List, [], ◌∷◌, ◌++◌, refl, sym, ap, ap₂, ◌∙◌}
 use Rattle.std.specs.Prelude.{map, filter, Option, Some, None, if◌then◌else◌}
 use Rattle.std.specs.List.{list_all, list_any}
-use Rattle.std.proofs.lemmas.Bool.Decides.{nat_tests}
 use Rattle.std.proofs.lemmas.List.{map-append}
 use Rattle.card_set.specs.declared.card.Card.{Card}
 use Rattle.card_choices.specs.Changes.{AreRenamed}
 use Rattle.card_choices.specs.Choices.{omaha_choices}
 use Rattle.card_choices.proofs.Combined.{combined, IsCombining, AllowsExchange, list_all-exchange, omaha-exchange_hole, omaha-exchange_board, omaha-renamed}
 use Rattle.card_choices.proofs.ListOrder.{upto_both, min-within, min-below_left, min-below_right}
+use Rattle.rulebook.proofs.Tests.{eqb-swap}
 use Rattle.low_rank.specs.Lows.{low_rank, are_different, low_ranks_down, in_falling_order, low_value, better_low, best_low_of}
 use Rattle.low_rank.proofs.LowLaws.{better_assoc}
 
@@ -49,13 +49,10 @@ differ-turned false true false rest = refl
 differ-turned false false true rest = refl
 differ-turned false false false rest = refl
 
-eqb-turned : (a b : ℕ) → eqb a b ≡ eqb b a
-eqb-turned a b = grind (arith, nat_tests)
-
 are_different-exchange : AllowsExchange are_different
 are_different-exchange [] a b back =
     ap (λ t. not (t || list_any (λ other. eqb other a) back) &&
-    (not (list_any (λ other. eqb other b) back) && are_different back)) (eqb-turned b a)
+    (not (list_any (λ other. eqb other b) back) && are_different back)) (eqb-swap b a)
     ∙ differ-turned (eqb a b) (list_any (λ other. eqb other a) back) (list_any (λ other. eqb other b) back)
     (are_different back)
 are_different-exchange (x ∷ front) a b back =

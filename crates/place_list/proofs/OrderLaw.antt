@@ -1,11 +1,13 @@
 -- Standings come in order.
-use Rattle.std.proofs.Common.{◌≡◌, ◌∙◌, refl, ap, sym, ℕ, ◌+◌, ◌<◌, ◌≤◌, Bool, true, false, List, [], ◌∷◌, length, arith}
-use Rattle.std.specs.Prelude.{if◌then◌else◌, count_by, map, not, ◌==◌, ◌&&◌, Option, None, Some}
+use Rattle.std.proofs.Common.{◌≡◌, ◌∙◌, refl, ap, sym, ℕ, ◌<◌, ◌≤◌, true, List, [], ◌∷◌, length, arith}
+use Rattle.std.specs.Prelude.{count_by, map, not, ◌==◌, Option, None, Some}
 use Rattle.std.specs.List.{list_all}
+use Rattle.std.proofs.Math.Bool.{not-not}
 use Rattle.std.proofs.lemmas.Bool.{and_from}
+use Rattle.std.proofs.lemmas.List.Folds.{list_all-map}
 use Rattle.std.proofs.lemmas.List.Sorted.{length_permutation}
 use Rattle.rulebook.specs.Pairs.{is_pairwise, are_distinct}
-use Rattle.rulebook.proofs.Tests.{count_by-cons}
+use Rattle.rulebook.proofs.Tests.{list_all-always, list_all-follows, none_by_count}
 use Rattle.place_list.specs.declared.bust.Bust.{Bust}
 use Rattle.place_list.specs.declared.standing.Standing.{Standing}
 use Rattle.place_list.specs.Places.{place_of, still_in}
@@ -16,19 +18,12 @@ use Rattle.place_list.proofs.Sorting.{Falls}
 use Rattle.place_list.proofs.Sums.{sorted_busts, sorted-permutation, placed-sorted_busts}
 
 all-come : (standing : Standing) (standings : List Standing)
-    → count_by (λ other. not (comes_before standing other)) standings ≡ 0 → list_all (comes_before standing) standings
-    ≡ true
-all-come standing [] none = refl
-all-come standing (other ∷ others) none =
-    let count = count_by-cons (λ next. not (comes_before standing next)) other others in
-    first (comes_before standing other) (count_by (λ next. not (comes_before standing next)) others)
-    (sym count ∙ none) (all-come standing others)
-  where
-    first : (test : Bool) (n : ℕ) → (if not test then 1 else 0) + n ≡ 0
-        → (n ≡ 0 → list_all (comes_before standing) others ≡ true) → (test && list_all (comes_before standing) others)
-        ≡ true
-    first true n none rest = rest (omega arith)
-    first false n none rest = absurd (omega arith)
+    → count_by (λ other. not (comes_before standing other)) standings ≡ 0
+    → list_all (comes_before standing) standings ≡ true
+all-come standing standings none =
+    list_all-follows (λ other. not (not (comes_before standing other))) (comes_before standing) standings
+    (λ other so. sym (not-not (comes_before standing other)) ∙ so)
+    (none_by_count (λ other. not (comes_before standing other)) standings none)
 
 pairwise-falls : (standings : List Standing) → Falls standings → is_pairwise comes_before standings ≡ true
 pairwise-falls [] falls = refl
@@ -38,10 +33,10 @@ pairwise-falls (standing ∷ standings) falls = and_from _ _ (all-come standing 
 winner-first : (entries : ℕ) (prizes : List ℕ) (busts sorted : List Bust) (winner : Standing) → winner.place ≡ 1
     → 1 ≤ still_in entries busts
     → list_all (comes_before winner) (map (standing_of entries prizes busts) sorted) ≡ true
-winner-first entries prizes busts [] winner first some = refl
-winner-first entries prizes busts (bust ∷ sorted) winner first some =
-    and_from _ _ (by-place winner.place (place_of entries busts bust) winner.player bust.player
-    (omega (arith, first, some))) (winner-first entries prizes busts sorted winner first some)
+winner-first entries prizes busts sorted winner first some =
+    list_all-map (comes_before winner) (standing_of entries prizes busts) sorted
+    ∙ list_all-always (λ bust. comes_before winner (standing_of entries prizes busts bust)) sorted
+    (λ bust. by-place winner.place (place_of entries busts bust) winner.player bust.player (omega (arith, first, some)))
 
 -- Standings come by place, and of the same place by entry.
 pub pairwise-standings : (entries : ℕ) (last : Option ℕ) (buyin : ℕ) (shares : List ℕ) (busts : List Bust)

@@ -1,10 +1,10 @@
 -- The prizes of the places.
-use Rattle.std.proofs.Common.{◌≡◌, ◌∙◌, refl, ap, sym, ℕ, ◌+◌, ◌*◌, ◌<◌, ◌≤◌, List, [], ◌∷◌, ◌++◌, length, take, get_or, set, min, ◌⊎◌, inl, inr, arith}
+use Rattle.std.proofs.Common.{◌≡◌, ◌∙◌, ap, sym, ℕ, ◌+◌, ◌*◌, ◌<◌, ◌≤◌, List, [], ◌∷◌, ◌++◌, length, take, get_or, min, ◌⊎◌, inl, inr, arith}
 use Rattle.std.specs.Prelude.{map, sum}
 use Rattle.std.proofs.Math.Nat.{le_trans}
 use Rattle.std.proofs.lemmas.List.{map-append, take_more, take_all}
 use Rattle.std.proofs.lemmas.List.Sums.{sum_by-cons, sum_by-append, sum_by-take-le}
-use Rattle.place_list.specs.Prizes.{part_of, first_gets}
+use Rattle.place_list.specs.Prizes.{part_of}
 
 -- A part is at most so many thousandths of the pool.
 part-le : (pool share : ℕ) → 1000 * part_of pool share ≤ pool * share

@@ -1,12 +1,11 @@
 -- Standings in order: a list that falls in order is the ordered list of any list with the same standings.
-use Rattle.std.proofs.Common.{◌≡◌, ◌∙◌, refl, ap, sym, ℕ, zero, suc, ◌+◌, ◌<◌, ◌≤◌, inl, inr, Bool, true, false, List, [], ◌∷◌, length, get_or, arith}
+use Rattle.std.proofs.Common.{◌≡◌, ◌∙◌, refl, ap, sym, ℕ, ◌+◌, ◌≤◌, inl, inr, Bool, true, false, List, [], ◌∷◌, arith}
 use Rattle.std.specs.Prelude.{if◌then◌else◌, count_by, not, ◌==◌, ◌&&◌, ◌||◌, nat_lt}
 use Rattle.std.proofs.lemmas.Bool.{cases_Bool}
 use Rattle.std.proofs.lemmas.Bool.Decides.{nat_tests}
 use Rattle.rulebook.proofs.Tests.{count_by-cons}
 use Rattle.place_list.specs.declared.standing.Standing.{Standing}
 use Rattle.place_list.specs.Standings.{comes_before, put_in_order, ordered}
-use Rattle.place_list.proofs.Counts.{count_by-none}
 
 -- Whether two standings are the same.
 abbrev is_same : Standing → Standing → Bool

@@ -1,12 +1,12 @@
 -- The pots as they are cut, one amount of a live player after another.
 use Rattle.std.proofs.Common.{◌≡◌, ◌∙◌, ◌⊎◌, ℕ, ◌+◌, ◌-◌, ◌%◌, ◌<◌, ◌≤◌, List, [], ◌∷◌, ◌++◌, Bool, true, false, true≢false, Some, None, length, refl, ap, sym, subst, inl, inr, arith}
-use Rattle.std.specs.Prelude.{◌&&◌, ◌||◌, ◌==◌, not, nat_le, nat_lt, count_by, map, fold, reverse}
+use Rattle.std.specs.Prelude.{◌==◌, nat_le, nat_lt, count_by, map, fold, reverse}
 use Rattle.std.specs.List.{list_all, list_any}
-use Rattle.std.proofs.lemmas.Bool.{and_parts, eq-eqb, eqb-true}
-use Rattle.std.proofs.lemmas.Bool.Decides.{nat_tests}
+use Rattle.std.proofs.lemmas.Bool.{and_parts, eq-eqb, eqb-true, leb-true, ltb-true}
 use Rattle.std.proofs.lemmas.List.{length-append}
 use Rattle.std.proofs.lemmas.List.Folds.{list_all-map, list_all-append}
 use Rattle.rulebook.proofs.Multiples.{multiple-sub}
+use Rattle.rulebook.proofs.Passing.{list_any-none}
 use Rattle.rulebook.proofs.Tests.{list_all-always}
 use Rattle.pot_layers.specs.declared.put.Put.{Put}
 use Rattle.pot_layers.specs.declared.pot_list.Pot.{Pot}
@@ -15,10 +15,10 @@ use Rattle.pot_layers.specs.Layers.{is_eligible, live_payers, greatest_put, is_c
 use Rattle.pot_layers.specs.Tallies.{total_put, total_to}
 use Rattle.pot_layers.specs.PotTests.{are_whole_pots, are_whole_puts}
 use Rattle.pot_layers.specs.Standings.{puts_of, standing_of, is_above, nearer}
-use Rattle.pot_layers.proofs.ListTests.{list_any-none, reverse-cons}
-use Rattle.pot_layers.proofs.Heights.{is_within, is_live_at, live_at-most, total_to-grows, total_to-greatest, greatest_put-most}
+use Rattle.pot_layers.proofs.ListTests.{reverse-cons}
+use Rattle.pot_layers.proofs.Heights.{is_within, is_live_at, live_at-passes, pays-none_above, total_to-grows, total_to-greatest, greatest_put-most}
 use Rattle.pot_layers.proofs.Stretches.{pot_of, IsTop, next-cut, above-top}
-use Rattle.pot_layers.proofs.Units.{total_to-whole, total_put-whole, there-whole, eqb_true, last-whole}
+use Rattle.pot_layers.proofs.Units.{total_to-whole, total_put-whole, there-whole, last-whole}
 use Rattle.pot_layers.proofs.Nearest.{stands_at, nearest-found, none-above, above-falls, outside-puts_of, within-puts_of, there-puts_of}
 
 -- The heights up to one are cut.
@@ -53,10 +53,6 @@ right-total : (puts : List Put) (standing : Standing) → stands_right puts stan
 unfolding stands_right
 right-total puts standing is = eqb-true standing.total (total_to puts standing.put.amount) is
 
-higher-amount : (live : Bool) (below amount : ℕ) → (live && nat_lt below amount) ≡ true → below < amount
-higher-amount true below amount is = grind (arith, nat_tests)
-higher-amount false below amount is = absurd cc
-
 -- The nearest live player above cuts the next pot.
 pub cuts-next : (standings : List Standing) (pots : List Pot) (below paid : ℕ) (next : Standing)
     → standings ≡ map (standing_of (puts_of standings)) (puts_of standings) → IsCut standings pots below paid
@@ -67,7 +63,8 @@ cuts-next standings pots below paid next right cut found =
     subst (λ (s : List Standing). list_all (stands_right puts) s ≡ true) (sym right) (all-stand_right puts puts) in
     let nearest = nearest-found (stands_right puts) below None standings next
     (λ before was. absurd cc) all_right found in
-    let higher = higher-amount next.put.live below next.put.amount nearest.above in
+    let higher = ltb-true below next.put.amount
+    (and_parts next.put.live (nat_lt below next.put.amount) nearest.above).1 in
     let there : list_any (stands_at next.put.amount) standings ≡ true =
     elim nearest.there [ inl none ↦ absurd cc | inr some ↦ some ] in
     let total = right-total puts next nearest.passes in
@@ -105,7 +102,7 @@ cuts-next standings pots below paid next right cut found =
                   (pot_of (next.total - paid) (live_payers puts next.put.amount) ∷ [])
                   ∙ rw (
                     before.0,
-                    eqb_true (next.total - paid) unit
+                    eq-eqb ((next.total - paid) % unit) 0
                         (multiple-sub unit next.total paid
                         (rw (total, cut.paid) (total_to-grows puts below next.put.amount (omega arith))) after
                         before.1),
@@ -127,25 +124,6 @@ pub record IsWhole (standings : List Standing) (pots : List Pot) (total paid : �
   pub units : (unit : ℕ) → are_whole_puts unit (puts_of standings) ≡ true
       → are_whole_pots unit (layers (puts_of standings)) ≡ true
 
-nobody-in : (live : Bool) (amount : ℕ) → (not live || nat_le amount 0) ≡ true → (live && nat_le 1 amount) ≡ false
-nobody-in true amount within = grind (arith, nat_tests)
-nobody-in false amount within = refl
-
-at-most : (puts : List Put) (amount most : ℕ) → list_all (λ put. nat_le put.amount most) puts ≡ true
-    → list_any (is_live_at amount) puts ≡ true → amount ≤ most
-at-most [] amount most all there = absurd cc
-at-most (put ∷ more) amount most all there =
-    by_first (is_live_at amount put) refl
-    (λ rest. at-most more amount most
-    (and_parts (nat_le put.amount most) (list_all (λ other. nat_le other.amount most) more) all).1 rest)
-  where
-    by_first : (first : Bool) → is_live_at amount put ≡ first
-        → (list_any (is_live_at amount) more ≡ true → amount ≤ most) → amount ≤ most
-    by_first true is others =
-        live_at-most put.live put.amount amount most is
-        (and_parts (nat_le put.amount most) (list_all (λ other. nat_le other.amount most) more) all).0
-    by_first false is others = others (rw is at there)
-
 -- Where no live player is above, what is left goes into the top pot.
 pub is-whole : (standings : List Standing) (pots : List Pot) (below paid total : ℕ) → IsCut standings pots below paid
     → fold (nearer below) None standings ≡ None → is_contested (puts_of standings) ≡ true
@@ -155,13 +133,14 @@ is-whole standings pots below paid total cut none contested whole = elim cut.top
   | inl first ↦
       let within = within-puts_of standings below (none-above below None standings none).1 in
       let nobody : is_contested (puts_of standings) ≡ false =
-      list_any-none (is_within 0) (is_eligible 1) (puts_of standings) (λ put is. nobody-in put.live put.amount is)
-      (rw first at within) in
+      list_any-none (is_within 0) (is_eligible 1) (puts_of standings)
+      (λ put is. pays-none_above put.live put.amount 0 1 is (omega arith)) (rw first at within) in
       absurd (true≢false (sym contested ∙ nobody))
   | inr top ↦
       let puts = puts_of standings in
       let within = within-puts_of standings below (none-above below None standings none).1 in
-      let least = at-most puts below (greatest_put puts) (greatest_put-most puts) top.there in
+      let least = leb-true below (greatest_put puts)
+      (live_at-passes (λ n. nat_le n (greatest_put puts)) below puts (greatest_put-most puts) top.there) in
       let all = above-top puts below (greatest_put puts) top within least in
       let greatest = total_to-greatest puts in
       let grows = total_to-grows puts below (greatest_put puts) least in

@@ -1,16 +1,17 @@
 -- Who pays a height, and how much is put in up to it.
-use Rattle.std.proofs.Common.{◌≡◌, ◌∙◌, ℕ, suc, ◌+◌, ◌<◌, ◌≤◌, List, [], ◌∷◌, Bool, true, false, cond, refl, ap, arith}
-use Rattle.std.specs.Prelude.{◌&&◌, ◌||◌, ◌==◌, not, nat_le, min, max, fold}
+use Rattle.std.proofs.Common.{◌≡◌, ◌∙◌, ℕ, suc, ◌+◌, ◌<◌, ◌≤◌, List, [], ◌∷◌, Bool, true, false, cond, refl, ap, sym, arith}
+use Rattle.std.specs.Prelude.{◌&&◌, ◌||◌, ◌==◌, not, nat_le, min, max, map, fold}
 use Rattle.std.specs.List.{list_all, list_any}
-use Rattle.std.proofs.lemmas.Bool.{and_right, le-leb}
+use Rattle.std.proofs.lemmas.Bool.{and_parts, and_right, le-leb, not_from_false}
 use Rattle.std.proofs.lemmas.Bool.Decides.{nat_tests}
-use Rattle.std.proofs.lemmas.List.Sums.{sum_by-cons, sum_by-le-sum_by}
-use Rattle.std.proofs.lemmas.List.Folds.{list_all-map}
-use Rattle.rulebook.proofs.Tests.{list_all-follows}
+use Rattle.std.proofs.lemmas.List.Sums.{sum_by-le-sum_by}
+use Rattle.std.proofs.lemmas.List.Folds.{fold_stays, list_all-map}
+use Rattle.rulebook.proofs.Among.{all-among}
+use Rattle.rulebook.proofs.Passing.{map-agree, not-any, sum_by-agree}
+use Rattle.rulebook.proofs.Tests.{list_all-follows, list_any-follows, list_any-made, sum_by-plus}
 use Rattle.pot_layers.specs.declared.put.Put.{Put}
 use Rattle.pot_layers.specs.Layers.{has_paid, is_eligible, payments, live_payers, greatest_put, are_same_seats, is_nobody}
 use Rattle.pot_layers.specs.Tallies.{total_put, total_to}
-use Rattle.pot_layers.proofs.ListTests.{map-agree, sum_by-agree}
 
 -- A player's part of a height.
 min-suc : (amount height : ℕ) → min amount (suc height) ≡ min amount height + cond (nat_le (suc height) amount) 1 0
@@ -19,14 +20,9 @@ min-suc amount height = grind (arith, nat_tests)
 -- What is put in up to the next height is more by that height's payments.
 pub total_to-suc : (puts : List Put) (height : ℕ)
     → total_to puts (suc height) ≡ total_to puts height + payments puts (suc height)
-total_to-suc [] height = refl
-total_to-suc (put ∷ more) height =
-    let before = sum_by-cons (λ (p : Put). min p.amount height) put more in
-    let after = sum_by-cons (λ (p : Put). min p.amount (suc height)) put more in
-    let paid = sum_by-cons (λ (p : Put). cond (has_paid (suc height) p) 1 0) put more in
-    let one = min-suc put.amount height in
-    let others = total_to-suc more height in
-    omega (arith, before, after, paid, one, others)
+total_to-suc puts height =
+    sym (sum_by-plus (λ (put : Put). min put.amount height) (λ put. cond (has_paid (suc height) put) 1 0)
+    (λ put. min put.amount (suc height)) puts (λ put. sym (min-suc put.amount height)))
 
 -- What is put in up to a height is no more than up to a greater one.
 pub total_to-grows : (puts : List Put) (low high : ℕ) → low ≤ high → total_to puts low ≤ total_to puts high
@@ -40,10 +36,7 @@ total_to-le puts height = sum_by-le-sum_by (λ (put : Put). min put.amount heigh
 
 -- Nothing is put in up to height 0.
 pub total_to-zero : (puts : List Put) → total_to puts 0 ≡ 0
-total_to-zero [] = refl
-total_to-zero (put ∷ more) =
-    let first = sum_by-cons (λ (p : Put). min p.amount 0) put more in
-    omega (arith, first, total_to-zero more)
+total_to-zero puts = fold_stays (λ (sum : ℕ) (put : Put). sum + min put.amount 0) 0 (λ put. omega arith) puts
 
 -- The greatest so far is not above the greatest of all.
 greatest-grows : (least : ℕ) (puts : List Put)
@@ -83,11 +76,15 @@ is_outside below height put = not put.live || (nat_le put.amount below || nat_le
 abbrev pub is_live_at : ℕ → Put → Bool
 is_live_at height put = put.live && (put.amount == height)
 
--- The amount of a live player is within each bound of what he has put in.
-pub live_at-most : (live : Bool) (own amount most : ℕ) → (live && (own == amount)) ≡ true → nat_le own most ≡ true
-    → amount ≤ most
-live_at-most true own amount most is under = grind (arith, nat_tests)
-live_at-most false own amount most is under = absurd cc
+-- What each amount put in passes, an amount that a live player has put in passes.
+pub live_at-passes : (test : ℕ → Bool) (amount : ℕ) (puts : List Put) → list_all (λ put. test put.amount) puts ≡ true
+    → list_any (is_live_at amount) puts ≡ true → test amount ≡ true
+live_at-passes test amount puts all there =
+    all-among test amount (map (λ (put : Put). put.amount) puts)
+    (list_all-map test (λ (put : Put). put.amount) puts ∙ all)
+    (list_any-made (λ (other : ℕ). other == amount) (λ (put : Put). put.amount) puts
+    ∙ list_any-follows (is_live_at amount) (λ put. put.amount == amount) puts
+    (λ put is. (and_parts put.live (put.amount == amount) is).1) there)
 
 -- A player is not live, or has put in at most this height.
 abbrev pub is_within : ℕ → Put → Bool
@@ -107,10 +104,17 @@ live_payers-between puts below between height out low high =
     map-agree (is_eligible between) (is_eligible height) (is_outside below height) puts
     (λ put is. eligible_outside put.live put.amount below between height is low high) out
 
-not_eligible : (live : Bool) (amount below height : ℕ) → (not live || nat_le amount below) ≡ true → below < height
-    → not (live && nat_le height amount) ≡ true
-not_eligible true amount below height within above = grind (arith, nat_tests)
-not_eligible false amount below height within above = refl
+-- Who is live and has put in just one height pays every height up to it.
+pub pays-up_to : (live : Bool) (amount reached height : ℕ) → (live && (amount == reached)) ≡ true → height ≤ reached
+    → (live && nat_le height amount) ≡ true
+pays-up_to true amount reached height is under = grind (arith, nat_tests)
+pays-up_to false amount reached height is under = absurd cc
+
+-- Who is not live, or has put in at most one height, does not pay a greater one.
+pub pays-none_above : (live : Bool) (amount below height : ℕ) → (not live || nat_le amount below) ≡ true
+    → below < height → (live && nat_le height amount) ≡ false
+pays-none_above true amount below height within above = grind (arith, nat_tests)
+pays-none_above false amount below height within above = refl
 
 -- Above the greatest amount of a live player a height has no live payer.
 pub live_payers-above : (puts : List Put) (below height : ℕ) → list_all (is_within below) puts ≡ true → below < height
@@ -118,25 +122,22 @@ pub live_payers-above : (puts : List Put) (below height : ℕ) → list_all (is_
 live_payers-above puts below height within above =
     list_all-map (λ is_in. not is_in) (is_eligible height) puts
     ∙ list_all-follows (is_within below) (λ put. not (is_eligible height put)) puts
-    (λ put is. not_eligible put.live put.amount below height is above) within
+    (λ put is. not_from_false (is_eligible height put)
+    (pays-none_above put.live put.amount below height is above)) within
+
+-- A height for which somebody is eligible has a live payer.
+pub eligible-somebody : (puts : List Put) (height : ℕ) → list_any (is_eligible height) puts ≡ true
+    → is_nobody (live_payers puts height) ≡ false
+eligible-somebody puts height some =
+    list_all-map (λ is_in. not is_in) (is_eligible height) puts ∙ sym (not-any (is_eligible height) puts) ∙ ap not some
 
 -- A height that a live player reaches has a live payer.
 pub live_payers-somebody : (puts : List Put) (reached height : ℕ) → list_any (is_live_at reached) puts ≡ true
     → height ≤ reached → is_nobody (live_payers puts height) ≡ false
-live_payers-somebody [] reached height there under = absurd cc
-live_payers-somebody (put ∷ more) reached height there under =
-    by_first (put.live && (put.amount == reached)) refl (λ rest. live_payers-somebody more reached height rest under)
-  where
-    eligible : (live : Bool) (amount : ℕ) → (live && (amount == reached)) ≡ true → (live && nat_le height amount) ≡ true
-    eligible true amount is = grind (arith, nat_tests)
-    eligible false amount is = absurd cc
-
-    by_first : (first : Bool) → (put.live && (put.amount == reached)) ≡ first
-        → (list_any (is_live_at reached) more ≡ true → is_nobody (live_payers more height) ≡ false)
-        → is_nobody (live_payers (put ∷ more) height) ≡ false
-    by_first true is others = rw (eligible put.live put.amount is)
-    by_first false is others = and_right (not (is_eligible height put)) (is_nobody (live_payers more height))
-        (others (rw is at there))
+live_payers-somebody puts reached height there under =
+    eligible-somebody puts height
+    (list_any-follows (is_live_at reached) (is_eligible height) puts
+    (λ put is. pays-up_to put.live put.amount reached height is under) there)
 
 -- A set has the same seats as itself.
 pub are_same_seats-self : (set : List Bool) → are_same_seats set set ≡ true
@@ -162,10 +163,6 @@ live_payers-differ [] reached height there above = absurd cc
 live_payers-differ (put ∷ more) reached height there above =
     by_first (put.live && (put.amount == reached)) refl (λ rest. live_payers-differ more reached height rest above)
   where
-    pays : (live : Bool) (amount : ℕ) → (live && (amount == reached)) ≡ true → (live && nat_le reached amount) ≡ true
-    pays true amount is = grind (arith, nat_tests)
-    pays false amount is = absurd cc
-
     stops : (live : Bool) (amount : ℕ) → (live && (amount == reached)) ≡ true → (live && nat_le height amount) ≡ false
     stops true amount is = grind (arith, nat_tests)
     stops false amount is = refl
@@ -174,7 +171,9 @@ live_payers-differ (put ∷ more) reached height there above =
         → (list_any (is_live_at reached) more ≡ true
         → are_same_seats (live_payers more reached) (live_payers more height) ≡ false)
         → are_same_seats (live_payers (put ∷ more) reached) (live_payers (put ∷ more) height) ≡ false
-    by_first true is others = rw (pays put.live put.amount is, stops put.live put.amount is)
+    by_first true is others =
+        let pays = pays-up_to put.live put.amount reached reached is (omega arith) in
+        rw (pays, stops put.live put.amount is)
     by_first false is others =
         and_right (cond (is_eligible reached put) (is_eligible height put) (not (is_eligible height put)))
         (are_same_seats (live_payers more reached) (live_payers more height)) (others (rw is at there))

@@ -4,9 +4,9 @@ use Rattle.std.specs.Prelude.{◌&&◌, ◌||◌, ◌==◌, not, nat_le, nat_lt,
 use Rattle.std.specs.List.{list_all, list_any}
 use Rattle.std.proofs.lemmas.Bool.{and_parts, le-leb, or_right}
 use Rattle.std.proofs.lemmas.Bool.Decides.{nat_tests}
-use Rattle.std.proofs.lemmas.List.Sums.{sum_by-cons}
+use Rattle.std.proofs.lemmas.List.Sums.{sum_by-cons, sum_by-le-sum_by}
 use Rattle.std.proofs.lemmas.List.Folds.{list_all-map}
-use Rattle.rulebook.proofs.Tests.{list_all-follows}
+use Rattle.rulebook.proofs.Tests.{list_all-follows, list_any-made}
 use Rattle.pot_layers.specs.declared.standing.Standing.{Standing}
 use Rattle.pot_layers.specs.Standings.{puts_of, is_above, nearer}
 use Rattle.pot_layers.proofs.Heights.{is_outside, is_within, is_live_at}
@@ -179,12 +179,9 @@ one-less false below amount reached low = omega arith
 -- No more players are above a greater height.
 above-fewer : (standings : List Standing) (below reached : ℕ) → below < reached
     → count_by (is_above reached) standings ≤ count_by (is_above below) standings
-above-fewer [] below reached low = omega arith
-above-fewer (standing ∷ more) below reached low =
-    let before = sum_by-cons (λ (s : Standing). cond (is_above below s) 1 0) standing more in
-    let after = sum_by-cons (λ (s : Standing). cond (is_above reached s) 1 0) standing more in
-    let one = one-less standing.put.live below standing.put.amount reached low in
-    omega (arith, before, after, one, above-fewer more below reached low)
+above-fewer standings below reached low =
+    sum_by-le-sum_by (λ (s : Standing). cond (is_above reached s) 1 0) (λ s. cond (is_above below s) 1 0) standings
+    (λ s. one-less s.put.live below s.put.amount reached low)
 
 -- Above an amount that a live player above a height has put in, fewer are above than above the height.
 pub above-falls : (standings : List Standing) (below reached : ℕ) → below < reached
@@ -245,11 +242,5 @@ within-puts_of standings below none =
 -- A player who stands at an amount has put it in.
 pub there-puts_of : (standings : List Standing) (amount : ℕ) → list_any (stands_at amount) standings ≡ true
     → list_any (is_live_at amount) (puts_of standings) ≡ true
-there-puts_of [] amount there = there
-there-puts_of (standing ∷ more) amount there = step (stands_at amount standing) (list_any (stands_at amount) more)
-    (list_any (is_live_at amount) (puts_of more)) (λ rest. there-puts_of more amount rest) there
-  where
-    step : (first rest others : Bool) → (rest ≡ true → others ≡ true) → (first || rest) ≡ true
-        → (first || others) ≡ true
-    step true rest others later is = refl
-    step false rest others later is = later is
+there-puts_of standings amount there =
+    list_any-made (is_live_at amount) (λ (standing : Standing). standing.put) standings ∙ there

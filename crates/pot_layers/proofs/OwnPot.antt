@@ -1,8 +1,8 @@
 -- What was put in above the height that any other player reached comes back.
 use Rattle.std.proofs.Common.{◌≡◌, ◌∙◌, ℕ, zero, suc, ◌+◌, ◌-◌, ◌<◌, ◌≤◌, List, [], ◌∷◌, Bool, true, false, cond, length, set, replicate, refl, ap, inl, inr, arith}
-use Rattle.std.specs.Prelude.{◌&&◌, ◌==◌, nat_le, max, reverse, fold}
+use Rattle.std.specs.Prelude.{◌==◌, nat_le, max, reverse, fold}
 use Rattle.std.specs.List.{list_all}
-use Rattle.std.proofs.lemmas.Bool.{and_parts, cases_lt, leb-true}
+use Rattle.std.proofs.lemmas.Bool.{and_parts, cases_lt, eqb-true, le-leb, leb-true, or_right}
 use Rattle.std.proofs.lemmas.Bool.Decides.{nat_tests}
 use Rattle.std.proofs.lemmas.List.Sums.{sum_by-cons}
 use Rattle.rulebook.proofs.Tests.{list_all-follows}
@@ -11,27 +11,17 @@ use Rattle.pot_layers.specs.declared.pot_list.Pot.{Pot}
 use Rattle.pot_layers.specs.Layers.{has_paid, payments, live_payers, greatest_put, are_same_seats, is_nobody, lay, pots_to, layers}
 use Rattle.pot_layers.specs.PotTests.{has_put, are_others_within, IsOwnPot}
 use Rattle.pot_layers.proofs.ListTests.{reverse-cons}
-use Rattle.pot_layers.proofs.Heights.{greatest_put-most, live_at-most, same_seats-equal}
+use Rattle.pot_layers.proofs.Heights.{greatest_put-most, pays-none_above, pays-up_to, same_seats-equal}
 use Rattle.pot_layers.proofs.Stretches.{pot_of, lay-same}
-
--- Who has put in no more than a height does not pay a greater one.
-stops : (live : Bool) (amount reached height : ℕ) → reached < height → nat_le amount reached ≡ true
-    → (live && nat_le height amount) ≡ false
-stops true amount reached height above within = grind (arith, nat_tests)
-stops false amount reached height above within = refl
 
 -- Above the others' heights nobody of them pays.
 nobody-pays : (puts : List Put) (reached height : ℕ) → list_all (λ put. nat_le put.amount reached) puts ≡ true
     → reached < height → live_payers puts height ≡ replicate (length puts) false
 nobody-pays [] reached height all above = refl
 nobody-pays (put ∷ more) reached height all above =
-    let own = stops put.live put.amount reached height above
-    (and_parts (nat_le put.amount reached) (list_all (λ other. nat_le other.amount reached) more) all).0 in
-    rw (
-      own,
-      nobody-pays more reached height
-          (and_parts (nat_le put.amount reached) (list_all (λ other. nat_le other.amount reached) more) all).1 above,
-    )
+    let parts = and_parts (nat_le put.amount reached) (list_all (λ other. nat_le other.amount reached) more) all in
+    let own = pays-none_above put.live put.amount reached height (or_right _ _ parts.0) above in
+    rw (own, nobody-pays more reached height parts.1 above)
 
 -- Above the others' heights one alone pays.
 one-pays : (puts : List Put) (index amount reached height : ℕ) → has_put puts index amount ≡ true
@@ -39,32 +29,22 @@ one-pays : (puts : List Put) (index amount reached height : ℕ) → has_put put
     → live_payers puts height ≡ set (replicate (length puts) false) index true
 one-pays [] index amount reached height put_in others above under = absurd cc
 one-pays (put ∷ more) zero amount reached height put_in others above under =
-    rw (pays put.live put.amount put_in, nobody-pays more reached height others above)
-  where
-    pays : (live : Bool) (own : ℕ) → (live && (own == amount)) ≡ true → (live && nat_le height own) ≡ true
-    pays true own is = grind (arith, nat_tests)
-    pays false own is = absurd cc
+    rw (pays-up_to put.live put.amount amount height put_in under, nobody-pays more reached height others above)
 one-pays (put ∷ more) (suc index) amount reached height put_in others above under =
-    let own = stops put.live put.amount reached height above
-    (and_parts (nat_le put.amount reached) (are_others_within more index reached) others).0 in
-    rw (
-      own,
-      one-pays more index amount reached height put_in
-          (and_parts (nat_le put.amount reached) (are_others_within more index reached) others).1 above under,
-    )
+    let parts = and_parts (nat_le put.amount reached) (are_others_within more index reached) others in
+    let own = pays-none_above put.live put.amount reached height (or_right _ _ parts.0) above in
+    rw (own, one-pays more index amount reached height put_in parts.1 above under)
 
 -- A height that is reached has a payment.
 some-payment : (puts : List Put) (index amount height : ℕ) → has_put puts index amount ≡ true → height ≤ amount
     → 1 ≤ payments puts height
 some-payment [] index amount height put_in under = absurd cc
 some-payment (put ∷ more) zero amount height put_in under =
-    let own = pays put.live put.amount put_in in
+    let pays = and_parts put.live (nat_le height put.amount)
+    (pays-up_to put.live put.amount amount height put_in under) in
+    let own : cond {A = ℕ} (nat_le height put.amount) 1 0 ≡ 1 = ap (λ (b : Bool). cond b 1 0) pays.1 in
     let sum = sum_by-cons (λ (p : Put). cond (has_paid height p) 1 0) put more in
     omega (arith, own, sum)
-  where
-    pays : (live : Bool) (own : ℕ) → (live && (own == amount)) ≡ true → 1 ≤ cond (nat_le height own) 1 0
-    pays true own is = grind (arith, nat_tests)
-    pays false own is = absurd cc
 some-payment (put ∷ more) (suc index) amount height put_in under =
     let sum = sum_by-cons (λ (p : Put). cond (has_paid height p) 1 0) put more in
     omega (arith, sum, some-payment more index amount height put_in under)
@@ -144,13 +124,10 @@ all-within : (puts : List Put) (index amount reached : ℕ) → has_put puts ind
     → list_all (λ put. nat_le put.amount amount) puts ≡ true
 all-within [] index amount reached put_in others above = refl
 all-within (put ∷ more) zero amount reached put_in others above =
-    rw (own put.live put.amount put_in)
+    let same = eqb-true put.amount amount (and_parts put.live (put.amount == amount) put_in).1 in
+    rw (le-leb put.amount amount (omega (arith, same)))
     (list_all-follows (λ other. nat_le other.amount reached) (λ other. nat_le other.amount amount) more
     (λ other is. within-more other.amount reached amount above is) others)
-  where
-    own : (live : Bool) (n : ℕ) → (live && (n == amount)) ≡ true → nat_le n amount ≡ true
-    own true n is = grind (arith, nat_tests)
-    own false n is = absurd cc
 all-within (put ∷ more) (suc index) amount reached put_in others above =
     rw (within-more put.amount reached amount above
     (and_parts (nat_le put.amount reached) (are_others_within more index reached) others).0)
@@ -160,11 +137,11 @@ all-within (put ∷ more) (suc index) amount reached put_in others above =
 reaches : (puts : List Put) (index amount most : ℕ) → has_put puts index amount ≡ true
     → list_all (λ put. nat_le put.amount most) puts ≡ true → (amount ≤ most) × (index < length puts)
 reaches [] index amount most put_in all = absurd cc
-reaches (put ∷ more) zero amount most put_in all = (
-  live_at-most put.live put.amount amount most put_in
-      (and_parts (nat_le put.amount most) (list_all (λ other. nat_le other.amount most) more) all).0,
-  omega arith,
-)
+reaches (put ∷ more) zero amount most put_in all =
+    let parts = and_parts (nat_le put.amount most) (list_all (λ other. nat_le other.amount most) more) all in
+    let same = eqb-true put.amount amount (and_parts put.live (put.amount == amount) put_in).1 in
+    let own = leb-true put.amount most parts.0 in
+    (omega (arith, same, own), omega arith)
 reaches (put ∷ more) (suc index) amount most put_in all =
     let later = reaches more index amount most put_in
     (and_parts (nat_le put.amount most) (list_all (λ other. nat_le other.amount most) more) all).1 in

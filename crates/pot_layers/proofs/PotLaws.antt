@@ -7,11 +7,11 @@ use Rattle.std.proofs.lemmas.List.Sums.{sum_by-cons, sum_by-append}
 use Rattle.std.proofs.lemmas.List.Folds.{list_all-append}
 use Rattle.pot_layers.specs.declared.put.Put.{Put}
 use Rattle.pot_layers.specs.declared.pot_list.Pot.{Pot}
-use Rattle.pot_layers.specs.Layers.{has_paid, is_eligible, payments, live_payers, greatest_put, are_same_seats, is_nobody, is_contested, lay, pots_to, layers}
+use Rattle.pot_layers.specs.Layers.{has_paid, payments, live_payers, greatest_put, are_same_seats, is_nobody, is_contested, lay, pots_to, layers}
 use Rattle.pot_layers.specs.Tallies.{total_put, total_to}
 use Rattle.pot_layers.specs.PotTests.{total_of, live_seats, are_all_in, are_for, have_somebody}
 use Rattle.pot_layers.proofs.ListTests.{reverse-cons}
-use Rattle.pot_layers.proofs.Heights.{total_to-suc, total_to-zero, total_to-greatest}
+use Rattle.pot_layers.proofs.Heights.{eligible-somebody, total_to-suc, total_to-zero, total_to-greatest}
 use Rattle.pot_layers.proofs.Stretches.{pot_of}
 
 -- A height's payments go into the pots.
@@ -119,20 +119,6 @@ layers-live puts = list_all-reverse (λ (pot : Pot). are_all_in pot.eligible (li
         (live_payers puts (suc height)) (each height) (λ none. payers-live puts (suc height))
         (λ somebody. payers-live puts (suc height))
 
-somebody-first : (puts : List Put) → is_contested puts ≡ true → not (is_nobody (live_payers puts 1)) ≡ true
-somebody-first [] contested = absurd cc
-somebody-first (put ∷ more) contested = by_first (is_eligible 1 put) refl (λ rest. somebody-first more rest)
-  where
-    later : (one rest : Bool) → not rest ≡ true → not (not one && rest) ≡ true
-    later true rest is = refl
-    later false rest is = is
-
-    by_first : (first : Bool) → is_eligible 1 put ≡ first
-        → (is_contested more ≡ true → not (is_nobody (live_payers more 1)) ≡ true)
-        → not (is_nobody (live_payers (put ∷ more) 1)) ≡ true
-    by_first true is others = rw is
-    by_first false is others = later (is_eligible 1 put) (is_nobody (live_payers more 1)) (others (rw is at contested))
-
 not-empty : (pots : List Pot) (paid : ℕ) (payers : List Bool) → lay pots paid payers ≡ [] → ⊥
 not-empty [] paid payers same = cc
 not-empty (top ∷ below) paid payers same = by_test (are_same_seats top.eligible payers || is_nobody payers) same
@@ -150,7 +136,7 @@ layers-somebody puts contested = list_all-reverse (λ (pot : Pot). not (is_nobod
   where
     each : (height : ℕ) → have_somebody (pots_to puts height) ≡ true
     each zero = refl
-    each (suc zero) = rw (somebody-first puts contested)
+    each (suc zero) = rw (not_from_false (is_nobody (live_payers puts 1)) (eligible-somebody puts 1 contested))
     each (suc (suc height)) =
         eligible-lay (λ seats. not (is_nobody seats)) (pots_to puts (suc height)) (payments puts (suc (suc height)))
         (live_payers puts (suc (suc height))) (each (suc height))

@@ -213,13 +213,6 @@ total-within standings index right =
     (right-at (puts_of standings) (puts_of standings) index) in
     rw is (total_to-le (puts_of standings) (get_or standings index no_standing).put.amount)
 
--- Before its turn an item is as it was.
-pub at-turn : {A : Type 0} (f : A → A) (items : List A) (index : ℕ) (other : A) → index < length items
-    → get_or (map f (take index items) ++ drop index items) index other ≡ get_or items index other
-at-turn f [] index other within = absurd (omega arith)
-at-turn f (item ∷ more) zero other within = refl
-at-turn f (item ∷ more) (suc index) other within = at-turn f more index other (omega arith)
-
 -- A list that is rewritten item by item keeps its length.
 pub length-at_turn : {A : Type 0} (f : A → A) (items : List A) (index : ℕ)
     → length (map f (take index items) ++ drop index items) ≡ length items

@@ -3,7 +3,8 @@ use Rattle.std.proofs.Common.{◌≡◌, ◌∙◌, ℕ, zero, suc, ◌+◌, ◌
 use Rattle.std.specs.Prelude.{◌==◌, nat_lt}
 use Rattle.std.proofs.lemmas.Bool.{lt-ltb}
 use Rattle.std.proofs.lemmas.Bool.Decides.{nat_tests}
-use Rattle.std.proofs.lemmas.Nat.{div-add-mod', mod_below}
+use Rattle.std.proofs.lemmas.Nat.{mod_below}
+use Rattle.rulebook.proofs.Multiples.{multiple-times}
 use Rattle.pot_layers.specs.Shares.{units_to, share_of, high_half, low_half, sum_below}
 
 -- A unit goes to one winner: to him whose turn it is.
@@ -37,16 +38,13 @@ sum_below-times : (unit : ℕ) (f : ℕ → ℕ) (n : ℕ) → sum_below (λ ind
 sum_below-times unit f zero = omega arith
 sum_below-times unit f (suc n) = omega (arith, sum_below-times unit f n)
 
-units-whole : (amount unit : ℕ) → amount % unit ≡ 0 → unit * (amount / unit) ≡ amount
-units-whole amount unit whole = omega (arith, div-add-mod' amount unit, whole)
-
 -- The shares of all winners sum to the pot.
 pub sum_below-share_of : (amount unit winners : ℕ) → 1 ≤ winners → amount % unit ≡ 0
     → sum_below (λ index. share_of amount unit winners index) winners ≡ amount
 sum_below-share_of amount unit winners some whole =
     sum_below-times unit (λ index. units_to winners index (amount / unit)) winners
     ∙ ap (λ n. unit * n) (sum_below-units_to winners (amount / unit) some)
-    ∙ units-whole amount unit whole
+    ∙ multiple-times unit amount whole
 
 -- The two halves sum to the pot.
 pub halves-sum : (amount unit : ℕ) → amount % unit ≡ 0 → high_half amount unit + low_half amount unit ≡ amount

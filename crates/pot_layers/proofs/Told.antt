@@ -1,9 +1,7 @@
 -- A tally that is told a list of puts, seat by seat.
-use Rattle.std.proofs.Common.{◌≡◌, ◌∙◌, ℕ, zero, suc, ◌+◌, ◌-◌, ◌<◌, ◌≤◌, List, [], ◌∷◌, ◌++◌, Bool, true, false, length, get_or, take, replicate, refl, ap, sym, add-one, arith}
-use Rattle.std.proofs.lemmas.List.Sums.{sum_by-append, sum_by_more_le}
-use Rattle.std.proofs.lemmas.List.Folds.{sum_by-replicate}
+use Rattle.std.proofs.Common.{◌≡◌, ◌∙◌, ℕ, zero, suc, ◌+◌, ◌-◌, ◌<◌, List, [], ◌∷◌, ◌++◌, Bool, true, false, length, get_or, take, replicate, refl, ap, sym, add-one, arith}
 use Rattle.pot_layers.specs.declared.put.Put.{Put}
-use Rattle.pot_layers.specs.Tallies.{put_in_at, folded_at, total_put}
+use Rattle.pot_layers.specs.Tallies.{put_in_at, folded_at}
 use Rattle.pot_layers.proofs.Raised.{no_put}
 
 abbrev pub fresh : Put

@@ -1,29 +1,20 @@
 -- Where all that was put in is of whole units, so is each pot.
 use Rattle.std.proofs.Common.{◌≡◌, ◌∙◌, ℕ, zero, suc, ◌+◌, ◌-◌, ◌%◌, List, [], ◌∷◌, Bool, true, false, cond, refl, ap, sym, inl, inr, arith}
 use Rattle.std.specs.Prelude.{◌==◌, ◌&&◌, ◌||◌, nat_le}
-use Rattle.std.proofs.Math.Nat.{zero-mod}
-use Rattle.std.proofs.lemmas.Bool.{and_from, and_parts, cases_Bool}
+use Rattle.std.proofs.lemmas.Bool.{and_from, cases_Bool, eq-eqb, eqb-true}
 use Rattle.std.proofs.lemmas.Bool.Decides.{nat_tests}
 use Rattle.std.proofs.lemmas.List.Sums.{sum_by-cons}
-use Rattle.rulebook.proofs.Multiples.{multiple-behind, multiple-sub}
+use Rattle.rulebook.proofs.Multiples.{multiple-sub, multiple-sum}
+use Rattle.rulebook.proofs.Passing.{map-agree}
 use Rattle.pot_layers.specs.declared.put.Put.{Put}
 use Rattle.pot_layers.specs.declared.pot_list.Pot.{Pot}
 use Rattle.pot_layers.specs.Layers.{are_same_seats, greatest_put, is_eligible, is_nobody, lay, layers, live_payers, payments, pots_to}
 use Rattle.pot_layers.specs.PotTests.{are_whole_pots, are_whole_puts, total_of}
 use Rattle.pot_layers.specs.Tallies.{total_to}
 use Rattle.pot_layers.proofs.Heights.{are_same_seats-self, same_seats-equal, total_to-greatest}
-use Rattle.pot_layers.proofs.ListTests.{map-agree}
 use Rattle.pot_layers.proofs.PotLaws.{list_all-reverse, total_of-pots_to}
 use Rattle.pot_layers.proofs.Stretches.{pot_of}
-use Rattle.pot_layers.proofs.Units.{eqb_true, total_put-whole, total_to-whole, true_eqb}
-
--- Pots of whole units sum to whole units.
-total-whole : (pots : List Pot) (unit : ℕ) → are_whole_pots unit pots ≡ true → total_of pots % unit ≡ 0
-total-whole [] unit whole = zero-mod unit
-total-whole (pot ∷ pots) unit whole =
-    let parts = and_parts (pot.amount % unit == 0) (are_whole_pots unit pots) whole in
-    ap (λ (n : ℕ). n % unit) (sum_by-cons (λ (p : Pot). p.amount) pot pots)
-    ∙ multiple-behind unit pot.amount (total_of pots) (total-whole pots unit parts.1) ∙ true_eqb pot.amount unit parts.0
+use Rattle.pot_layers.proofs.Units.{total_put-whole, total_to-whole}
 
 -- The highest pot is of whole units where the others and all together are.
 top-whole : (top : Pot) (below : List Pot) (unit : ℕ) → are_whole_pots unit below ≡ true
@@ -31,9 +22,9 @@ top-whole : (top : Pot) (below : List Pot) (unit : ℕ) → are_whole_pots unit 
 top-whole top below unit others all =
     let parts = sum_by-cons (λ (p : Pot). p.amount) top below in
     let rest : top.amount ≡ total_of (top ∷ below) - total_of below = omega arith in
-    eqb_true top.amount unit
+    eq-eqb (top.amount % unit) 0
     (ap (λ (n : ℕ). n % unit) rest ∙ multiple-sub unit (total_of (top ∷ below)) (total_of below) (omega arith) all
-    (total-whole below unit others))
+    (multiple-sum unit (λ (p : Pot). p.amount) below others))
 
 -- All pots but the highest are of whole units.
 abbrev whole_below : ℕ → List Pot → Bool
@@ -120,7 +111,7 @@ lay-whole puts unit height (top ∷ below) after whole laid is total =
         by_level : (zeroes : Bool) → (height % unit == 0) ≡ zeroes
             → are_same_seats top.eligible (live_payers puts (suc height)) ≡ false
             → is_nobody (live_payers puts (suc height)) ≡ false → height % unit ≡ 0
-        by_level true level seats none = true_eqb height unit level
+        by_level true level seats none = eqb-true (height % unit) 0 level
         by_level false level seats none =
             let next = next-payers puts unit height whole level in
             let his = laid.payers top below refl (ap is_nobody next ∙ none) in

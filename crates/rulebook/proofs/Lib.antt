@@ -1,10 +1,13 @@
+pub mod Among
 pub mod Checks
 pub mod Found
 pub mod Multiples
 pub mod OccupiedSeats
 pub mod Pairs
+pub mod Passing
 pub mod Repeats
 pub mod Rewrites
 pub mod Searches
+pub mod Sides
 pub mod Tests
 pub mod Walks

@@ -1,12 +1,11 @@
 -- What holds between each item of a list and each later one.
-use Rattle.std.proofs.Common.{◌≡◌, refl, ℕ, Bool, true, false, List, [], ◌∷◌, ◌++◌, map, inl, inr, arith}
-use Rattle.std.specs.Prelude.{not, ◌&&◌, ◌||◌, ◌==◌, nat_lt, filter}
-use Rattle.std.specs.List.{list_any, list_all}
-use Rattle.std.proofs.lemmas.Bool.{and_parts, and_from, or_left, or_right, not-true, cases_Bool}
-use Rattle.std.proofs.lemmas.Bool.Decides.{nat_tests}
+use Rattle.std.proofs.Common.{◌≡◌, ◌∙◌, refl, sym, Bool, true, List, [], ◌∷◌, ◌++◌, map, inl, inr}
+use Rattle.std.specs.Prelude.{filter}
+use Rattle.std.specs.List.{list_all}
+use Rattle.std.proofs.lemmas.Bool.{and_parts, and_from, cases_Bool}
 use Rattle.std.proofs.lemmas.List.Folds.{list_all-map}
-use Rattle.rulebook.proofs.Tests.{list_all-follows, list_all-filter, list_all-between}
-use Rattle.rulebook.specs.Pairs.{is_pairwise, are_rising, are_distinct}
+use Rattle.rulebook.proofs.Tests.{list_all-follows, list_all-kept, list_all-between}
+use Rattle.rulebook.specs.Pairs.{is_pairwise}
 
 -- Each pair passes a test that follows from one that each pair passes.
 pub is_pairwise-follows : {A : Type 0} (one other : A → A → Bool) (items : List A)
@@ -18,18 +17,33 @@ is_pairwise-follows one other (item ∷ items) follows pairs =
     and_from _ _ (list_all-follows (one item) (other item) items (follows item) parts.0)
     (is_pairwise-follows one other items follows parts.1)
 
--- What holds between the items of a list holds between some of them.
+-- Each item of a list passes a test with each later one, also of the items' keys.
+pub is_pairwise-map : {A B : Type 0} (test : B → B → Bool) (key : A → B) (items : List A)
+    → is_pairwise test (map key items) ≡ is_pairwise (λ one other. test (key one) (key other)) items
+is_pairwise-map test key [] = refl
+is_pairwise-map test key (item ∷ items) = rw
+    (list_all-map (test (key item)) key items, is_pairwise-map test key items) refl
+
+-- What holds between the items of a list holds between those that are kept.
+pub is_pairwise-kept : {A : Type 0} (test : A → A → Bool) (keep : A → Bool) (items : List A)
+    → is_pairwise test items ≡ true → is_pairwise test (filter keep items) ≡ true
+is_pairwise-kept test keep [] pairs = refl
+is_pairwise-kept test keep (item ∷ items) pairs =
+    let parts = and_parts (list_all (test item) items) (is_pairwise test items) pairs in
+    let rest = is_pairwise-kept test keep items parts.1 in
+    elim (cases_Bool (keep item)) [
+      | inl kept ↦ rw kept (and_from _ _ (list_all-kept (test item) keep items parts.0) rest)
+      | inr left ↦ rw left rest
+    ]
+
+-- What holds between the keys of a list holds between those of the items that are kept.
 pub is_pairwise-filter : {A K : Type 0} (test : K → K → Bool) (key : A → K) (keep : A → Bool) (items : List A)
     → is_pairwise test (map key items) ≡ true
     → is_pairwise test (map key (filter keep items)) ≡ true
-is_pairwise-filter test key keep [] pairs = refl
-is_pairwise-filter test key keep (item ∷ items) pairs =
-    let parts = and_parts (list_all (test (key item)) (map key items)) (is_pairwise test (map key items)) pairs in
-    let rest = is_pairwise-filter test key keep items parts.1 in
-    elim (cases_Bool (keep item)) [
-      | inl kept ↦ rw kept (and_from _ _ (list_all-filter (test (key item)) key keep items parts.0) rest)
-      | inr left ↦ rw left rest
-    ]
+is_pairwise-filter test key keep items pairs =
+    is_pairwise-map test key (filter keep items)
+    ∙ is_pairwise-kept (λ one other. test (key one) (key other)) keep items
+    (sym (is_pairwise-map test key items) ∙ pairs)
 
 -- Where each item in front passes the test with one more, and it with each behind, each pair passes.
 pub is_pairwise-between : {A : Type 0} (test : A → A → Bool) (front : List A) (item : A) (behind : List A)
@@ -42,21 +56,3 @@ is_pairwise-between test (first ∷ front) item behind pairs before after =
     let here = and_parts (test first item) (list_all (λ earlier. test earlier item) front) before in
     and_from _ _ (list_all-between (test first) front item behind parts.0 here.0)
     (is_pairwise-between test front item behind parts.1 here.1 after)
-
--- Where no item passes a test, none passes it and another.
-nobody : {A : Type 0} (one other : A → Bool) (items : List A) → list_all (λ item. not (one item)) items ≡ true
-    → list_any (λ item. one item && other item) items ≡ false
-nobody one other [] none = refl
-nobody one other (item ∷ items) none =
-    let parts = and_parts (not (one item)) (list_all (λ item. not (one item)) items) none in
-    rw (not-true (one item) parts.0) (nobody one other items parts.1)
-
--- The first passes where somebody does and none of the others.
-pub first_alone : (first others : Bool) → (first || others) ≡ true → others ≡ false → first ≡ true
-first_alone true others some none = refl
-first_alone false others some none = cc
-
--- One of the others passes where somebody does and not the first.
-pub others_alone : (first others : Bool) → (first || others) ≡ true → first ≡ false → others ≡ true
-others_alone true others some none = absurd cc
-others_alone false others some none = some

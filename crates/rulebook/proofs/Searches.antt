@@ -1,13 +1,14 @@
 -- The search through people who are listed in rising seat is the walk round the table.
 use Rattle.std.proofs.Common.{◌≡◌, ◌∙◌, ℕ, zero, suc, ◌+◌, ◌-◌, ◌≤◌, ◌<◌, List, [], ◌∷◌, Bool, true, false, cond, Option, Some, None, map, refl, ap, sym, inl, inr, arith}
-use Rattle.std.specs.Prelude.{◌&&◌, ◌==◌, not, nat_lt, nat_le, find, filter}
+use Rattle.std.specs.Prelude.{◌&&◌, ◌==◌, not, nat_lt, nat_le, find}
 use Rattle.std.specs.List.{list_all}
 use Rattle.std.specs.Option.{option_or}
 use Rattle.std.proofs.lemmas.Bool.{and_parts, cases_lt}
 use Rattle.std.proofs.lemmas.Bool.Decides.{nat_tests}
 use Rattle.std.proofs.lemmas.List.Folds.{find-append, list_all-map}
 use Rattle.rulebook.proofs.OccupiedSeats.{seat_after-below, seat_after-last}
-use Rattle.rulebook.proofs.Tests.{list_all-always}
+use Rattle.rulebook.proofs.Passing.{find-filter, find-none}
+use Rattle.rulebook.proofs.Tests.{list_all-always, list_all-follows}
 use Rattle.rulebook.specs.Pairs.{is_pairwise, are_rising}
 use Rattle.rulebook.specs.Search.{found_along, are_at_table}
 use Rattle.rulebook.specs.Seats.{seat_after, walk, clockwise_after, people_clockwise_after}
@@ -21,14 +22,6 @@ find-alike one other right (person ∷ people) alike all =
     let parts = and_parts (right person) (list_all right people) all in
     rw (alike person parts.0) (ap (cond (other person) (Some person)) (find-alike one other right people alike parts.1))
 
--- A test that nobody passes finds nobody.
-find-nobody : {A : Type 0} (one right : A → Bool) (people : List A)
-    → ((person : A) → right person ≡ true → one person ≡ false) → list_all right people ≡ true → find one people ≡ None
-find-nobody one right [] fails all = refl
-find-nobody one right (person ∷ people) fails all =
-    let parts = and_parts (right person) (list_all right people) all in
-    rw (fails person parts.0) (find-nobody one right people fails parts.1)
-
 module _ {A : Type 0} (seat_of : A → ℕ) (wanted : A → Bool) where
   -- who is wanted at a seat, and who is wanted at the seats above one up to another
   abbrev at : ℕ → A → Bool
@@ -40,8 +33,8 @@ module _ {A : Type 0} (seat_of : A → ℕ) (wanted : A → Bool) where
   -- nobody is at no seat
   none_within : (seat : ℕ) (people : List A) → find (within seat seat) people ≡ None
   none_within seat people =
-      find-nobody (within seat seat) (λ person. true) people (λ person right. grind (arith, nat_tests))
-      (list_all-always (λ (person : A). true) people (λ person. refl))
+      find-none (within seat seat) people
+      (list_all-always (λ person. not (within seat seat person)) people (λ person. grind (arith, nat_tests)))
 
   -- the test of the first of two people, by what it says of him
   first_step : (person : A) (here beyond all : Bool) (here_found beyond_found found : Option A) → here ≡ all
@@ -63,8 +56,9 @@ module _ {A : Type 0} (seat_of : A → ℕ) (wanted : A → Bool) where
         | inl above ↦
             let later : list_all (λ (other : A). nat_lt (seat_of person) (seat_of other)) people ≡ true =
             sym (list_all-map (nat_lt (seat_of person)) seat_of people) ∙ parts.0 in
-            let nobody = find-nobody (at (low + 1)) (λ (other : A). nat_lt (seat_of person) (seat_of other)) people
-            (λ other right. grind (arith, nat_tests)) later in
+            let nobody = find-none (at (low + 1)) people
+            (list_all-follows (λ (other : A). nat_lt (seat_of person) (seat_of other))
+            (λ other. not (at (low + 1) other)) people (λ other right. grind (arith, nat_tests)) later) in
             let here : at (low + 1) person ≡ false = grind (arith, nat_tests) in
             let same : within (low + 1) high person ≡ within low high person = grind (arith, nat_tests) in
             let others = find-alike (within (low + 1) high) (within low high)
@@ -140,19 +134,6 @@ module _ {A : Type 0} (seat_of : A → ℕ) (wanted : A → Bool) where
         here,
       ) refl
 
-  -- one person more, by whether the test keeps him and he is wanted
-  find-filter_step : (person : A) (keeps : Bool) (left : List A) (found : Option A) → find wanted left ≡ found
-      → find wanted (cond keeps (person ∷ left) left) ≡ cond (keeps && wanted person) (Some person) found
-  find-filter_step person true left found same = ap (cond (wanted person) (Some person)) same
-  find-filter_step person false left found same = same
-
-  -- what a list finds among those that another test keeps
-  find-filter : (kept : A → Bool) (people : List A)
-      → find wanted (filter kept people) ≡ find (λ person. kept person && wanted person) people
-  find-filter kept [] = refl
-  find-filter kept (person ∷ people) = find-filter_step person (kept person) (filter kept people) _
-      (find-filter kept people)
-
   -- the search through the list is the walk round the table
   pub search-walk : (people : List A) (seats seat : ℕ) → seat ≤ seats → are_rising (map seat_of people) ≡ true
       → are_at_table seat_of seats people ≡ true
@@ -171,9 +152,8 @@ module _ {A : Type 0} (seat_of : A → ℕ) (wanted : A → Bool) where
       (find (within 0 seat) people) =
       rw (
         find-append,
-        find-filter (λ person. nat_lt seat (seat_of person)),
-        find-filter
-            (λ person. not (nat_lt seat (seat_of person))),
+        find-filter (λ person. nat_lt seat (seat_of person)) wanted,
+        find-filter (λ person. not (nat_lt seat (seat_of person))) wanted,
         above,
         others,
       ) refl in

@@ -85,6 +85,15 @@ list_all-kept test keep (item ∷ items) all =
       | inr left ↦ rw left rest
     ]
 
+-- All that a test keeps of a list pass it.
+pub list_all-filtered : {A : Type 0} (test : A → Bool) (items : List A) → list_all test (filter test items) ≡ true
+list_all-filtered test [] = refl
+list_all-filtered test (item ∷ items) =
+    elim (cases_Bool (test item)) [
+      | inl passes ↦ rw passes (and_from _ _ passes (list_all-filtered test items))
+      | inr fails ↦ rw fails (list_all-filtered test items)
+    ]
+
 -- What passes a test by its key for all of a list does for those of it that are kept.
 pub list_all-filter : {A K : Type 0} (test : K → Bool) (key : A → K) (keep : A → Bool) (items : List A)
     → list_all test (map key items) ≡ true → list_all test (map key (filter keep items)) ≡ true
@@ -118,14 +127,9 @@ list_any-both one other third (item ∷ items) follows some all =
 -- Where somebody passes a test, somebody passes another that follows from it.
 pub list_any-follows : {A : Type 0} (one other : A → Bool) (items : List A)
     → ((item : A) → one item ≡ true → other item ≡ true) → list_any one items ≡ true → list_any other items ≡ true
-list_any-follows one other [] follows some = some
-list_any-follows one other (item ∷ items) follows some =
-    by_first (one item) refl (λ later. list_any-follows one other items follows later)
-  where
-    by_first : (passes : Bool) → one item ≡ passes → (list_any one items ≡ true → list_any other items ≡ true)
-        → (other item || list_any other items) ≡ true
-    by_first true is later = or_left _ _ (follows item is)
-    by_first false is later = or_right _ _ (later (rw is at some))
+list_any-follows one other items follows some =
+    list_any-both one (λ item. true) other items (λ item passes always. follows item passes) some
+    (list_all-always (λ item. true) items (λ item. refl))
 
 -- Who is found by a test passes it.
 pub find-passes : {A : Type 0} (wanted : A → Bool) (items : List A) (found : A) → find wanted items ≡ Some found

@@ -1,5 +1,5 @@
--- What is left of a walk after each step of it.
-use Rattle.std.proofs.Common.{◌≡◌, ℕ, suc, ◌+◌, ◌-◌, ◌<◌, ◌∷◌, Bool, true, false, Some, ap, arith}
+-- What a walk finds and has, and what is left of it after each step.
+use Rattle.std.proofs.Common.{◌≡◌, ◌∙◌, refl, ℕ, zero, suc, ◌+◌, ◌-◌, ◌<◌, ◌∷◌, length, get_or, Bool, true, false, Some, ap, arith}
 use Rattle.std.specs.Prelude.{find, unwrap_or}
 use Rattle.rulebook.specs.Seats.{walk}
 
@@ -20,24 +20,23 @@ pub find_passed : (test : ℕ → Bool) (step : ℕ → ℕ) (steps taken seat :
     → find test (walk step (steps - taken) seat) ≡ find test (walk step (steps - (taken + 1)) (step seat))
 find_passed test step steps taken seat within passed = rw (walk-next step steps taken seat within, passed)
 
--- A walk whose first seat is occupied finds that seat.
-pub walk-found : (occupied : ℕ → Bool) (step : ℕ → ℕ) (steps taken seat fallback : ℕ) → taken < steps
-    → occupied (step seat) ≡ true
-    → unwrap_or (find occupied (walk step (steps - taken) seat)) fallback ≡ step seat
-walk-found occupied step steps taken seat fallback within found =
-    rw (walk-next step steps taken seat within, found)
-
 -- A walk whose first seat is not occupied finds what the rest of it finds.
 pub walk-passed : (occupied : ℕ → Bool) (step : ℕ → ℕ) (steps taken seat fallback : ℕ) → taken < steps
     → occupied (step seat) ≡ false
     → unwrap_or (find occupied (walk step (steps - taken) seat)) fallback
     ≡ unwrap_or (find occupied (walk step (steps - (taken + 1)) (step seat))) fallback
 walk-passed occupied step steps taken seat fallback within passed =
-    rw (walk-next step steps taken seat within, passed)
+    ap (λ found. unwrap_or found fallback) (find_passed occupied step steps taken seat within passed)
 
--- A walk with no step left finds nothing.
-pub walk-over : (occupied : ℕ → Bool) (step : ℕ → ℕ) (steps taken seat fallback : ℕ) → steps ≡ taken
-    → unwrap_or (find occupied (walk step (steps - taken) seat)) fallback ≡ fallback
-walk-over occupied step steps taken seat fallback over =
-    let left : steps - taken ≡ 0 = omega arith in
-    rw left
+-- A walk that counts up has so many steps.
+pub length-walk : (steps from : ℕ) → length (walk suc steps from) ≡ steps
+length-walk zero from = refl
+length-walk (suc steps) from = ap suc (length-walk steps (suc from))
+
+-- At each index of a walk that counts up is the number that comes so many after the first.
+pub get_or-walk : (steps from index other : ℕ) → index < steps
+    → get_or (walk suc steps from) index other ≡ suc (from + index)
+get_or-walk zero from index other within = absurd (omega arith)
+get_or-walk (suc steps) from zero other within = omega arith
+get_or-walk (suc steps) from (suc index) other within =
+    get_or-walk steps (suc from) index other (omega arith) ∙ omega arith

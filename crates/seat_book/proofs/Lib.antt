@@ -1,4 +1,3 @@
-pub mod Passing
 pub mod PlaceOrder
 pub mod Standing
 pub mod Splits

@@ -10,7 +10,7 @@ use Rattle.rulebook.proofs.Tests.{count_by-cons, eqb-swap}
 use Rattle.seat_book.specs.declared.seated.Seated.{Seated}
 use Rattle.seat_book.specs.Players.{sits_at, is_numbered, place_of, are_apart}
 use Rattle.seat_book.specs.Counts.{count_at}
-use Rattle.seat_book.proofs.Passing.{find-none}
+use Rattle.rulebook.proofs.Passing.{find-none}
 
 -- nobody of a list has this number
 abbrev pub have_not : ℕ → List Seated → Bool

@@ -1,25 +1,16 @@
 -- The counts of the tables, as they are kept.
-use Rattle.std.proofs.Common.{◌≡◌, ◌∙◌, refl, sym, ap, ℕ, zero, suc, ◌+◌, ◌-◌, ◌<◌, min, max, Bool, true, false, cond, ◌==◌, ◌&&◌, ◌||◌, List, [], ◌∷◌, map, length, get_or, Option, arith}
+use Rattle.std.proofs.Common.{◌≡◌, ◌∙◌, refl, sym, ap, ℕ, zero, suc, ◌-◌, ◌<◌, min, max, Bool, true, false, cond, ◌==◌, ◌&&◌, ◌||◌, List, [], ◌∷◌, map, length, get_or, Option, arith}
 use Rattle.std.specs.Prelude.{nat_lt, filter, fold}
 use Rattle.std.proofs.lemmas.Bool.{lt-ltb}
 use Rattle.std.proofs.lemmas.Bool.Decides.{nat_tests}
 use Rattle.std.proofs.lemmas.List.{same_lists, get_or-map, length-map, get_or_default}
-use Rattle.rulebook.specs.Seats.{walk}
+use Rattle.rulebook.proofs.Walks.{get_or-walk, length-walk}
 use Rattle.seat_book.specs.declared.place.Place.{Place}
 use Rattle.seat_book.specs.declared.seated.Seated.{Seated}
 use Rattle.seat_book.specs.declared.table_status.TableStatus.{TableStatus}
 use Rattle.seat_book.specs.Players.{players_in}
 use Rattle.seat_book.specs.Counts.{count_at, table_numbers, open_counts, greatest_of, least_of, greatest_count, least_count}
 use Rattle.seat_book.specs.Kept.{IsKept}
-
-length-walk : (tables from : ℕ) → length (walk suc tables from) ≡ tables
-length-walk zero from = refl
-length-walk (suc tables) from = ap suc (length-walk tables (suc from))
-
-get_or-walk : (tables from k d : ℕ) → k < tables → get_or (walk suc tables from) k d ≡ suc (from + k)
-get_or-walk zero from k d within = absurd (omega arith)
-get_or-walk (suc tables) from zero d within = omega arith
-get_or-walk (suc tables) from (suc k) d within = get_or-walk tables (suc from) k d (omega arith) ∙ omega arith
 
 -- the counts that are kept are those of the tables, by number
 pub counts-are : {tables seats : ℕ} {slots : List (Option Seated)} {places : List (Option Place)} {counts : List ℕ}

@@ -8,7 +8,7 @@ use Rattle.std.proofs.lemmas.List.{get_or_read, length-map, take_more, map-appen
 use Rattle.std.proofs.lemmas.List.Elements.{filter_map-append}
 use Rattle.std.proofs.lemmas.List.Sums.{sum_by-set, length-filter}
 use Rattle.rulebook.specs.Pairs.{are_rising}
-use Rattle.rulebook.proofs.Tests.{list_all-follows}
+use Rattle.rulebook.proofs.Tests.{list_all-both, list_all-follows}
 use Rattle.button_blinds.specs.SeatSets.{no_seats, has_seat, with_seat, with_seats, seat_count}
 use Rattle.button_blinds.proofs.SeatSetLaws.{with_seat-size, has_seat-with_seat, no_seats-none}
 use Rattle.seat_book.specs.declared.seated.Seated.{Seated}
@@ -71,11 +71,9 @@ still_comes set seat other higher comes =
 
 all_still_come : (set : List Bool) (seat : ℕ) (seats : List ℕ) → list_all (nat_lt seat) seats ≡ true
     → list_all (may_come set) seats ≡ true → list_all (may_come (with_seat set seat)) seats ≡ true
-all_still_come set seat [] higher comes = refl
-all_still_come set seat (other ∷ seats) higher comes =
-    let above = and_parts (nat_lt seat other) (list_all (nat_lt seat) seats) higher in
-    let parts = and_parts (may_come set other) (list_all (may_come set) seats) comes in
-    and_from _ _ (still_comes set seat other above.0 parts.0) (all_still_come set seat seats above.1 parts.1)
+all_still_come set seat seats higher comes =
+    list_all-both (nat_lt seat) (may_come set) (may_come (with_seat set seat)) seats
+    (λ other above comes. still_comes set seat other above comes) higher comes
 
 count_with : (set : List Bool) (seats : List ℕ) → length set ≡ 10 → are_rising seats ≡ true
     → list_all (may_come set) seats ≡ true → seat_count (with_seats set seats) ≡ seat_count set + length seats

@@ -4,6 +4,7 @@ use Rattle.std.specs.Prelude.{◌==◌, not, map, is_some, Option, fold, slice_g
 use Rattle.std.proofs.lemmas.Bool.{eqb-true}
 use Rattle.std.proofs.lemmas.Option.{get_or_from_slice_get}
 use Rattle.std.proofs.lemmas.List.Sums.{fold_more, sum_by_more, sum_by_more_le}
+use Rattle.rulebook.proofs.Passing.{list_all-get}
 use Rattle.pot_layers.specs.declared.pot_list.Pot.{Pot}
 use Rattle.card_set.specs.declared.card.Card.{Card}
 use Rattle.card_set.specs.declared.game.Game.{Game}
@@ -16,7 +17,7 @@ use Rattle.showdown.specs.Hands.{hands_of}
 use Rattle.showdown.specs.declared.hand.Hand.{Hand}
 use Rattle.showdown.specs.Awards.{award_pot, awards_of}
 use Rattle.showdown.proofs.Writes.{seats-hands_of}
-use Rattle.showdown.proofs.PotAwards.{list_all-get, some-in_play}
+use Rattle.showdown.proofs.PotAwards.{some-in_play}
 use Rattle.showdown.proofs.AwardLaws.{IsPotAt}
 
 -- Once the next pot is awarded after the first ones, the awards are those of the first pots and that pot.

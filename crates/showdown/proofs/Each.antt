@@ -1,17 +1,17 @@
 -- What each player is awarded.
-use Rattle.std.proofs.Common.{◌≡◌, ◌∙◌, ℕ, zero, suc, ◌+◌, ◌*◌, ◌/◌, ◌%◌, List, [], ◌∷◌, Bool, true, false, cond, length, get_or, set, replicate, refl, ap, sym, arith}
+use Rattle.std.proofs.Common.{◌≡◌, ◌∙◌, ℕ, zero, suc, ◌+◌, ◌%◌, List, [], ◌∷◌, Bool, true, false, cond, length, get_or, set, replicate, refl}
 use Rattle.std.specs.Prelude.{◌==◌, ◌||◌, not, map, fold, Option, is_some}
 use Rattle.std.specs.List.{list_all}
-use Rattle.std.proofs.Math.Nat.{div-add-mod, mul-add-mod_self_left, zero-mod}
-use Rattle.std.proofs.lemmas.Bool.{and_from, and_parts, eqb-true, not-true}
-use Rattle.rulebook.proofs.Pairs.{first_alone}
+use Rattle.std.proofs.Math.Nat.{zero-mod}
+use Rattle.std.proofs.lemmas.Bool.{and_from, and_parts, eq-eqb, eqb-true, not-true}
+use Rattle.rulebook.proofs.Multiples.{multiple-add}
 use Rattle.rulebook.proofs.Repeats.{get_or-repeated}
+use Rattle.rulebook.proofs.Sides.{first_alone}
 use Rattle.button_blinds.specs.SeatSets.{has_seat, seat_count}
 use Rattle.pot_layers.specs.declared.pot_list.Pot.{Pot}
 use Rattle.pot_layers.specs.Layers.{are_same_seats}
 use Rattle.pot_layers.specs.PotTests.{are_all_in, are_for}
 use Rattle.pot_layers.specs.Shares.{share_of, high_half, low_half}
-use Rattle.pot_layers.proofs.Units.{eqb_true}
 use Rattle.showdown.specs.declared.hand.Hand.{Hand}
 use Rattle.showdown.specs.declared.hand.Side.TheVariants.{High, Low}
 use Rattle.showdown.specs.Winners.{in_play, winners}
@@ -40,10 +40,7 @@ are_whole unit numbers = list_all (λ number. number % unit == 0) numbers
 -- The sum of two multiples is one.
 whole-sum : (a b unit : ℕ) → (a % unit == 0) ≡ true → b % unit ≡ 0 → ((a + b) % unit == 0) ≡ true
 whole-sum a b unit first second =
-    let own : a % unit ≡ 0 = eqb-true (a % unit) 0 first in
-    let whole : unit * (a / unit) ≡ a = (let parts = div-add-mod a unit in omega (arith, parts, own)) in
-    eqb_true (a + b) unit (ap (λ (n : ℕ). (n + b) % unit) (sym whole) ∙ mul-add-mod_self_left unit (a / unit) b
-    ∙ second)
+    eq-eqb ((a + b) % unit) 0 (multiple-add unit a b (eqb-true (a % unit) 0 first) second)
 
 -- One number of a list is raised by a multiple.
 whole-set : (numbers : List ℕ) (index more unit : ℕ) → are_whole unit numbers ≡ true → more % unit ≡ 0
@@ -107,7 +104,7 @@ whole-pots hands unit button seats awards (pot ∷ pots) all =
 
 whole-none : (unit count : ℕ) → are_whole unit (replicate count 0) ≡ true
 whole-none unit zero = refl
-whole-none unit (suc count) = and_from _ _ (eqb_true 0 unit (zero-mod unit)) (whole-none unit count)
+whole-none unit (suc count) = and_from _ _ (eq-eqb (0 % unit) 0 (zero-mod unit)) (whole-none unit count)
 
 -- Each award is a multiple of the unit.
 pub whole-awards_of : (hands : List (Option Hand)) (unit button seats : ℕ) (pots : List Pot)

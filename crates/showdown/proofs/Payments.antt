@@ -1,10 +1,10 @@
 -- What winners in turn are paid.
-use Rattle.std.proofs.Common.{◌≡◌, ◌∙◌, ℕ, zero, suc, ◌+◌, ◌-◌, ◌%◌, ◌<◌, ◌≤◌, List, [], ◌∷◌, Bool, true, false, length, get_or, set, drop, add-one, drop-cons, refl, ap, sym, arith}
+use Rattle.std.proofs.Common.{◌≡◌, ◌∙◌, ℕ, zero, suc, ◌+◌, ◌-◌, ◌%◌, ◌<◌, ◌≤◌, List, Bool, true, false, length, get_or, set, drop, add-one, drop-cons, refl, ap, sym, arith}
 use Rattle.std.specs.Prelude.{nat_le, sum}
 use Rattle.std.specs.List.{list_all}
 use Rattle.std.proofs.lemmas.Bool.{and_parts, leb-true}
 use Rattle.std.proofs.lemmas.Bool.Decides.{nat_tests}
-use Rattle.std.proofs.lemmas.List.Sums.{sum_by-set}
+use Rattle.std.proofs.lemmas.List.Sums.{AllPass-from_list_all, sum_by-set}
 use Rattle.pot_layers.specs.Shares.{share_of, sum_below}
 use Rattle.pot_layers.proofs.ShareLaws.{sum_below-share_of}
 use Rattle.showdown.specs.Awards.{is_seat, award_to, pay_in_turn}
@@ -42,10 +42,8 @@ first-seat seat is = (
 -- A seat of an order of seats.
 pub seat-at : (order : List ℕ) (index : ℕ) → list_all is_seat order ≡ true → index < length order
     → (1 ≤ get_or order index 0) × (get_or order index 0 ≤ 10)
-seat-at [] index all within = absurd (omega arith)
-seat-at (seat ∷ more) zero all within = first-seat seat (and_parts (is_seat seat) (list_all is_seat more) all).0
-seat-at (seat ∷ more) (suc index) all within =
-    seat-at more index (and_parts (is_seat seat) (list_all is_seat more) all).1 (omega arith)
+seat-at order index all within =
+    first-seat (get_or order index 0) (AllPass-from_list_all is_seat order all index 0 within)
 
 -- The awards grow by what is paid.
 pub sum-award : (awards : List ℕ) (index amount : ℕ) → index < length awards

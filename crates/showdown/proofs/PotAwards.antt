@@ -1,9 +1,8 @@
 -- What a pot is awarded to.
-use Rattle.std.proofs.Common.{◌≡◌, ◌∙◌, ℕ, zero, suc, ◌/◌, ◌%◌, ◌≤◌, List, [], ◌∷◌, Bool, true, false, cond, Some, None, length, get_or, refl, ap, sym, arith}
-use Rattle.std.specs.Prelude.{◌==◌, ◌||◌, not, map, Option, is_some, slice_get}
-use Rattle.std.specs.List.{list_all, list_any}
-use Rattle.std.proofs.lemmas.Bool.{and_parts}
-use Rattle.std.proofs.lemmas.Bool.Decides.{nat_tests}
+use Rattle.std.proofs.Common.{◌≡◌, ◌≢◌, ◌∙◌, ℕ, zero, suc, ◌/◌, ◌%◌, ◌≤◌, List, [], ◌∷◌, Bool, true, false, cond, Some, None, length, get_or, refl, ap, sym, arith}
+use Rattle.std.specs.Prelude.{◌==◌, ◌||◌, not, map, Option, is_some}
+use Rattle.std.specs.List.{list_any}
+use Rattle.std.proofs.lemmas.Bool.{eqb-false}
 use Rattle.std.proofs.lemmas.List.{get_or-map}
 use Rattle.std.proofs.Math.Nat.{mul-mod_right}
 use Rattle.button_blinds.specs.SeatSets.{has_seat, seat_count, AreSeatsOf}
@@ -101,13 +100,10 @@ pub low-some : (hands : List (Option Hand)) (eligible : List Bool) (seats button
     → (seat_count (winners Low (in_play eligible hands)) == 0) ≡ false
     → 1 ≤ length (in_turn seats button (winners Low (in_play eligible hands)))
 low-some hands eligible seats button table at some =
-    let seat = some-seat (winners Low (in_play eligible hands))
-    (above (seat_count (winners Low (in_play eligible hands))) some) in
-    in_turn-some (winners Low (in_play eligible hands)) seats button seat.0 at
-    (winner-sits Low hands eligible seats seat.0 table seat.2) seat.2
-  where
-    above : (n : ℕ) → (n == 0) ≡ false → 1 ≤ n
-    above n is = grind (arith, nat_tests)
+    let lows = winners Low (in_play eligible hands) in
+    let apart : seat_count lows ≢ 0 = eqb-false (seat_count lows) 0 some in
+    let seat = some-seat lows (omega (arith, apart)) in
+    in_turn-some lows seats button seat.0 at (winner-sits Low hands eligible seats seat.0 table seat.2) seat.2
 
 -- A pot that somebody may win, of players who all have hands, has a hand in play.
 pub some-in_play : (eligible : List Bool) (hands : List (Option Hand)) → not (is_nobody eligible) ≡ true
@@ -118,12 +114,3 @@ some-in_play (false ∷ more) [] somebody all = some-in_play more [] somebody al
 some-in_play (true ∷ more) (Some hand ∷ hands) somebody all = refl
 some-in_play (true ∷ more) (None ∷ hands) somebody all = absurd cc
 some-in_play (false ∷ more) (hand ∷ hands) somebody all = some-in_play more hands somebody all
-
--- What all items pass, the item at an index passes.
-pub list_all-get : {A : Type 0} (test : A → Bool) (items : List A) (index : ℕ) (item : A) → list_all test items ≡ true
-    → slice_get items index ≡ Some item → test item ≡ true
-list_all-get test [] index item all is = absurd cc
-list_all-get test (first ∷ more) zero item all is = let same : first ≡ item = cc in
-    rw (← same) (and_parts (test first) (list_all test more) all).0
-list_all-get test (first ∷ more) (suc index) item all is =
-    list_all-get test more index item (and_parts (test first) (list_all test more) all).1 is

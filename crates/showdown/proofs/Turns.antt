@@ -1,9 +1,12 @@
 -- The seats of a set in turn.
-use Rattle.std.proofs.Common.{◌≡◌, ◌∙◌, ℕ, zero, suc, ◌+◌, ◌-◌, ◌<◌, ◌≤◌, List, [], ◌∷◌, ◌++◌, Bool, true, false, cond, None, length, append_assoc, refl, sym, arith}
-use Rattle.std.specs.Prelude.{find, filter}
+use Rattle.std.proofs.Common.{◌≡◌, ◌∙◌, ℕ, zero, suc, ◌+◌, ◌-◌, ◌<◌, ◌≤◌, List, [], ◌∷◌, ◌++◌, Bool, true, false, length, append_assoc, refl, sym, arith}
+use Rattle.std.specs.Prelude.{filter}
 use Rattle.std.specs.List.{list_all}
+use Rattle.std.proofs.lemmas.Bool.{and_from}
 use Rattle.std.proofs.lemmas.Bool.Decides.{nat_tests}
 use Rattle.rulebook.specs.Seats.{seat_after, walk, clockwise_after}
+use Rattle.rulebook.proofs.Passing.{find-none, none-filter}
+use Rattle.rulebook.proofs.Tests.{list_all-kept}
 use Rattle.rulebook.proofs.Walks.{walk-next}
 use Rattle.button_blinds.specs.SeatSets.{has_seat}
 use Rattle.button_blinds.proofs.Distances.{IsSeat, found-reached, most_steps}
@@ -30,34 +33,19 @@ turn-no set seats steps taken seat order within is = sym (rw (walk-next (seat_af
 next-is_seat : (seats seat : ℕ) → 1 ≤ seats → seats ≤ 10 → is_seat (seat_after seats seat) ≡ true
 next-is_seat seats seat some most = grind (arith, nat_tests)
 
-walked-seats : (set : List Bool) (seats steps seat : ℕ) → 1 ≤ seats → seats ≤ 10
-    → list_all is_seat (filter (has_seat set) (walk (seat_after seats) steps seat)) ≡ true
-walked-seats set seats zero seat some most = refl
-walked-seats set seats (suc steps) seat some most =
-    by_test (has_seat set (seat_after seats seat)) (walked-seats set seats steps (seat_after seats seat) some most)
-  where
-    by_test : (is_in : Bool)
-        → list_all is_seat (filter (has_seat set) (walk (seat_after seats) steps (seat_after seats seat))) ≡ true
-        → list_all is_seat (cond is_in
-        (seat_after seats seat ∷ filter (has_seat set) (walk (seat_after seats) steps (seat_after seats seat)))
-        (filter (has_seat set) (walk (seat_after seats) steps (seat_after seats seat)))) ≡ true
-    by_test true rest = rw (next-is_seat seats seat some most, rest)
-    by_test false rest = rest
+walked-seats : (seats steps seat : ℕ) → 1 ≤ seats → seats ≤ 10
+    → list_all is_seat (walk (seat_after seats) steps seat) ≡ true
+walked-seats seats zero seat some most = refl
+walked-seats seats (suc steps) seat some most =
+    and_from (is_seat (seat_after seats seat))
+    (list_all is_seat (walk (seat_after seats) steps (seat_after seats seat)))
+    (next-is_seat seats seat some most) (walked-seats seats steps (seat_after seats seat) some most)
 
 -- The seats in turn are seats of tables.
 pub in_turn-seats : (set : List Bool) (seats button : ℕ) → 1 ≤ seats → seats ≤ 10
     → list_all is_seat (in_turn seats button set) ≡ true
-in_turn-seats set seats button some most = walked-seats set seats seats button some most
-
--- Where a test finds nothing, it keeps nothing, and where it keeps nothing it finds nothing.
-kept-none : (test : ℕ → Bool) (items : List ℕ) → filter test items ≡ [] → find test items ≡ None
-kept-none test [] none = refl
-kept-none test (item ∷ more) none = by_test (test item) refl (kept-none test more)
-  where
-    by_test : (is : Bool) → test item ≡ is → (filter test more ≡ [] → find test more ≡ None)
-        → find test (item ∷ more) ≡ None
-    by_test true is later = let some : item ∷ filter test more ≡ [] = rw is at none in absurd cc
-    by_test false is later = rw is (later (rw is at none))
+in_turn-seats set seats button some most =
+    list_all-kept is_seat (has_seat set) (clockwise_after seats button) (walked-seats seats seats button some most)
 
 some-length : (items : List ℕ) → (items ≡ [] → ⊥) → 1 ≤ length items
 some-length [] some = absurd (some refl)
@@ -70,4 +58,5 @@ in_turn-some set seats button seat at there is =
     some-length (in_turn seats button set)
     (λ none. found-reached (has_seat set) seats seats button seat at there is
     (most_steps seats button seat at.0 at.1 there.0 there.1)
-    (kept-none (has_seat set) (clockwise_after seats button) none))
+    (find-none (has_seat set) (clockwise_after seats button)
+    (none-filter (has_seat set) (clockwise_after seats button) none)))

@@ -1,7 +1,8 @@
 -- A list that is written item by item.
-use Rattle.std.proofs.Common.{◌≡◌, ℕ, zero, suc, ◌<◌, List, [], ◌∷◌, ◌++◌, Bool, true, false, cond, Some, None, length, get_or, take, drop, refl, ap, arith}
+use Rattle.std.proofs.Common.{◌≡◌, ℕ, zero, suc, ◌<◌, List, [], ◌∷◌, ◌++◌, Bool, true, false, cond, None, length, get_or, take, drop, refl, ap, sym, arith}
 use Rattle.std.specs.Prelude.{Option, map, option_map, is_some, replicate}
-use Rattle.std.proofs.lemmas.List.{length-map}
+use Rattle.std.proofs.lemmas.List.{get_or-map, length-map}
+use Rattle.rulebook.proofs.Found.{somes-made}
 use Rattle.card_set.specs.declared.card.Card.{Card}
 use Rattle.card_set.specs.declared.game.Game.{Game}
 use Rattle.showdown.specs.declared.live.Live.{Live}
@@ -54,9 +55,8 @@ pub hands_of-at : (game : Game) (board : List Card) (live : List (Option Live)) 
     → index < length live
     → option_map (hand_of game board) (get_or live index other) ≡ get_or (hands_of game board live) index None
 unfolding hands_of
-hands_of-at game board [] index other within = absurd (omega arith)
-hands_of-at game board (first ∷ more) zero other within = refl
-hands_of-at game board (first ∷ more) (suc index) other within = hands_of-at game board more index other (omega arith)
+hands_of-at game board live index other within =
+    sym (get_or-map (option_map (hand_of game board)) live index other None within)
 
 -- The list of hands is as long as the list of live players that they are made of.
 pub length-hands_of : (game : Game) (board : List Card) (live : List (Option Live))
@@ -68,9 +68,7 @@ length-hands_of game board live = length-map live (option_map (hand_of game boar
 pub seats-hands_of : (game : Game) (board : List Card) (live : List (Option Live))
     → map is_some (hands_of game board live) ≡ map is_some live
 unfolding hands_of
-seats-hands_of game board [] = refl
-seats-hands_of game board (None ∷ more) = ap (λ seats. false ∷ seats) (seats-hands_of game board more)
-seats-hands_of game board (Some player ∷ more) = ap (λ seats. true ∷ seats) (seats-hands_of game board more)
+seats-hands_of game board live = somes-made (hand_of game board) live
 
 -- In hold'em the hole cards are the first two.
 pub first-two : (cards : List Card) (one other : Card) → length cards ≡ 4

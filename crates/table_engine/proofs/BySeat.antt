@@ -4,9 +4,9 @@ use Rattle.std.specs.Prelude.{Option, ◌==◌, ◌&&◌, find, nat_le, nat_lt, 
 use Rattle.std.specs.List.{list_all}
 use Rattle.std.specs.Option.{is_some, option_map_or}
 use Rattle.std.proofs.Math.Nat.{zero-add}
-use Rattle.std.proofs.lemmas.Bool.{and_parts, cases_Bool, cases_lt, eqb-true}
+use Rattle.std.proofs.lemmas.Bool.{and_parts, cases_Bool, cases_lt, eqb-true, leb-true}
 use Rattle.std.proofs.lemmas.Bool.Decides.{nat_tests}
-use Rattle.std.proofs.lemmas.List.Sums.{sum_by-cons}
+use Rattle.std.proofs.lemmas.List.Sums.{AllPass-from_list_all, sum_by-cons}
 use Rattle.level_plan.specs.Items.{is_between}
 use Rattle.rulebook.specs.Pairs.{are_rising}
 use Rattle.rulebook.specs.Seats.{walk}
@@ -276,17 +276,11 @@ pub seat-within : (players : List StartSeat) (index : ℕ) (other : StartSeat)
     → list_all (λ player. is_between 1 10 player.seat) players ≡ true
     → index < length players → (1 ≤ (slice_index_or players index other).seat) ×
     ((slice_index_or players index other).seat ≤ 10)
-seat-within [] index other all within = absurd (omega arith)
-seat-within (player ∷ players) zero other all within =
-    let parts = and_parts (is_between 1 10 player.seat) (list_all (λ (p : StartSeat). is_between 1 10 p.seat) players)
-    all in
-    let low : 1 ≤ player.seat = grind (arith, nat_tests) in
-    let high : player.seat ≤ 10 = grind (arith, nat_tests) in
-    (low, high)
-seat-within (player ∷ players) (suc index) other all within =
-    let parts = and_parts (is_between 1 10 player.seat) (list_all (λ (p : StartSeat). is_between 1 10 p.seat) players)
-    all in
-    seat-within players index other parts.1 (omega arith)
+seat-within players index other all within =
+    let seat = (slice_index_or players index other).seat in
+    let parts = and_parts (nat_le 1 seat) (nat_le seat 10)
+    (AllPass-from_list_all (λ (player : StartSeat). is_between 1 10 player.seat) players all index other within) in
+    (leb-true 1 seat parts.0, leb-true seat 10 parts.1)
 
 -- What is made of who is in each slot, by two functions that say the same of nobody and of each player.
 pub map-slots : {A B : Type 0} (made : A → B) (nobody : B) (f : Option A → B) → nobody ≡ f None

@@ -4,6 +4,7 @@ use Rattle.std.specs.Prelude.{Option, ◌==◌, find, length, nat_le, sum_by, co
 use Rattle.std.specs.List.{list_all}
 use Rattle.std.specs.Option.{is_some, option_map_or}
 use Rattle.std.proofs.lemmas.Bool.{and_from, and_parts, eqb-true, le-leb}
+use Rattle.std.proofs.lemmas.List.Folds.{fold_stays}
 use Rattle.std.proofs.lemmas.List.Sums.{sum-map, sum_by-cons}
 use Rattle.rulebook.proofs.Tests.{list_all-always, sum_by-plus}
 use Rattle.betting_round.specs.declared.bettor.Player.{Player}
@@ -119,12 +120,8 @@ put-on_street start played lawful there =
 -- What was put in on several streets, by the players of the start.
 put-on_streets : (start : HandStart) (streets : List StreetPlayed) → IsLawfulStart start → AreThere start streets
     → sum_by (λ (player : StartSeat). sum_by (put_from player.seat) streets) start.seats ≡ sum_by put_on streets
-put-on_streets start [] lawful there = nothing-put start.seats
-  where
-    nothing-put : (players : List StartSeat) → sum_by (λ (player : StartSeat). 0) players ≡ 0
-    nothing-put [] = refl
-    nothing-put (player ∷ players) =
-        let all = sum_by-cons (λ (p : StartSeat). 0) player players in let later = nothing-put players in omega arith
+put-on_streets start [] lawful there =
+    fold_stays (λ (total : ℕ) (player : StartSeat). total + 0) 0 (λ player. refl) start.seats
 put-on_streets start (played ∷ streets) lawful there =
     let here = put-on_street start played lawful there.0 in
     let later = put-on_streets start streets lawful there.1 in

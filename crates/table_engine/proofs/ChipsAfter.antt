@@ -4,14 +4,13 @@ use Rattle.std.specs.Prelude.{Option, ◌==◌, slice_index_or, sum_by}
 use Rattle.std.specs.List.{list_all}
 use Rattle.std.specs.Option.{option_map_or}
 use Rattle.std.proofs.Math.Nat.{zero-mod}
-use Rattle.std.proofs.lemmas.Bool.{and_parts, cases_Bool}
+use Rattle.std.proofs.lemmas.Bool.{and_parts, cases_Bool, eq-eqb, eqb-true}
 use Rattle.std.proofs.lemmas.List.Folds.{list_all-map}
 use Rattle.std.proofs.lemmas.List.Sums.{sum-map}
 use Rattle.rulebook.proofs.Multiples.{multiple-add}
 use Rattle.rulebook.proofs.Tests.{sum_by-map, sum_by-plus}
 use Rattle.betting_round.specs.declared.bettor.Player.{Player}
 use Rattle.betting_round.specs.WhoIsDue.{player_in}
-use Rattle.pot_layers.proofs.Units.{eqb_true, true_eqb}
 use Rattle.table_engine.specs.declared.awards.Awards.{Awards}
 use Rattle.table_engine.specs.declared.start.StartSeat.{StartSeat}
 use Rattle.table_engine.specs.Awards.{award_in, awards_in_hand, stack_after}
@@ -87,7 +86,7 @@ whole-at : (unit : ℕ) (awards : List ℕ) (index : ℕ) → list_all (λ award
 whole-at unit [] index all = zero-mod unit
 whole-at unit (first ∷ awards) zero all =
     let parts = and_parts (first % unit == 0) (list_all (λ award. award % unit == 0) awards) all in
-    true_eqb first unit parts.0
+    eqb-true (first % unit) 0 parts.0
 whole-at unit (first ∷ awards) (suc index) all =
     let parts = and_parts (first % unit == 0) (list_all (λ award. award % unit == 0) awards) all in
     whole-at unit awards index parts.1
@@ -109,7 +108,7 @@ stacks-whole hand lawful play =
     let at = sym (player_in-there (street_of hand).players player.seat low) ∙ his.1.there in
     let now = sound.each player.seat his.0 low at in
     let left : behind hand player % unit ≡ 0 = ap (λ (n : ℕ). n % unit) his.1.behind ∙ now.behind in
-    eqb_true (stack_after_hand hand player) unit (multiple-add unit (behind hand player) (award hand player) left
+    eq-eqb (stack_after_hand hand player % unit) 0 (multiple-add unit (behind hand player) (award hand player) left
     (gets-whole player)))
     lawful.stacks
   where

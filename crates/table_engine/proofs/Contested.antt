@@ -1,14 +1,17 @@
 -- Where a hand comes to a showdown, a live player has put in chips.
-use Rattle.std.proofs.Common.{◌≡◌, ◌∙◌, ℕ, zero, suc, ◌+◌, ◌-◌, ◌≤◌, ◌<◌, Bool, true, false, cond, List, [], ◌∷◌, length, map, Some, None, refl, ap, sym, subst, inl, inr, arith}
+use Rattle.std.proofs.Common.{◌≡◌, ◌≢◌, ◌∙◌, ℕ, zero, suc, ◌+◌, ◌-◌, ◌≤◌, ◌<◌, Bool, true, false, cond, List, [], ◌∷◌, length, map, Some, None, refl, ap, sym, subst, inl, inr, arith}
 use Rattle.std.specs.Prelude.{Option, ◌==◌, ◌&&◌, ◌||◌, ◌⊎◌, count_by, find, is_none, nat_le, nat_lt, not, option_map, slice_index_or, slice_set, sum_by}
 use Rattle.std.specs.List.{list_all, list_any}
 use Rattle.std.specs.Option.{is_some}
-use Rattle.std.proofs.lemmas.Bool.{and_from, and_parts, cases_Bool, cases_lt, not-true, or_parts, or_right}
+use Rattle.std.proofs.lemmas.Bool.{and_from, and_parts, and_right, cases_Bool, cases_lt, eqb-false, ne_eqb, not-true, or_parts, or_right}
 use Rattle.std.proofs.lemmas.Bool.Decides.{nat_tests}
 use Rattle.std.proofs.lemmas.List.Sums.{sum_by-cons}
 use Rattle.rulebook.specs.Seats.{clockwise_after}
+use Rattle.rulebook.proofs.Among.{is_among, all-among}
 use Rattle.rulebook.proofs.Found.{none-by_test}
-use Rattle.deal_order.proofs.Apart.{clockwise-comes}
+use Rattle.rulebook.proofs.OccupiedSeats.{among-clockwise}
+use Rattle.rulebook.proofs.Passing.{count_by-all, none-find, not-any, sum_by-agree}
+use Rattle.rulebook.proofs.Tests.{list_all-always}
 use Rattle.betting_round.specs.declared.act.Act.{Act}
 use Rattle.betting_round.specs.declared.bettor.Bettor.{Bettor}
 use Rattle.betting_round.specs.declared.bettor.Player.{Player}
@@ -76,9 +79,9 @@ count-lives (Some now ∷ slots) =
 
 -- As many ones as there are people.
 sum-ones : (players : List StartSeat) → sum_by (λ (player : StartSeat). 1) players ≡ length players
-sum-ones [] = refl
-sum-ones (player ∷ players) =
-    let all = sum_by-cons (λ (other : StartSeat). 1) player players in let later = sum-ones players in omega arith
+sum-ones players =
+    count_by-all (λ (player : StartSeat). true) players
+    (list_all-always (λ (player : StartSeat). true) players (λ player. refl))
 
 -- Before any act all who are dealt in are live, and the big blind is to be met.
 alive-first : (start : HandStart) → IsLawfulStart start → IsAlive start (first_streets start)
@@ -123,49 +126,31 @@ none-there test (slot ∷ slots) (suc index) now none there =
 -- Where no live player is all-in those who can act are those who are live.
 count-can_act : (slots : List (Option Player)) → list_any (is_there is_all_in) slots ≡ false
     → count_by (is_there can_act) slots ≡ count_by (is_there is_live) slots
-count-can_act [] none = refl
-count-can_act (None ∷ slots) none =
-    let one = sum_by-cons (λ (slot : Option Player). cond (is_there can_act slot) 1 0) None slots in
-    let other = sum_by-cons (λ (slot : Option Player). cond (is_there is_live slot) 1 0) None slots in
-    let later = count-can_act slots none in omega arith
-count-can_act (Some now ∷ slots) none =
-    let one = sum_by-cons (λ (slot : Option Player). cond (is_there can_act slot) 1 0) (Some now) slots in
-    let other = sum_by-cons (λ (slot : Option Player). cond (is_there is_live slot) 1 0) (Some now) slots in
-    let parts = or_parts (is_all_in now) (list_any (is_there is_all_in) slots) none in
-    let later = count-can_act slots parts.1 in
-    let same : can_act now ≡ now.bettor.live = alike now.bettor.live now.bettor.behind parts.0 in
-    let here : one_if (can_act now) ≡ one_if (is_live now) = ap one_if same in
-    omega arith
+count-can_act slots none =
+    sum_by-agree (λ (slot : Option Player). one_if (is_there can_act slot)) (λ slot. one_if (is_there is_live slot))
+    (λ slot. not (is_there is_all_in slot)) slots each (sym (not-any (is_there is_all_in) slots) ∙ ap not none)
   where
     alike : (live : Bool) (behind : ℕ) → (live && (behind == 0)) ≡ false → (live && nat_lt 0 behind) ≡ live
     alike true behind none = grind (arith, nat_tests)
     alike false behind none = refl
 
+    each : (slot : Option Player) → not (is_there is_all_in slot) ≡ true
+        → one_if (is_there can_act slot) ≡ one_if (is_there is_live slot)
+    each None partly = refl
+    each (Some now) partly =
+        let same : can_act now ≡ now.bettor.live =
+        alike now.bettor.live now.bettor.behind (not-true (is_all_in now) partly) in
+        ap one_if same
+
 -- A walk of ten seats comes to each of them, wherever it starts.
-comes-ten : (after index : ℕ) → index < 10 → list_any (λ other. other == suc index) (clockwise_after 10 after) ≡ true
+comes-ten : (after index : ℕ) → index < 10 → is_among (suc index) (clockwise_after 10 after) ≡ true
 comes-ten after index within =
     elim (cases_lt after 10) [
-      | inl below ↦ clockwise-comes 10 after index (omega arith) (omega arith) within
+      | inl below ↦ among-clockwise 10 after (suc index) (omega arith) (omega arith) (omega arith)
       | inr above ↦
           let past : nat_lt after 10 ≡ false = grind (arith, nat_tests) in
-          let last = clockwise-comes 10 10 index (omega arith) (omega arith) within in
+          let last = among-clockwise 10 10 (suc index) (omega arith) (omega arith) (omega arith) in
           rw past last
-    ]
-
--- Where a search finds nothing, nobody in its list passes.
-find-nothing : (test : ℕ → Bool) (seats : List ℕ) (target : ℕ) → find test seats ≡ None
-    → list_any (λ other. other == target) seats ≡ true
-    → test target ≡ false
-find-nothing test [] target none has = absurd cc
-find-nothing test (seat ∷ seats) target none has =
-    elim (cases_Bool (test seat)) [
-      | inl passes ↦ let never : Some seat ≡ None = rw passes at none in absurd cc
-      | inr fails ↦
-          let rest : find test seats ≡ None = rw fails at none in
-          elim (cases_Bool (seat == target)) [
-            | inl here ↦ let same : seat ≡ target = grind (arith, nat_tests) in rw (← same) fails
-            | inr elsewhere ↦ find-nothing test seats target rest (rw elsewhere at has)
-          ]
     ]
 
 -- Where nobody is due and two or more are live, of whom none is all-in, no live player may be due.
@@ -182,9 +167,11 @@ nobody-may street index ended none within =
     let seats = clockwise_after 10 street.after in
     let search : is_none (find (λ seat. is_there (may_be_due street.level) (player_at street.players seat)) seats) ≡
     true = rw open_ at parts.0 in
-    find-nothing (λ seat. is_there (may_be_due street.level) (player_at street.players seat)) seats (suc index)
-    (none-by_test (find (λ seat. is_there (may_be_due street.level) (player_at street.players seat)) seats) search)
-    (comes-ten street.after index within)
+    let nobody = none-find (λ seat. is_there (may_be_due street.level) (player_at street.players seat)) seats
+    (none-by_test (find (λ seat. is_there (may_be_due street.level) (player_at street.players seat)) seats) search) in
+    not-true (is_there (may_be_due street.level) (player_at street.players (suc index)))
+    (all-among (λ seat. not (is_there (may_be_due street.level) (player_at street.players seat))) (suc index) seats
+    nobody (comes-ten street.after index within))
 
 -- All puts pass a test where each player's does.
 all-puts : (players : List (Option StartSeat)) (slots : List (Option Player))
@@ -347,14 +334,15 @@ alive-act start streets acts seat act sound free alive =
     let many : (count_by (is_there is_live) street.players == 1) ≡ false = due-many street seat due in
     let count = count-lives street.players in
     let some = alive.some in
-    let two : 2 ≤ sum_over lives street.players = (let other : (sum_over lives street.players == 1) ≡ false =
-    ap (λ (n : ℕ). n == 1) (sym count) ∙ many in above-one (sum_over lives street.players) some other) in
+    let two : 2 ≤ sum_over lives street.players = (let apart : count_by (is_there is_live) street.players ≢ 1 =
+    eqb-false (count_by (is_there is_live) street.players) 1 many in omega (arith, apart, count, some)) in
     let same = ap (λ (s : Street). sum_over lives s.players) is in
     let grows : street.level ≤ (placed street seat now act put_in).level = omega arith in
     let level = ap (λ (s : Street). s.level) is in
     let puts = puts-moved start streets acts seat act now sound acted in
     let more = acted.more in
-    let partly : is_all_in now ≡ false = partly-so now.bettor.live now.bettor.behind more in
+    let chips : (now.bettor.behind == 0) ≡ false = ne_eqb now.bettor.behind 0 (λ none. omega (arith, more, none)) in
+    let partly : is_all_in now ≡ false = and_right now.bettor.live (now.bettor.behind == 0) chips in
     record {
       some = omega arith;
       opened = λ first. let was = alive.opened first in omega arith;
@@ -365,13 +353,6 @@ alive-act start streets acts seat act sound free alive =
                 ∙ paid-told (is_fold act) (puts_of (players_by_seat start) street.players) (seat - 1) put_in paid)
           ]);
     }
-  where
-    above-one : (n : ℕ) → 1 ≤ n → (n == 1) ≡ false → 2 ≤ n
-    above-one n some other = grind (arith, nat_tests)
-
-    partly-so : (live : Bool) (behind : ℕ) → 0 < behind → (live && (behind == 0)) ≡ false
-    partly-so true behind more = grind (arith, nat_tests)
-    partly-so false behind more = refl
 
 -- Somebody is live at each moment of every lawful play, and after the first street the live have paid.
 alive-play : (hand : HandTerms) → IsLawfulStart hand.start → IsLawfulPlay hand → IsAlive hand.start (streets_of hand)

@@ -17,5 +17,4 @@ pub mod Standings
 pub mod Starts
 pub mod Tabled
 pub mod TurnLaws
-pub mod Units
 pub mod WholeUnits

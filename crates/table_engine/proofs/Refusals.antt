@@ -1,19 +1,15 @@
 -- Why an act is refused.
-use Rattle.std.proofs.Common.{◌≡◌, ◌∙◌, ℕ, List, [], ◌∷◌, Bool, true, false, cond, Some, None, Ok, Err, refl, ap, sym, subst}
-use Rattle.std.specs.Prelude.{◌||◌, Option, Result, IsErr, is_some, option_map, find, not, unwrap_or}
-use Rattle.std.specs.Result.{IsErrAnd}
+use Rattle.std.proofs.Common.{◌≡◌, ◌∙◌, ℕ, List, [], ◌∷◌, Bool, true, false, cond, Some, None, refl, ap}
+use Rattle.std.specs.Prelude.{◌||◌, Option, is_some, option_map, find, not, unwrap_or}
 use Rattle.std.specs.List.{list_any}
 use Rattle.std.specs.Str.{bytes_eq}
 use Rattle.rulebook.specs.Checks.{first_that_holds}
-use Rattle.floor_text.specs.declared.refusal.Refusal.{Refusal}
 use Rattle.floor_text.specs.declared.refusal.Refusal.TheVariants.{NotDealt}
 use Rattle.betting_round.specs.declared.act.Act.{Act}
 use Rattle.betting_round.specs.ActChecks.{act_refusal, seat_checks}
-use Rattle.table_engine.specs.declared.record.ActFault.{ActFault}
-use Rattle.table_engine.specs.declared.record.ActFault.TheVariants.{No, NoMemory}
 use Rattle.table_engine.specs.declared.start.HandStart.{HandStart}
 use Rattle.table_engine.specs.Hands.{HandTerms, seat_of_name, street_of}
-use Rattle.table_engine.specs.Acts.{act_checks, acting_seat, limits_of, done_in_seat, done_of_act, is_dealt, refusal_in_seat, refusal_of_act, IsAnswer}
+use Rattle.table_engine.specs.Acts.{act_checks, acting_seat, limits_of, done_in_seat, done_of_act, is_dealt, refusal_in_seat, refusal_of_act}
 
 -- Somebody passes a test exactly where somebody is found by it.
 any-found_step : {X Y : Type 0} (f : X → Y) (x : X) (passes more : Bool) (left : Option X)

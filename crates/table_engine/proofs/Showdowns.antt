@@ -3,7 +3,7 @@ use Rattle.std.proofs.Common.{◌≡◌, ◌∙◌, ℕ, zero, suc, ◌-◌, ◌
 use Rattle.std.specs.Prelude.{Option, ◌==◌, slice_index_or, sum_by}
 use Rattle.std.specs.List.{list_all}
 use Rattle.std.specs.Option.{is_some, option_map_or}
-use Rattle.std.proofs.lemmas.Bool.{and_from}
+use Rattle.std.proofs.lemmas.Bool.{and_from, eq-eqb}
 use Rattle.std.proofs.Math.Nat.{zero-mod}
 use Rattle.std.proofs.lemmas.List.Sums.{sum_by-cons}
 use Rattle.button_blinds.specs.SeatSets.{AreSeatsOf, has_seat}
@@ -21,7 +21,6 @@ use Rattle.pot_layers.specs.Layers.{is_contested, layers}
 use Rattle.pot_layers.specs.PotTests.{are_for, are_whole_pots, are_whole_puts, have_somebody, live_seats, total_of}
 use Rattle.pot_layers.specs.Tallies.{total_put}
 use Rattle.pot_layers.proofs.PotLaws.{layers-live, layers-somebody, total_of-layers}
-use Rattle.pot_layers.proofs.Units.{eqb_true}
 use Rattle.pot_layers.proofs.WholeLayers.{layers-whole}
 use Rattle.showdown.specs.declared.live.Live.{Live}
 use Rattle.showdown.specs.Hands.{AreDealtApart, hands_of, hole_cards}
@@ -87,9 +86,9 @@ whole-players : (hand : HandTerms) (unit : ℕ) (players : List (Option StartSea
     → list_all (λ put. put.amount % unit == 0) (map (put_at hand) players) ≡ true
 whole-players hand unit [] each = refl
 whole-players hand unit (None ∷ players) each =
-    and_from _ _ (eqb_true 0 unit (zero-mod unit)) (whole-players hand unit players (λ index. each (suc index)))
+    and_from _ _ (eq-eqb (0 % unit) 0 (zero-mod unit)) (whole-players hand unit players (λ index. each (suc index)))
 whole-players hand unit (Some player ∷ players) each =
-    and_from _ _ (eqb_true (put_in_hand hand player) unit (each 0 player refl))
+    and_from _ _ (eq-eqb (put_in_hand hand player % unit) 0 (each 0 player refl))
     (whole-players hand unit players (λ index. each (suc index)))
 
 -- A hand that is over and is not won by folds comes to a showdown.

@@ -11,7 +11,7 @@ use Rattle.card_set.specs.declared.game.Game.{Game}
 use Rattle.card_set.proofs.Steps.{map_found}
 use Rattle.card_set.specs.declared.game.Game.TheVariants.{Holdem, Omaha, Hilo}
 use Rattle.floor_text.specs.declared.refusal.Refusal.TheVariants.{NotDealt}
-use Rattle.rulebook.proofs.Found.{none-by_test}
+use Rattle.rulebook.proofs.Found.{none-by_test, somes-made}
 use Rattle.rulebook.proofs.Multiples.{multiple-add, multiple-max, multiple-sub}
 use Rattle.betting_round.specs.declared.act.Act.{Act}
 use Rattle.betting_round.specs.declared.act.Act.TheVariants.{Fold, Check, Call, AllIn, Bet, Raise}
@@ -38,7 +38,7 @@ use Rattle.table_engine.specs.Standings.{IsAt, IsReady}
 use Rattle.table_engine.specs.Starts.{IsLawfulStart, chips_of}
 use Rattle.table_engine.proofs.BySeat.{along-at, along-past, player_in-there, sum-of_start}
 use Rattle.table_engine.proofs.Refusals.{refused-in_seat, refused-without_seat}
-use Rattle.table_engine.proofs.Standings.{lawful-small, ready-act, ready-start, right-next, somes-made, somes-street, streets-more, streets-none}
+use Rattle.table_engine.proofs.Standings.{lawful-small, ready-act, ready-start, right-next, somes-street, streets-more, streets-none}
 use Rattle.table_engine.proofs.Starts.{right-first}
 use Rattle.table_engine.proofs.WholeUnits.{amount-whole, blinds-lawful, found-playable, posted-whole}
 

@@ -7,7 +7,7 @@ use Rattle.std.proofs.lemmas.Bool.{and_from, and_parts, eq-eqb, leb-true}
 use Rattle.std.proofs.lemmas.Bool.Decides.{nat_tests}
 use Rattle.std.proofs.lemmas.List.Folds.{list_all-map}
 use Rattle.rulebook.proofs.Tests.{list_all-both}
-use Rattle.rulebook.proofs.Multiples.{multiple-add, multiple-sub}
+use Rattle.rulebook.proofs.Multiples.{multiple-add, multiple-sub, multiple-sum}
 use Rattle.betting_round.specs.declared.bettor.Player.{Player}
 use Rattle.table_engine.specs.declared.start.StartSeat.{StartSeat}
 use Rattle.table_engine.specs.Starts.{IsLawfulStart, have_playable_stacks, is_playable_stack}
@@ -18,7 +18,6 @@ use Rattle.table_engine.proofs.BySeat.{found-all, found-within, player_in-there}
 use Rattle.table_engine.proofs.Chips.{all-found, stands}
 use Rattle.table_engine.proofs.Sound.{sound-play}
 use Rattle.table_engine.proofs.Starts.{each-in_sum}
-use Rattle.table_engine.proofs.Units.{multiple-sum}
 use Rattle.table_engine.proofs.WholeUnits.{playable-parts}
 
 -- A stack above 0 that is a multiple of the unit can be played with.

@@ -1,8 +1,8 @@
 -- How a hand stands after each step: where the next street begins, and after an act.
-use Rattle.std.proofs.Common.{◌≡◌, ◌≢◌, ◌∙◌, ℕ, zero, suc, ◌+◌, ◌-◌, ◌%◌, ◌≤◌, Bool, true, false, List, [], ◌∷◌, ◌++◌, map, Some, None, refl, ap, sym, arith}
+use Rattle.std.proofs.Common.{◌≡◌, ◌≢◌, ◌∙◌, ℕ, zero, suc, ◌+◌, ◌-◌, ◌%◌, ◌≤◌, true, false, List, [], ◌∷◌, ◌++◌, map, Some, None, refl, ap, sym, arith}
 use Rattle.std.specs.Prelude.{Option, ◌==◌, ◌&&◌, nat_le, option_map, reverse}
 use Rattle.std.specs.Option.{is_some}
-use Rattle.std.proofs.lemmas.Bool.{leb-true}
+use Rattle.std.proofs.lemmas.Bool.{and_parts, leb-true}
 use Rattle.std.proofs.lemmas.List.Sums.{sum_by-cons}
 use Rattle.betting_round.specs.declared.bettor.Bettor.{Bettor}
 use Rattle.betting_round.specs.declared.bettor.Player.{Player}
@@ -14,6 +14,7 @@ use Rattle.betting_round.specs.Limits.{Limits}
 use Rattle.betting_round.proofs.Steps.{street_start_is, sum_both, sum_map}
 use Rattle.betting_round.proofs.Turns.{chips-kept}
 use Rattle.std.proofs.lemmas.List.{map-append, reverse-append}
+use Rattle.rulebook.proofs.Found.{somes-made}
 use Rattle.table_engine.specs.declared.record.ActOf.{ActOf}
 use Rattle.table_engine.specs.declared.start.HandStart.{HandStart}
 use Rattle.table_engine.specs.declared.standing.Standing.{Standing}
@@ -33,13 +34,6 @@ pub dealt_on-ended : (start : HandStart) (left : ℕ) (streets : Streets) → 1 
     ≡ dealt_on start (left - 1) (with_next_street start streets)
 dealt_on-ended start zero streets some ended = absurd (omega arith)
 dealt_on-ended start (suc left) streets some ended = let one : suc left - 1 ≡ left = omega arith in rw (ended, one)
-
--- Somebody is in each slot of a table that is made of another where somebody is in that.
-pub somes-made : {A B : Type 0} (f : A → B) (slots : List (Option A))
-    → map is_some (map (option_map f) slots) ≡ map is_some slots
-somes-made f [] = refl
-somes-made f (None ∷ slots) = ap (λ rest. false ∷ rest) (somes-made f slots)
-somes-made f (Some item ∷ slots) = ap (λ rest. true ∷ rest) (somes-made f slots)
 
 -- Somebody is in each slot of a street where one began it.
 pub somes-street : (start : StreetStart) (acts : List SeatAct)
@@ -83,22 +77,17 @@ chips-parts street =
     behind-only (None ∷ players) = behind-only players
     behind-only (Some player ∷ players) = let later = behind-only players in omega arith
 
--- Four tests that hold together with a fifth hold.
-four-hold : (one two three four five : Bool) → (one && (two && (three && (four && five)))) ≡ true
-    → (one ≡ true) × (two ≡ true) × (three ≡ true) × (four ≡ true)
-four-hold false two three four five all = absurd cc
-four-hold true false three four five all = absurd cc
-four-hold true true false four five all = absurd cc
-four-hold true true true false five all = absurd cc
-four-hold true true true true five all = (refl, refl, refl, refl)
-
 -- The blinds and the unit of a lawful start.
 lawful-tests : (start : HandStart) → IsLawfulStart start
     → (nat_le 1 start.unit ≡ true) × (nat_le 1 start.small ≡ true) × (nat_le start.small start.big ≡ true) ×
     (nat_le start.big 1000000000 ≡ true)
 lawful-tests start lawful =
-    four-hold (nat_le 1 start.unit) (nat_le 1 start.small) (nat_le start.small start.big) (nat_le start.big 1000000000)
-    (start.small % start.unit == 0 && start.big % start.unit == 0) lawful.blinds
+    let unit = and_parts (nat_le 1 start.unit) _ lawful.blinds in
+    let small = and_parts (nat_le 1 start.small) _ unit.1 in
+    let order = and_parts (nat_le start.small start.big) _ small.1 in
+    let big = and_parts (nat_le start.big 1000000000)
+    (start.small % start.unit == 0 && start.big % start.unit == 0) order.1 in
+    (unit.0, small.0, order.0, big.0)
 
 -- The big blind of a lawful start is at most 1000000000 chips.
 pub lawful-big : (start : HandStart) → IsLawfulStart start → start.big ≤ 1000000000

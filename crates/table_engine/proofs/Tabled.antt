@@ -5,9 +5,9 @@ use Rattle.std.proofs.Common.{◌≡◌, ◌∙◌, ℕ, zero, suc, ◌<◌, ◌
 use Rattle.std.specs.Prelude.{Option, ◌==◌, nat_lt, slice_index_or}
 use Rattle.std.specs.List.{list_all}
 use Rattle.std.specs.Option.{is_some}
-use Rattle.std.proofs.lemmas.Bool.{and_parts, cases_lt}
-use Rattle.std.proofs.lemmas.List.{length-map}
-use Rattle.std.proofs.lemmas.List.Sums.{sum_by-cons}
+use Rattle.std.proofs.lemmas.Bool.{and_parts, cases_lt, ltb-true}
+use Rattle.std.proofs.lemmas.List.{get_or-map, length-map}
+use Rattle.std.proofs.lemmas.List.Sums.{AllPass-from_list_all, sum_by-cons}
 use Rattle.std.proofs.lemmas.Bool.Decides.{nat_tests}
 use Rattle.rulebook.specs.Pairs.{are_rising}
 use Rattle.card_set.specs.declared.card.Card.{Card}
@@ -55,16 +55,8 @@ rising-at [] one other rising before within = absurd (omega arith)
 rising-at (number ∷ numbers) one zero rising before within = absurd (omega arith)
 rising-at (number ∷ numbers) zero (suc other) rising before within =
     let parts = and_parts (list_all (nat_lt number) numbers) (are_rising numbers) rising in
-    above-at number numbers other parts.0 (omega arith)
-  where
-    above-at : (low : ℕ) (numbers : List ℕ) (index : ℕ) → list_all (nat_lt low) numbers ≡ true → index < length numbers
-        → low < slice_index_or numbers index 0
-    above-at low [] index all within = absurd (omega arith)
-    above-at low (number ∷ numbers) zero all within = let parts =
-        and_parts (nat_lt low number) (list_all (nat_lt low) numbers) all in grind (arith, nat_tests)
-    above-at low (number ∷ numbers) (suc index) all within =
-        let parts = and_parts (nat_lt low number) (list_all (nat_lt low) numbers) all in
-        above-at low numbers index parts.1 (omega arith)
+    ltb-true number (slice_index_or numbers other 0)
+    (AllPass-from_list_all (nat_lt number) numbers parts.0 other 0 (omega arith))
 rising-at (number ∷ numbers) (suc one) (suc other) rising before within =
     let parts = and_parts (list_all (nat_lt number) numbers) (are_rising numbers) rising in
     rising-at numbers one other parts.1 (omega arith) (omega arith)
@@ -72,9 +64,7 @@ rising-at (number ∷ numbers) (suc one) (suc other) rising before within =
 -- The card at an index of the cards of some places.
 card-at : (start : HandStart) (places : List ℕ) (index : ℕ) (other : Card) → index < length places
     → slice_index_or (map (card_at start) places) index other ≡ card_at start (slice_index_or places index 0)
-card-at start [] index other within = absurd (omega arith)
-card-at start (place ∷ places) zero other within = refl
-card-at start (place ∷ places) (suc index) other within = card-at start places index other (omega arith)
+card-at start places index other within = get_or-map (card_at start) places index 0 other within
 
 -- The cards at places that rise, the last of which is one of the deck's, are different cards.
 places-apart : (start : HandStart) (places : List ℕ) (last : ℕ) → IsDeck start.deck → are_rising places ≡ true

@@ -1,9 +1,10 @@
 -- Who is due in a lawful play, how its bet level moves, and how long it lasts.
 use Rattle.std.proofs.Common.{◌≡◌, ◌∙◌, ℕ, zero, suc, ◌+◌, ◌≤◌, ◌<◌, true, false, List, [], ◌∷◌, ◌++◌, length, Some, None, refl, ap, sym, inl, inr, arith}
-use Rattle.std.specs.Prelude.{Option, IsSome, is_none, nat_lt, option_and_then}
+use Rattle.std.specs.Prelude.{Option, IsSome, nat_lt, option_and_then}
 use Rattle.std.proofs.lemmas.Bool.{and_parts, cases_Bool}
 use Rattle.std.proofs.lemmas.Bool.Decides.{nat_tests}
 use Rattle.floor_text.specs.declared.refusal.Refusal.TheVariants.{NotDealt}
+use Rattle.rulebook.proofs.Found.{some-by_test}
 use Rattle.betting_round.specs.declared.act.Act.TheVariants.{Fold}
 use Rattle.betting_round.specs.declared.street.Street.{Street}
 use Rattle.betting_round.specs.StreetActs.{SeatAct, street_after}
@@ -29,11 +30,7 @@ pub due-somebody : (hand : HandTerms) → IsLawfulStart hand.start → IsLawfulP
     → IsSome (due_name hand)
 due-somebody hand lawful play open_ =
     let none = due_name-none hand (sound-play hand lawful play).there in
-    by_name (due_name hand) (none ∙ open_)
-  where
-    by_name : (name : Option (List ℕ)) → is_none name ≡ false → IsSome name
-    by_name None some = absurd cc
-    by_name (Some name) some = refl
+    some-by_test (due_name hand) (none ∙ open_)
 
 -- Who is due has a name and a seat, by which he is found.
 pub record IsDue (hand : HandTerms) (name : List ℕ) (seat : ℕ) : Type 0 where

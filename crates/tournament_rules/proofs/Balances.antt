@@ -1,15 +1,17 @@
 -- A book is valid once two tables are balanced.
-use Rattle.std.proofs.Common.{◌≡◌, ◌∙◌, refl, sym, ap, subst, ℕ, ◌+◌, ◌≤◌, Bool, true, false, ◌==◌, ◌&&◌, List, [], ◌∷◌, arith}
-use Rattle.std.specs.Prelude.{not, filter, find, nat_lt, Option, Some, None}
+use Rattle.std.proofs.Common.{◌≡◌, ◌∙◌, refl, sym, ap, subst, ℕ, ◌+◌, ◌≤◌, Bool, true, false, ◌==◌, ◌&&◌, List, arith}
+use Rattle.std.specs.Prelude.{not, nat_lt, Option, Some, None}
 use Rattle.std.specs.Option.{option_map_or}
 use Rattle.std.proofs.lemmas.Bool.{and_parts, not-true, eq-eqb, ltb-false}
-use Rattle.std.proofs.lemmas.Bool.Decides.{nat_tests}
 use Rattle.rulebook.specs.Checks.{first_that_holds}
 use Rattle.rulebook.proofs.Checks.{none_holds}
+use Rattle.rulebook.proofs.OccupiedSeats.{found-within}
+use Rattle.rulebook.proofs.Passing.{none-filter}
+use Rattle.rulebook.proofs.Sides.{others_fail}
+use Rattle.rulebook.proofs.Tests.{find-all}
 use Rattle.button_blinds.specs.declared.marks.Marks.{Marks}
 use Rattle.seat_book.specs.declared.place.Place.{Place}
 use Rattle.seat_book.specs.declared.seated.Seated.{Seated}
-use Rattle.seat_book.specs.Places.{is_place_of}
 use Rattle.seat_book.specs.Players.{sits_in, player_at, player_of}
 use Rattle.seat_book.specs.Counts.{count_at}
 use Rattle.seat_book.specs.Tables.{status_at}
@@ -20,7 +22,7 @@ use Rattle.balance_rule.specs.Balance.{next_big_seat, next_big_player, move_to, 
 use Rattle.balance_rule.specs.Moves.{is_race_pending, is_round_open}
 use Rattle.balance_rule.proofs.FreeSeats.{worst-empty, empty-nobody}
 use Rattle.balance_rule.proofs.Movers.{found-numbered, found-place}
-use Rattle.break_draw.proofs.Chosen.{found-within}
+use Rattle.break_draw.proofs.Chosen.{place-within}
 use Rattle.floor_events.specs.declared.event.Event.TheVariants.{Balance}
 use Rattle.tournament_rules.specs.Books.{BookState, has_table}
 use Rattle.tournament_rules.specs.Checks.{book_checks, book_refusal, is_table_open, is_playing}
@@ -98,23 +100,6 @@ worst-within seats is_empty None seat some is = found-within is_empty seats seat
 worst-within seats is_empty (Some marks) seat some is =
     found-within (λ other. is_empty other && not (other == marks.big)) seats seats marks.big seat some is
 
--- Nobody whom a test of a list picks that is empty passes it.
-pub not_picked : {A : Type 0} (test find_by : A → Bool) (items : List A) (found : A) → filter test items ≡ []
-    → find find_by items ≡ Some found → test found ≡ false
-not_picked {A = A} test find_by [] found none is = absurd cc
-not_picked {A = A} test find_by (item ∷ items) found none is =
-    by_tests (test item) refl (find_by item) refl none is (not_picked test find_by items found)
-  where
-    by_tests : (picked : Bool) → test item ≡ picked → (here : Bool) → find_by item ≡ here
-        → filter test (item ∷ items) ≡ [] → find find_by (item ∷ items) ≡ Some found
-        → (filter test items ≡ [] → find find_by items ≡ Some found → test found ≡ false) → test found ≡ false
-    by_tests true picks here is none found_is later = let gone = rw picks at none in absurd cc
-    by_tests false picks true is none found_is later =
-        let first : Some item ≡ Some found = rw is at found_is in
-        let same : item ≡ found = cc in
-        subst (λ (x : A). test x ≡ false) same picks
-    by_tests false picks false is none found_is later = later (rw picks at none) (rw is at found_is)
-
 -- A book is valid once two tables are balanced.
 pub valid_balanced : (book : BookState) (from to : ℕ) → IsValid book → book_refusal book (Balance from to) ≡ None
     → IsValid (balanced book from to)
@@ -150,10 +135,11 @@ valid_balanced book from to valid none = by_move (balance_move book.seating from
         let range = table_range 1 book.plan.tables to opened.0 in
         let may_move : MayMove book who.seated place = record {
           found = number;
-          rests = has_some who.seated.stack (who.seated.place.table == from) (eq-eqb who.seated.place.table from table)
-              (not_picked (is_lent from) (sits_in big) players who.seated
-              (all_rest book from valid may.rests) who.sits);
-          within = is_place to who.seat book.seating.table_count book.seating.seat_count range.0
+          rests = others_fail (who.seated.place.table == from) (who.seated.stack == 0)
+              (not-true (is_lent from who.seated) (find-all (sits_in big) (λ player. not (is_lent from player)) players
+              who.seated who.sits (none-filter (is_lent from) players (all_rest book from valid may.rests))))
+              (eq-eqb who.seated.place.table from table);
+          within = place-within book.seating.table_count book.seating.seat_count to who.seat range.0
               (let tables = valid.tables.tables in let last = range.1 in omega (arith, tables, last)) within.0 within.1;
           free = empty-nobody players to who.seat (worst-empty book.seating.seat_count (is_empty_seat players to)
               (status_at book.seating.tables to).marks who.seat who.worst);
@@ -177,14 +163,6 @@ valid_balanced book from to valid none = by_move (balance_move book.seating from
           seating = record book.seating { players = ps };
           accepted = book.accepted + 1;
         })) (sym same) after
-      where
-        has_some : (stack : ℕ) (here : Bool) → here ≡ true → (here && stack == 0) ≡ false → (stack == 0) ≡ false
-        has_some stack true at lent = lent
-        has_some stack false at lent = absurd cc
-
-        is_place : (at seat tables seats : ℕ) → 1 ≤ at → at ≤ tables → 1 ≤ seat → seat ≤ seats
-            → is_place_of tables seats (record { table = at; seat = seat }) ≡ true
-        is_place at seat tables seats first last low high = grind (arith, nat_tests)
 
     by_move : (found : Option Move) → balance_move book.seating from to ≡ found
         → IsValid (record book {

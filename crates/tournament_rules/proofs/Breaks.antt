@@ -3,12 +3,13 @@ use Rattle.std.proofs.Common.{◌≡◌, ◌∙◌, refl, sym, ap, subst, ℕ, z
 use Rattle.std.specs.Prelude.{not, filter, find, count_by, nat_lt, slice_set, is_some, is_none, option_map, Option, Some, None, IsPermutation}
 use Rattle.std.specs.List.{list_all, list_any}
 use Rattle.std.specs.Option.{option_map_or, ForSome}
-use Rattle.std.proofs.lemmas.Bool.{and_parts, and_from, or_parts, not-true, eqb-true, and_right}
+use Rattle.std.proofs.lemmas.Bool.{and_parts, or_parts, not-true, eqb-true, and_right}
 use Rattle.std.proofs.lemmas.Bool.Decides.{nat_tests}
 use Rattle.std.proofs.lemmas.List.Sorted.{sum_by-IsPermutation, list_any-IsPermutation}
 use Rattle.rulebook.specs.Pairs.{are_distinct}
 use Rattle.rulebook.proofs.Checks.{none_holds}
-use Rattle.rulebook.proofs.Tests.{count_by-cons, find-passes, none_by_count}
+use Rattle.rulebook.proofs.Passing.{count_by-none, find-filter, find-none, none-filter, none-find}
+use Rattle.rulebook.proofs.Tests.{count_by-cons, find-all, find-passes, list_all-both, list_all-follows, none_by_count}
 use Rattle.seat_book.specs.declared.place.Place.{Place}
 use Rattle.seat_book.specs.declared.seated.Seated.{Seated}
 use Rattle.seat_book.specs.declared.table_status.TableStatus.{TableStatus}
@@ -17,7 +18,6 @@ use Rattle.seat_book.specs.Players.{sits_at, sits_in, player_at, player_of, play
 use Rattle.seat_book.specs.Counts.{count_at}
 use Rattle.seat_book.specs.Tables.{fresh_status, status_at, with_status, IsStatusOf}
 use Rattle.seat_book.specs.Seatings.{Seating}
-use Rattle.seat_book.proofs.Passing.{find-none, none-find}
 use Rattle.seat_book.proofs.PlaceOrder.{same_place-itself}
 use Rattle.balance_rule.specs.declared.balance.Move.{Move}
 use Rattle.balance_rule.specs.EmptySeats.{is_empty_seat}
@@ -45,7 +45,6 @@ use Rattle.tournament_rules.proofs.Begins.{all_rest}
 use Rattle.tournament_rules.proofs.Fitting.{table_range, status_here, each_status, length-with_status}
 use Rattle.tournament_rules.proofs.KeptUnits.{keeps-set, one_unit, out_kept, units_kept}
 use Rattle.tournament_rules.proofs.Moved.{MayMove, moved, book_moved, valid_moved, all-moved, filter-moved}
-use Rattle.tournament_rules.proofs.Balances.{not_picked}
 
 -- the right fill list of a break, and its places and names in some order
 pub record IsDrawn (seating : Seating) (table : ℕ) (places : List Place) (names : List (List ℕ)) : Type 0 where
@@ -135,19 +134,14 @@ come_once (first ∷ places) apart place =
         → not (a == v && b == w) ≡ true
     another a b x y v w same apart = grind (arith, nat_tests)
 
-    none_else : (others : List Place) → is_same_place place first ≡ true
-        → list_all (λ other. not (is_same_place first other)) others ≡ true
-        → count_by (is_same_place place) others ≡ 0
-    none_else [] same apart = refl
-    none_else (other ∷ others) same apart =
-        let parts = and_parts (not (is_same_place first other))
-        (list_all (λ other. not (is_same_place first other)) others) apart in
-        let away = not-true _
-        (another place.table place.seat first.table first.seat other.table other.seat same parts.0) in
-        let one = count_by-cons (is_same_place place) other others in
-        let none = ap (λ (b : Bool). cond {A = ℕ} b 1 0) away in
-        let rest = none_else others same parts.1 in
-        omega (arith, one, none, rest)
+    none_else : is_same_place place first ≡ true
+        → list_all (λ other. not (is_same_place first other)) places ≡ true
+        → count_by (is_same_place place) places ≡ 0
+    none_else same apart =
+        count_by-none (is_same_place place) places
+        (list_all-follows (λ other. not (is_same_place first other)) (λ other. not (is_same_place place other)) places
+        (λ other differ. another place.table place.seat first.table first.seat other.table other.seat same differ)
+        apart)
 
     by_test : (b : Bool) → is_same_place place first ≡ b
         → list_all (λ other. not (is_same_place first other)) places ≡ true
@@ -156,7 +150,7 @@ come_once (first ∷ places) apart place =
         → count_by (is_same_place place) places ≤ 1 → count_by (is_same_place place) (first ∷ places) ≤ 1
     by_test true is apart one rest =
         let here = ap (λ (b : Bool). cond {A = ℕ} b 1 0) is in
-        let none = none_else places is apart in
+        let none = none_else is apart in
         omega (arith, one, here, none)
     by_test false is apart one rest =
         let here = ap (λ (b : Bool). cond {A = ℕ} b 1 0) is in
@@ -173,24 +167,6 @@ pub record MayTake (book : BookState) (table : ℕ) (places : List Place) : Type
   pub there : is_between 1 book.plan.tables table ≡ true
   pub no_race : is_race_pending book.seating ≡ false
 
--- Who is found among those that a test keeps passes that test.
-pub find-filter : {A : Type 0} (keep test : A → Bool) (items : List A) (found : A)
-    → find test (filter keep items) ≡ Some found → find (λ item. keep item && test item) items ≡ Some found
-find-filter keep test [] found is = absurd cc
-find-filter keep test (item ∷ items) found is = by_test (keep item) is (find-filter keep test items found)
-  where
-    by_test : (b : Bool) → find test (cond b (item ∷ filter keep items) (filter keep items)) ≡ Some found
-        → (find test (filter keep items) ≡ Some found → find (λ item. keep item && test item) items ≡ Some found)
-        → cond (b && test item) (Some item) (find (λ item. keep item && test item) items) ≡ Some found
-    by_test true is later = by_found (test item) is later
-      where
-        by_found : (b : Bool) → cond b (Some item) (find test (filter keep items)) ≡ Some found
-            → (find test (filter keep items) ≡ Some found → find (λ item. keep item && test item) items ≡ Some found)
-            → cond b (Some item) (find (λ item. keep item && test item) items) ≡ Some found
-        by_found true is later = is
-        by_found false is later = later is
-    by_test false is later = later is
-
 -- A place stays free while somebody takes another.
 pub still_free : (players after : List Seated) (place : Place) (places : List Place)
     → ((other : Place) → is_same_place place other ≡ false → player_at players other ≡ None → player_at after other
@@ -198,21 +174,18 @@ pub still_free : (players after : List Seated) (place : Place) (places : List Pl
     → list_all (λ other. is_empty_seat players other.table other.seat) places ≡ true
     → list_all (λ other. not (is_same_place place other)) places ≡ true
     → list_all (λ other. is_empty_seat after other.table other.seat) places ≡ true
-still_free players after place [] keeps free apart = refl
-still_free players after place (other ∷ places) keeps free apart =
-    let here = and_parts (is_empty_seat players other.table other.seat)
-    (list_all (λ other. is_empty_seat players other.table other.seat) places) free in
-    let away = and_parts (not (is_same_place place other))
-    (list_all (λ other. not (is_same_place place other)) places) apart in
-    let none = keeps other (not-true _ away.0) (empty-nobody players other.table other.seat here.0) in
-    and_from _ _ (ap is_none none) (still_free players after place places keeps here.1 away.1)
+still_free players after place places keeps free apart =
+    list_all-both (λ (other : Place). is_empty_seat players other.table other.seat)
+    (λ other. not (is_same_place place other)) (λ other. is_empty_seat after other.table other.seat) places
+    (λ other here away. ap is_none (keeps other (not-true _ away) (empty-nobody players other.table other.seat here)))
+    free apart
 
 -- Who has a name at a table is found by his number.
 pub named-found : (players : List Seated) (table : ℕ) (name : List ℕ) (player : Seated) → are_apart players ≡ true
     → find (is_called name) (players_at players table) ≡ Some player → player_of players player.player ≡ Some player
 named-found players table name player apart found =
     found-numbered (λ other. sits_at table other && is_called name other) players player apart
-    (find-filter (sits_at table) (is_called name) players player found)
+    (sym (find-filter (sits_at table) (is_called name) players) ∙ found)
 
 -- Once the player of a name took a place he has moved there.
 pub taking : (seating : Seating) (table : ℕ) (name : List ℕ) (place : Place) (player : Seated)
@@ -232,14 +205,14 @@ module _ (book : BookState) (table : ℕ) (name : List ℕ) (place : Place) (pla
   by_player player found =
       let players = book.seating.players in
       let lawful = valid.tables.lawful in
-      let there = find-filter (sits_at table) (is_called name) players player found in
+      let there = sym (find-filter (sits_at table) (is_called name) players) ∙ found in
       let number = named-found players table name player lawful.apart found in
       let sits = (and_parts (sits_at table player) (is_called name player)
       (find-passes (λ other. sits_at table other && is_called name other) players player there)).0 in
       let his_table : player.place.table ≡ table = eqb-true player.place.table table sits in
-      let lent = not_picked (is_lent table)
-      (λ other. sits_at table other && is_called name other) players player may.rest
-      there in
+      let lent = not-true (is_lent table player)
+      (find-all (λ other. sits_at table other && is_called name other) (λ other. not (is_lent table other)) players
+      player there (none-filter (is_lent table) players may.rest)) in
       let rests : (player.stack == 0) ≡ false = rw sits at lent in
       let within = and_parts (is_place_of book.seating.table_count book.seating.seat_count place)
       (list_all (is_place_of book.seating.table_count book.seating.seat_count) places) may.within in

@@ -1,14 +1,15 @@
 -- Who is found by his number is found in his place.
-use Rattle.std.proofs.Common.{◌≡◌, ◌∙◌, refl, sym, ap, subst, ℕ, Bool, true, false, List, [], ◌∷◌, arith}
-use Rattle.std.specs.Prelude.{not, Some, None}
+use Rattle.std.proofs.Common.{◌≡◌, ◌∙◌, refl, sym, ap, subst, ℕ, Bool, true, false, cond, List, [], ◌∷◌, arith}
+use Rattle.std.specs.Prelude.{not, Option, Some, None, option_map}
 use Rattle.std.specs.List.{list_all}
-use Rattle.std.proofs.lemmas.Bool.{and_parts, eqb-true}
+use Rattle.std.proofs.lemmas.Bool.{and_parts, eqb-true, not-true}
 use Rattle.std.proofs.lemmas.Bool.Decides.{nat_tests}
 use Rattle.std.proofs.lemmas.Option.{same_Some}
+use Rattle.rulebook.proofs.Passing.{map-fixed, none-find}
 use Rattle.seat_book.specs.declared.place.Place.{Place}
 use Rattle.seat_book.specs.declared.seated.Seated.{Seated}
 use Rattle.seat_book.specs.Places.{comes_before, are_rising}
-use Rattle.seat_book.specs.Players.{sits_in, is_numbered, place_of, with_stack, places_of, are_in_order, are_apart}
+use Rattle.seat_book.specs.Players.{sits_in, is_numbered, player_of, place_of, with_stack, places_of, are_in_order, are_apart}
 use Rattle.seat_book.proofs.PlaceOrder.{before-apart, before-other}
 use Rattle.table_engine.specs.declared.start.StartSeat.{StartSeat}
 use Rattle.tournament_rules.specs.Players.{with_rest, pay_one}
@@ -29,16 +30,11 @@ none_in place stack (player ∷ players) later =
 -- nobody of a list has a number that none of them has
 none_numbered : (payee : StartSeat) (players : List Seated)
     → list_all (λ other. not (is_numbered payee.player other)) players ≡ true → pay_one players payee ≡ players
-none_numbered payee [] others = refl
-none_numbered payee (player ∷ players) others =
-    let parts = and_parts (not (is_numbered payee.player player))
-    (list_all (λ other. not (is_numbered payee.player other)) players) others in
-    by_test (is_numbered payee.player player) refl parts.0 (none_numbered payee players parts.1)
-  where
-    by_test : (b : Bool) → is_numbered payee.player player ≡ b → not (is_numbered payee.player player) ≡ true
-        → pay_one players payee ≡ players → pay_one (player ∷ players) payee ≡ player ∷ players
-    by_test true is other rest = let found : false ≡ true = rw is at other in absurd cc
-    by_test false is other rest = rw is (ap (◌∷◌ player) rest)
+none_numbered payee players others =
+    map-fixed (λ (other : Seated). not (is_numbered payee.player other))
+    (λ player. cond (is_numbered payee.player player) (with_rest player payee.stack) player) players
+    (λ player differs. ap (λ (b : Bool). cond b (with_rest player payee.stack) player)
+    (not-true (is_numbered payee.player player) differs)) others
 
 -- the place of a number is later than one that comes before all places
 place_later : (place found : Place) (number : ℕ) (players : List Seated)
@@ -98,13 +94,10 @@ paid_in_place (player ∷ players) payee place ordered apart found =
 -- Where nobody has the number, nobody is paid.
 pub paid_nobody : (players : List Seated) (payee : StartSeat) → place_of players payee.player ≡ None
     → pay_one players payee ≡ players
-paid_nobody [] payee none = refl
-paid_nobody (player ∷ players) payee none =
-    by_test (is_numbered payee.player player) refl (λ (more : place_of players payee.player ≡ None). paid_nobody
-    players payee more)
+paid_nobody players payee none =
+    none_numbered payee players (none-find (is_numbered payee.player) players
+    (by_found (player_of players payee.player) none))
   where
-    by_test : (b : Bool) → is_numbered payee.player player ≡ b
-        → (place_of players payee.player ≡ None → pay_one players payee ≡ players) → pay_one (player ∷ players) payee
-        ≡ player ∷ players
-    by_test true his rest = let found : Some player.place ≡ None = rw his at none in absurd cc
-    by_test false his rest = rw his (ap (◌∷◌ player) (rest (rw his at none)))
+    by_found : (found : Option Seated) → option_map (λ (seated : Seated). seated.place) found ≡ None → found ≡ None
+    by_found None none = refl
+    by_found (Some player) none = absurd cc

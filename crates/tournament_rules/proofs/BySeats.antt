@@ -10,10 +10,12 @@ use Rattle.std.proofs.lemmas.List.{get_or-map}
 use Rattle.std.proofs.lemmas.List.Sums.{sum_by-cons, sum-map}
 use Rattle.rulebook.specs.Seats.{walk}
 use Rattle.rulebook.specs.Pairs.{is_pairwise}
+use Rattle.rulebook.proofs.Passing.{find-none}
+use Rattle.rulebook.proofs.Tests.{list_all-follows}
+use Rattle.rulebook.proofs.Walks.{get_or-walk}
 use Rattle.seat_book.specs.declared.place.Place.{Place}
 use Rattle.seat_book.specs.declared.seated.Seated.{Seated}
 use Rattle.seat_book.specs.Players.{sits_at, sits_in, player_at}
-use Rattle.seat_book.proofs.Passing.{find-none}
 use Rattle.seat_book.proofs.PlaceOrder.{before-other}
 use Rattle.seat_book.proofs.TakenSeats.{sits_in_seats}
 use Rattle.tournament_rules.specs.Racing.{stack_in, stacks_at}
@@ -99,15 +101,11 @@ walk-more (suc count) from seat more one other low high same =
 -- Nobody who comes later sits in a player's place.
 pub none_later : (player : Seated) (players : List Seated) → list_all (sits_before player) players ≡ true
     → player_at players player.place ≡ None
-none_later player players later = find-none (sits_in player.place) players (by_list players later)
-  where
-    by_list : (players : List Seated) → list_all (sits_before player) players ≡ true
-        → list_all (λ other. not (sits_in player.place other)) players ≡ true
-    by_list [] later = refl
-    by_list (other ∷ players) later =
-        let parts = and_parts (sits_before player other) (list_all (sits_before player) players) later in
-        let away = before-other player.place.table player.place.seat other.place.table other.place.seat parts.0 in
-        rw away (by_list players parts.1)
+none_later player players later =
+    find-none (sits_in player.place) players
+    (list_all-follows (sits_before player) (λ other. not (sits_in player.place other)) players
+    (λ other is. ap not
+    (before-other player.place.table player.place.seat other.place.table other.place.seat is)) later)
 
 -- What is summed over the seats of a table, of the player in each, is summed over those who sit there.
 pub seats-sum : (f : Seated → ℕ) (table : ℕ) (players : List Seated) → is_pairwise sits_before players ≡ true
@@ -169,18 +167,12 @@ seats-sum f table (player ∷ players) ordered within =
             place_is one other = λ i. record { table = one i; seat = other i }
         by_seat seat false differ = omega arith
 
-walk-at : (count from index other : ℕ) → index < count → get_or (walk suc count from) index other ≡ from + index + 1
-walk-at zero from index other within = absurd (omega (arith, within))
-walk-at (suc count) from zero other within = omega arith
-walk-at (suc count) from (suc index) other within =
-    let later = walk-at count (suc from) index other (omega (arith, within)) in omega (arith, later)
-
 -- The stack at each index is that in the seat of the next number.
 pub stacks-at : (players : List Seated) (table index : ℕ) → index < 10
     → get_or (stacks_at players table) index 0 ≡ stack_in players (record { table = table; seat = index + 1 })
 stacks-at players table index within =
     let stack : ℕ → ℕ = λ seat. stack_in players (record { table = table; seat = seat }) in
-    let number = walk-at 10 0 index 0 within in
+    let number = get_or-walk 10 0 index 0 within in
     let next : get_or ten_seats index 0 ≡ index + 1 = omega (arith, number) in
     get_or-map stack ten_seats index 0 0 within ∙ ap stack next
 

@@ -140,6 +140,12 @@ dealt-empty table waiting below (player ∷ players) empty =
         (rw his refl) in
         rw test (ap (◌∷◌ (cond (is_dealt_below table waiting (below + 1) player) (with_rest player 0) player)) more)
 
+-- A seat that the tables have is not before the first and not past the last.
+pub seat_within : (tables seats at seat : ℕ)
+    → ((nat_le 1 at && nat_le at tables) && (nat_le 1 seat && nat_le seat seats)) ≡ true
+    → (nat_le seat 0 ≡ false) × (nat_le seat seats ≡ true)
+seat_within tables seats at seat there = (grind (arith, nat_tests), grind (arith, nat_tests))
+
 -- Once all seats of the table are passed, all who do not wait are dealt in.
 pub dealt-all : (tables seats table : ℕ) (waiting : List Bool) (players : List Seated)
     → list_all (sits_within tables seats) players ≡ true → dealt_below table waiting seats players
@@ -147,14 +153,10 @@ pub dealt-all : (tables seats table : ℕ) (waiting : List Bool) (players : List
 dealt-all tables seats table waiting [] within = refl
 dealt-all tables seats table waiting (player ∷ players) within =
     let parts = and_parts (sits_within tables seats player) (list_all (sits_within tables seats) players) within in
-    let last : nat_le player.place.seat seats ≡ true = last_seat player.place.table player.place.seat parts.0 in
+    let last = (seat_within tables seats player.place.table player.place.seat parts.0).1 in
     rw (last, and-true (is_dealt_in table waiting player)) (ap
     (◌∷◌ (cond (is_dealt_in table waiting player) (with_rest player 0) player))
     (dealt-all tables seats table waiting players parts.1))
-  where
-    last_seat : (at seat : ℕ) → ((nat_le 1 at && nat_le at tables) && (nat_le 1 seat && nat_le seat seats)) ≡ true
-        → nat_le seat seats ≡ true
-    last_seat at seat there = grind (arith, nat_tests)
 
 -- Before any seat nobody is dealt in.
 pub dealt-none : (tables seats table : ℕ) (waiting : List Bool) (players : List Seated)
@@ -162,10 +164,6 @@ pub dealt-none : (tables seats table : ℕ) (waiting : List Bool) (players : Lis
 dealt-none tables seats table waiting [] within = refl
 dealt-none tables seats table waiting (player ∷ players) within =
     let parts = and_parts (sits_within tables seats player) (list_all (sits_within tables seats) players) within in
-    let first : nat_le player.place.seat 0 ≡ false = first_seat player.place.table player.place.seat parts.0 in
+    let first = (seat_within tables seats player.place.table player.place.seat parts.0).0 in
     rw (first, and-false (is_dealt_in table waiting player)) (ap (◌∷◌ player)
     (dealt-none tables seats table waiting players parts.1))
-  where
-    first_seat : (at seat : ℕ) → ((nat_le 1 at && nat_le at tables) && (nat_le 1 seat && nat_le seat seats)) ≡ true
-        → nat_le seat 0 ≡ false
-    first_seat at seat there = grind (arith, nat_tests)

@@ -3,9 +3,10 @@ use Rattle.std.proofs.Common.{◌≡◌, ◌∙◌, refl, sym, ap, ℕ, ◌+◌,
 use Rattle.std.specs.Prelude.{not, filter, sum_by}
 use Rattle.std.specs.List.{list_all}
 use Rattle.std.proofs.Math.Nat.{zero-mod}
-use Rattle.std.proofs.lemmas.Bool.{and_parts, and_from, eqb-true}
+use Rattle.std.proofs.lemmas.Bool.{and_parts, and_from, eq-eqb, eqb-true, not-true}
 use Rattle.std.proofs.lemmas.Bool.Decides.{nat_tests}
 use Rattle.std.proofs.lemmas.List.Sums.{sum_by-cons}
+use Rattle.rulebook.proofs.Passing.{filter-none, none-filter}
 use Rattle.button_blinds.specs.SeatSets.{has_seat}
 use Rattle.seat_book.specs.declared.seated.Seated.{Seated}
 use Rattle.seat_book.specs.declared.table_status.TableStatus.{TableStatus}
@@ -52,12 +53,10 @@ rest-dealt_in table waiting (player ∷ players) =
 -- Where nothing passes for a list, its first does not and none of the others do.
 pub none_first : {A : Type 0} (test : A → Bool) (first : A) (others : List A) → filter test (first ∷ others) ≡ []
     → (test first ≡ false) × (filter test others ≡ [])
-none_first test first others none = by_test (test first) refl none
-  where
-    by_test : (b : Bool) → test first ≡ b → cond b (first ∷ filter test others) (filter test others) ≡ []
-        → (test first ≡ false) × (filter test others ≡ [])
-    by_test true is none = absurd cc
-    by_test false is none = (is, none)
+none_first test first others none =
+    let parts = and_parts (not (test first)) (list_all (λ item. not (test item)) others)
+    (none-filter test (first ∷ others) none) in
+    (not-true (test first) parts.0, filter-none test others parts.1)
 
 lent-step : (table : ℕ) (waiting : List Bool) (player : Seated) (players : List Seated) (b : Bool)
     → is_dealt_in table waiting player ≡ b → is_lent table player ≡ false
@@ -100,7 +99,7 @@ lent_elsewhere-dealt_in table other waiting (player ∷ players) differ =
 
 -- Nothing is a multiple of any unit.
 pub nothing_whole : (unit : ℕ) → (0 % unit == 0) ≡ true
-nothing_whole unit = rw (zero-mod unit) refl
+nothing_whole unit = eq-eqb (0 % unit) 0 (zero-mod unit)
 
 -- Every stack at rest is a multiple of its table's unit where every one was.
 pub whole-dealt_in : (tables : List TableStatus) (table : ℕ) (waiting : List Bool) (players : List Seated)

@@ -1,10 +1,11 @@
 -- A book is valid once a hand has ended: it is settled, or it is void.
 use Rattle.std.proofs.Common.{◌≡◌, ◌∙◌, refl, sym, ap, subst, ℕ, zero, suc, ◌+◌, ◌%◌, ◌<◌, ◌≤◌, Bool, true, false, cond, ◌==◌, List, [], ◌∷◌, ◌++◌, map, length, set, ◌⊎◌, inl, inr, arith}
-use Rattle.std.specs.Prelude.{nat_lt, filter, slice_set, if◌then◌else◌, Option, Some, None}
+use Rattle.std.specs.Prelude.{not, nat_lt, filter, slice_set, if◌then◌else◌, Option, Some, None}
 use Rattle.std.specs.List.{list_all}
 use Rattle.std.specs.Option.{option_map_or, ForSome}
 use Rattle.std.proofs.lemmas.Bool.{and_parts, and_from, cases_Bool, cases_lt, eqb-true}
 use Rattle.std.proofs.lemmas.List.{get_or_past}
+use Rattle.rulebook.proofs.Passing.{filter-all, none-filter}
 use Rattle.place_list.specs.declared.bust.Bust.{Bust}
 use Rattle.seat_book.specs.declared.seated.Seated.{Seated}
 use Rattle.seat_book.specs.Players.{sits_at}
@@ -25,8 +26,7 @@ use Rattle.tournament_rules.specs.Valid.{IsValid, AreOnce, AreGrouped, is_lent, 
 use Rattle.tournament_rules.proofs.Restacked.{count_changed, entered_changed, apart_changed}
 use Rattle.tournament_rules.proofs.Paying.{numbers_of, paid-stacks, picked_numbers, ArePayees, rest-put_back, none_lent, lent_elsewhere, whole-put_back}
 use Rattle.tournament_rules.proofs.Remaining.{somebody_stays}
-use Rattle.tournament_rules.proofs.DealtIn.{none_first}
-use Rattle.tournament_rules.proofs.Stayed.{without, who_stay, all_stay, fitting_left, entered_left, none_lent-stay, lent_elsewhere-stay, count_elsewhere-stay, rest-stay, stayed-lent, with_nothing, lent_after, once_left, grouped_left}
+use Rattle.tournament_rules.proofs.Stayed.{who_stay, all_stay, fitting_left, entered_left, none_lent-stay, lent_elsewhere-stay, count_elsewhere-stay, rest-stay, stayed-lent, with_nothing, lent_after, once_left, grouped_left}
 use Rattle.tournament_rules.proofs.Fitting.{table_range, each_status, fitting_changed, table_out, out_changed, play_changed, chips_out}
 use Rattle.tournament_rules.proofs.KeptUnits.{keeps-set, out_kept, units_kept}
 
@@ -161,13 +161,6 @@ valid_closed book table start payees busts group accepted valid is back once gro
         (paid-stacks payees) book.seating.players in
         omega (arith, one, left, same)
 
--- Where nobody passes a test, all stay.
-nobody_left : {A : Type 0} (gone : A → Bool) (items : List A) → filter gone items ≡ [] → without gone items ≡ items
-nobody_left gone [] none = refl
-nobody_left gone (item ∷ items) none =
-    let parts = none_first gone item items none in
-    rw parts.0 (ap (◌∷◌ item) (nobody_left gone items parts.1))
-
 -- A book is valid once the hand at a table has ended and stacks that can be played with, of its start's sum, went back
 -- to its players.
 valid_ended : (book : BookState) (table : ℕ) (start : HandStart) (payees : List StartSeat) → IsValid book
@@ -177,7 +170,8 @@ valid_ended book table start payees valid is back above =
     let those = payees_lent book table start payees valid is back.same in
     let players = put_back payees book.seating.players in
     let none = none_lent table book.seating.players payees valid.tables.lawful.apart those above in
-    let all : left_with book table payees ≡ players = nobody_left (is_lent table) players none in
+    let all : left_with book table payees ≡ players =
+    filter-all (λ player. not (is_lent table player)) players (none-filter (is_lent table) players none) in
     let entered = entered_changed book.entries book.seating.players book.busts (paid payees) (paid-stacks payees)
     valid.entries in
     let once = subst (λ (players : List Seated). AreOnce book.entries players book.busts) (sym all) entered.once in
@@ -228,6 +222,12 @@ broke_numbers hand (player ∷ starters) =
     by_test true rest = ap (◌∷◌ player.player) rest
     by_test false rest = rest
 
+-- The group of those who go out next is this one or the next.
+pub next_or_same : (hands : Bool) (group : ℕ)
+    → (group ≤ (if hands then group else group + 1)) × ((if hands then group else group + 1) ≤ group + 1)
+next_or_same true group = (omega arith, omega arith)
+next_or_same false group = (omega arith, omega arith)
+
 -- A book is valid once a hand that is over is settled.
 pub valid_settled : (book : BookState) (hand : HandTerms) → IsValid book
     → start_at book.out hand.start.table ≡ Some hand.start → IsLawfulPlay hand → is_over hand ≡ true
@@ -259,11 +259,6 @@ valid_settled book hand valid is play over =
     (valid_closed book start.table start payees busts (next_group book) (book.accepted + 1) valid is back once
     (grouped_left book.group (next_group book) (broke_by hand) book.busts next.0 valid.busts) (omega (arith, counted))
     (let most = next.1 in omega (arith, raised, most)))
-  where
-    next_or_same : (hands : Bool) (group : ℕ)
-        → (group ≤ (if hands then group else group + 1)) × ((if hands then group else group + 1) ≤ group + 1)
-    next_or_same true group = (omega arith, omega arith)
-    next_or_same false group = (omega arith, omega arith)
 
 -- A book is valid once the hand at a table is void.
 pub valid_void_at : (book : BookState) (table : ℕ) → IsValid book → IsValid (void_at book table)

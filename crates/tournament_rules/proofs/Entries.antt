@@ -1,8 +1,8 @@
 -- A book is valid before any entry, and after each.
-use Rattle.std.proofs.Common.{◌≡◌, ◌∙◌, refl, sym, ap, ℕ, zero, suc, ◌+◌, ◌%◌, ◌<◌, ◌≤◌, ◌⊎◌, inl, inr, Bool, true, false, cond, ◌==◌, ◌&&◌, eq-eqb, List, [], ◌∷◌, ◌++◌, map, length, arith, length-append}
+use Rattle.std.proofs.Common.{◌≡◌, ◌∙◌, refl, sym, ap, ℕ, zero, suc, ◌+◌, ◌%◌, ◌<◌, ◌≤◌, ◌⊎◌, inl, inr, true, false, cond, ◌==◌, eq-eqb, List, [], ◌∷◌, ◌++◌, map, length, arith, length-append}
 use Rattle.std.specs.Prelude.{nat_lt, count_by, sum_by, replicate, slice_get, Option, Some, None, is_some}
 use Rattle.std.specs.Option.{ForSome}
-use Rattle.std.proofs.lemmas.Bool.{and_parts, and_from, cases_lt, eqb-true, leb-true, lt-ltb, ltb-false}
+use Rattle.std.proofs.lemmas.Bool.{and_parts, and_from, and_right, cases_lt, eqb-true, leb-true, lt-ltb, ltb-false, ne_eqb}
 use Rattle.std.proofs.lemmas.Bool.Decides.{nat_tests}
 use Rattle.std.proofs.lemmas.List.{get_or-replicate, get_or_past, length-replicate}
 use Rattle.std.proofs.lemmas.List.Folds.{sum_by-replicate}
@@ -222,6 +222,8 @@ valid_entered book name table seat valid none =
     let has = right_has book.plan valid.plan.right in
     let new = newcomer book name table seat in
     let behind = count_by (λ other. comes_before other.place new.place) book.seating.players in
+    let some = has.some_stack in
+    let rests = ne_eqb book.plan.stack 0 (λ nothing. omega (arith, some, nothing)) in
     record {
       plan = valid.plan;
       entries = entered-agree book.entries book.seating.players book.busts new valid.entries may.room may.new refl;
@@ -243,7 +245,7 @@ valid_entered book name table seat valid none =
         starts = valid.hands.starts;
         lent = λ number. ap (map start_seat)
             (filter-insert_no (is_lent number) book.seating.players behind new
-            (not_lent (table == number) book.plan.stack has.some_stack)) ∙ valid.hands.lent number;
+            (and_right (table == number) (book.plan.stack == 0) rests)) ∙ valid.hands.lent number;
       };
       chips = simp (length-append, sum_by-insert) (omega (arith, valid.chips));
       units = record {
@@ -280,6 +282,3 @@ valid_entered book name table seat valid none =
         by_race None none = ap (λ (unit : ℕ). stack % unit) (is.own none) ∙ whole
         by_race (Some new) at = whole_times stack status.unit new (next_times status.unit new (is.from new at).next)
             (ap (λ (unit : ℕ). stack % unit) (is.new new at) ∙ whole)
-
-    not_lent : (here : Bool) (stack : ℕ) → 1 ≤ stack → (here && stack == 0) ≡ false
-    not_lent here stack some = grind (arith, nat_tests)

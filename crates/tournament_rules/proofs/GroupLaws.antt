@@ -1,16 +1,17 @@
 -- No group has players of two rounds.
-use Rattle.std.proofs.Common.{◌≡◌, ◌∙◌, refl, sym, ap, subst, ℕ, ◌+◌, ◌<◌, ◌≤◌, Bool, true, false, List, [], ◌∷◌, ◌++◌, map, length, drop, arith}
+use Rattle.std.proofs.Common.{◌≡◌, ◌∙◌, refl, sym, ap, subst, ℕ, ◌+◌, ◌<◌, ◌≤◌, Bool, true, false, List, [], ◌∷◌, ◌++◌, map, length, drop, get_or, arith}
 use Rattle.std.specs.Prelude.{nat_le, if◌then◌else◌, Option, Some, None, option_map}
 use Rattle.std.specs.List.{list_all, All}
 use Rattle.std.specs.Option.{option_map_or}
 use Rattle.std.proofs.Math.Seq.{drop-append_seam}
-use Rattle.std.proofs.lemmas.Bool.{and_parts, and_from}
+use Rattle.std.proofs.lemmas.Bool.{and_parts, and_from, le-leb, leb-true}
 use Rattle.std.proofs.lemmas.Bool.Decides.{nat_tests}
 use Rattle.std.proofs.lemmas.Option.{same_Some}
 use Rattle.std.proofs.lemmas.List.{append-nil, append_assoc}
 use Rattle.std.proofs.lemmas.List.Folds.{list_all-append}
-use Rattle.std.proofs.lemmas.List.Elements.{All-nil, All-cons}
-use Rattle.rulebook.proofs.Tests.{some_there}
+use Rattle.std.proofs.lemmas.List.Elements.{All-weaker}
+use Rattle.std.proofs.lemmas.List.Sums.{AllPass-from_list_all}
+use Rattle.rulebook.proofs.Tests.{list_all-follows, some_there}
 use Rattle.place_list.specs.declared.bust.Bust.{Bust}
 use Rattle.table_engine.specs.declared.start.HandStart.{HandStart}
 use Rattle.table_engine.specs.Hands.{HandTerms}
@@ -22,7 +23,7 @@ use Rattle.tournament_rules.specs.Effects.{bust_of, broke_by, settled, book_effe
 use Rattle.tournament_rules.specs.Kinds.{ends_round, is_any_accepted}
 use Rattle.tournament_rules.specs.States.{State, PlayState, acts_at, hand_at, hand_of, refusal_of, answer_to, is_accepted, play_effect, state_after, run}
 use Rattle.tournament_rules.specs.Valid.{IsValidPlay}
-use Rattle.tournament_rules.proofs.Ends.{left-void_first}
+use Rattle.tournament_rules.proofs.Ends.{next_or_same, left-void_first}
 use Rattle.tournament_rules.proofs.Kept.{hands_kept, is_turn, run_keeps}
 use Rattle.tournament_rules.proofs.MoveLaws.{not_refused}
 use Rattle.tournament_rules.proofs.Passed.{passed-parts, settle_passed}
@@ -48,13 +49,9 @@ grows_none earlier later same group = record {
 
 no_earlier : (one other : ℕ) → one ≤ other → (busts : List Bust)
     → list_all (λ bust. nat_le other bust.group) busts ≡ true → list_all (λ bust. nat_le one bust.group) busts ≡ true
-no_earlier one other most [] all = refl
-no_earlier one other most (bust ∷ busts) all =
-    let parts = and_parts (nat_le other bust.group) (list_all (λ bust. nat_le other bust.group) busts) all in
-    and_from _ _ (still one other bust.group most parts.0) (no_earlier one other most busts parts.1)
-  where
-    still : (one other group : ℕ) → one ≤ other → nat_le other group ≡ true → nat_le one group ≡ true
-    still one other group most is = grind (arith, nat_tests)
+no_earlier one other most busts all =
+    list_all-follows (λ (bust : Bust). nat_le other bust.group) (λ bust. nat_le one bust.group) busts
+    (λ bust is. le-leb one bust.group (omega (arith, leb-true other bust.group is))) all
 
 grows_twice : (one two three : BookState) → Grows one two → Grows two three → Grows one three
 grows_twice one two three first second = record {
@@ -70,23 +67,15 @@ grows_twice one two three first second = record {
 effect_grows : (book : BookState) (hand : Option HandTerms) (event : Event) → Grows book (book_effect book hand event)
 effect_grows book hand (events.Settle table) = by_hand hand
   where
-    later_group : (hands : Bool) (group : ℕ) → group ≤ (if hands then group else group + 1)
-    later_group true group = omega arith
-    later_group false group = omega arith
-
     by_hand : (hand : Option HandTerms) → Grows book (option_map_or (settled book) hand book)
     by_hand None = grows_none book book refl (omega arith)
     by_hand (Some hand) = record {
       more = map (bust_of book.group) (broke_by hand);
       is = refl;
       least = all_in_group (λ other. nat_le book.group other) book.group (broke_by hand) (same_group book.group);
-      group = later_group book.seating.hands book.group;
+      group = (next_or_same book.seating.hands book.group).0;
     }
-effect_grows book hand (events.Hands on) = grows_none book _ refl (by_switch on)
-  where
-    by_switch : (on : Bool) → book.group ≤ (if on then book.group else book.group + 1)
-    by_switch true = omega arith
-    by_switch false = omega arith
+effect_grows book hand (events.Hands on) = grows_none book _ refl (next_or_same on book.group).0
 effect_grows book hand events.Round = grows_none book _ refl (omega arith)
 effect_grows book hand events.Stop = grows_none book _
     (left-void_first (λ book. book.busts) (record { same = λ book table payees. refl }) book book.plan.tables)
@@ -137,10 +126,8 @@ round_kept group play event kind free is =
 -- What a test tells of all of a list.
 all_so : (P : Bust → Type 0) (test : Bust → Bool) → ((bust : Bust) → test bust ≡ true → P bust) → (busts : List Bust)
     → list_all test busts ≡ true → All P busts
-all_so P test so [] all = All-nil P
-all_so P test so (bust ∷ busts) all =
-    let parts = and_parts (test bust) (list_all test busts) all in
-    All-cons P bust busts (so bust parts.0) (all_so P test so busts parts.1)
+all_so P test so busts all =
+    All-weaker (λ (bust : Bust). test bust ≡ true) P so busts (AllPass-from_list_all test busts all)
 
 -- those who went out between two moments
 abbrev out_between : BookState → BookState → List Bust
@@ -173,12 +160,9 @@ one_group state during play later at after valid on none =
     by_list : (busts : List Bust) → list_all (λ bust. nat_le play.book.group bust.group) busts ≡ true
         → list_all (λ bust. nat_le bust.group play.book.group) busts ≡ true
         → All (λ bust. bust.group ≡ play.book.group) busts
-    by_list [] least most = All-nil _
-    by_list (bust ∷ busts) least most =
-        let low = and_parts (nat_le play.book.group bust.group) _ least in
-        let high = and_parts (nat_le bust.group play.book.group) _ most in
-        All-cons (λ (bust : Bust). bust.group ≡ play.book.group) bust busts
-        (same bust.group play.book.group low.0 high.0) (by_list busts low.1 high.1)
+    by_list busts least most = λ k d within. same (get_or busts k d).group play.book.group
+        (AllPass-from_list_all (λ (bust : Bust). nat_le play.book.group bust.group) busts least k d within)
+        (AllPass-from_list_all (λ (bust : Bust). nat_le bust.group play.book.group) busts most k d within)
 
 -- Who goes out once the group has risen is in a later group than all who were out.
 groups_apart : (group : ℕ) (mid later : BookState) → list_all (λ bust. nat_le bust.group group) mid.busts ≡ true

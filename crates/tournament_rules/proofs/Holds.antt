@@ -1,12 +1,11 @@
 -- What the parts of a valid book say of its players and hands.
-use Rattle.std.proofs.Common.{◌≡◌, ◌∙◌, refl, sym, ap, subst, ℕ, ◌+◌, ◌%◌, ◌<◌, Bool, true, false, cond, ◌==◌, ◌&&◌, eq-eqb, List, [], ◌∷◌, map, length, arith}
+use Rattle.std.proofs.Common.{◌≡◌, ◌∙◌, refl, sym, ap, ℕ, ◌+◌, ◌%◌, ◌<◌, Bool, true, false, cond, ◌==◌, ◌&&◌, eq-eqb, List, [], ◌∷◌, map, length, arith}
 use Rattle.std.specs.Prelude.{filter, count_by, Option, Some, None, option_map}
-use Rattle.std.specs.List.{list_all, All}
+use Rattle.std.specs.List.{All}
 use Rattle.std.specs.Option.{option_map_or, ForSome}
-use Rattle.std.proofs.lemmas.Bool.{and_parts, eqb-true}
-use Rattle.std.proofs.lemmas.Bool.Decides.{nat_tests}
-use Rattle.std.proofs.lemmas.Option.{same_Some}
-use Rattle.std.proofs.lemmas.List.Elements.{All-head, All-tail, All-nil, All-cons, All-weaker}
+use Rattle.std.proofs.lemmas.Bool.{eqb-false, eqb-true}
+use Rattle.std.proofs.lemmas.List.Elements.{All-head, All-tail, All-weaker}
+use Rattle.std.proofs.lemmas.List.Sums.{AllPass-from_list_all}
 use Rattle.seat_book.specs.declared.seated.Seated.{Seated}
 use Rattle.seat_book.specs.Players.{sits_at, is_numbered, are_in_order}
 use Rattle.seat_book.specs.Tables.{status_at}
@@ -21,9 +20,10 @@ use Rattle.floor_events.specs.declared.answer.Answer.TheVariants.{Ok}
 use Rattle.floor_events.specs.declared.event.Event.TheVariants.{Begin}
 use Rattle.tournament_rules.specs.Dealing.{next_start}
 use Rattle.tournament_rules.specs.States.{State, PlayState, acts_at, hand_at, refusal_of, answered, answer_to, is_accepted}
-use Rattle.tournament_rules.specs.Units.{is_whole_at, AreWhole}
+use Rattle.tournament_rules.specs.Units.{is_whole_at}
 use Rattle.tournament_rules.specs.Valid.{IsValid, IsValidPlay, IsStartAt, is_bust_of, is_lent, without_stack}
 use Rattle.tournament_rules.proofs.Passed.{passed-parts}
+use Rattle.tournament_rules.proofs.Plays.{some_so}
 use Rattle.tournament_rules.proofs.Steps.{accepted_none}
 use Rattle.tournament_rules.proofs.Begins.{start_is_lawful}
 use Rattle.tournament_rules.proofs.Members.{in_hand-lent}
@@ -34,17 +34,20 @@ pub in_or_out : (book : BookState) → IsValid book → (number : ℕ) → numbe
     → count_by (is_numbered number) book.seating.players + count_by (is_bust_of number) book.busts ≡ 1
 in_or_out book valid number within = valid.entries.once number ∙ one_owed number (length book.entries) within
 
+-- who sits at a table is lent there where he has nothing at rest
+lent_here : (table stack : ℕ) → (table == table && stack == 0) ≡ (stack == 0)
+lent_here table stack = rw (eq-eqb table table refl) refl
+
 -- Who is in no hand has a stack above 0.
 pub stacks_above : (book : BookState) → IsValid book
     → All (λ player. is_in_hand book.out player ≡ false → 0 < player.stack) book.seating.players
 stacks_above book valid =
     All-weaker (λ player. is_in_hand book.out player ≡ is_lent player.place.table player)
     (λ player. is_in_hand book.out player ≡ false → 0 < player.stack)
-    (λ player same out. above player.place.table player.stack (sym same ∙ out)) book.seating.players
+    (λ player same out.
+    let some = eqb-false player.stack 0 (sym (lent_here player.place.table player.stack) ∙ (sym same ∙ out)) in
+    omega (arith, some)) book.seating.players
     (in_hand-lent book valid)
-  where
-    above : (table stack : ℕ) → (table == table && stack == 0) ≡ false → 0 < stack
-    above table stack lent = grind (arith, nat_tests)
 
 -- a player's stack is a multiple of the unit of his table
 abbrev IsWhole : BookState → Seated → Type 0
@@ -52,19 +55,11 @@ IsWhole book player = player.stack % (status_at book.seating.tables player.place
 
 -- Each stack at rest is a multiple of the unit of its player's table.
 pub stacks_whole : (book : BookState) → IsValid book → All (IsWhole book) book.seating.players
-stacks_whole book valid = by_players book.seating.players valid.units.whole
-  where
-    by_players : (players : List Seated) → AreWhole book.seating.tables players → All (IsWhole book) players
-    by_players [] whole = All-nil (IsWhole book)
-    by_players (player ∷ players) whole =
-        let parts = and_parts (is_whole_at book.seating.tables player) (list_all
-        (is_whole_at book.seating.tables) players)
-        whole in
-        let his = eqb-true (player.stack % (status_at book.seating.tables player.place.table).unit) 0 parts.0 in
-        All-cons (IsWhole book) player players his (by_players players parts.1)
-
-lent_here : (table stack : ℕ) → (table == table && stack == 0) ≡ (stack == 0)
-lent_here table stack = rw (eq-eqb table table refl) refl
+stacks_whole book valid =
+    All-weaker (λ player. is_whole_at book.seating.tables player ≡ true) (IsWhole book)
+    (λ player is. eqb-true (player.stack % (status_at book.seating.tables player.place.table).unit) 0 is)
+    book.seating.players
+    (AllPass-from_list_all (is_whole_at book.seating.tables) book.seating.players valid.units.whole)
 
 -- The players of a table who are in a hand are those who have nothing at rest there.
 in_hand-picked : (out : List (Option HandStart)) (table : ℕ) (players : List Seated)
@@ -116,9 +111,9 @@ hand_started play valid table = by_start (start_at play.book.out table) (valid.b
         → ForSome {T = HandTerms} (option_map (λ start. record { start = start; acts = acts_at play.acts table }) start)
         (λ hand. IsLawfulStart hand.start)
     by_start None lawful = λ hand is. absurd cc
-    by_start (Some start) lawful = λ hand is.
-        let same = same_Some (record { start = start; acts = acts_at play.acts table }) hand is in
-        subst (λ (hand : HandTerms). IsLawfulStart hand.start) same (lawful start refl).lawful
+    by_start (Some start) lawful =
+        some_so (λ (hand : HandTerms). IsLawfulStart hand.start)
+        (record { start = start; acts = acts_at play.acts table }) (lawful start refl).lawful
 
 -- A hand that may begin starts lawfully.
 pub start_lawful : (state : State) (play : PlayState) (table : ℕ) (row : CardRow) → state.play ≡ Some play

@@ -1,10 +1,10 @@
 -- What holds of a list with one more item.
-use Rattle.std.proofs.Common.{◌≡◌, ◌∙◌, refl, ap, ℕ, Bool, true, false, List, [], ◌∷◌, ◌++◌, map, take, drop}
+use Rattle.std.proofs.Common.{◌≡◌, ◌∙◌, refl, ap, ℕ, Bool, true, false, List, [], ◌∷◌, ◌++◌, take, drop}
 use Rattle.std.specs.Prelude.{filter, insert}
 use Rattle.std.specs.List.{list_all, All}
 use Rattle.std.proofs.lemmas.Bool.{and_from}
 use Rattle.std.proofs.lemmas.List.{take-append-drop}
-use Rattle.std.proofs.lemmas.List.Folds.{list_all-append, list_all-map}
+use Rattle.std.proofs.lemmas.List.Folds.{list_all-append}
 use Rattle.std.proofs.lemmas.List.Elements.{All-append, All-cons, All-take, All-drop}
 use Rattle.rulebook.specs.Pairs.{is_pairwise}
 use Rattle.rulebook.proofs.Pairs.{is_pairwise-between}
@@ -33,13 +33,6 @@ filter-insert_no test items place item fails = by_parts (take place items) (drop
     by_parts : (front back : List _) → filter test (front ++ item ∷ back) ≡ filter test (front ++ back)
     by_parts [] back = rw fails refl
     by_parts (first ∷ front) back = rw (by_parts front back) refl
-
--- Each item of a list passes a test with each later one, also of the items' keys.
-pub is_pairwise-map : {A B : Type 0} (test : B → B → Bool) (key : A → B) (items : List A)
-    → is_pairwise test (map key items) ≡ is_pairwise (λ one other. test (key one) (key other)) items
-is_pairwise-map test key [] = refl
-is_pairwise-map test key (item ∷ items) = rw
-    (list_all-map (test (key item)) key items, is_pairwise-map test key items) refl
 
 -- Each item passes a test with each later one, also with one more that passes it with all both ways.
 pub is_pairwise-insert : {A : Type 0} (test : A → A → Bool) (items : List A) (place : ℕ) (item : A)

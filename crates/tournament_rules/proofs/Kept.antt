@@ -4,6 +4,7 @@ use Rattle.std.specs.Prelude.{nat_lt, slice_set, if◌then◌else◌, Option, So
 use Rattle.std.specs.Option.{option_map_or}
 use Rattle.std.proofs.lemmas.Bool.{or_parts}
 use Rattle.std.proofs.lemmas.Option.{same_Some}
+use Rattle.rulebook.proofs.Sides.{first_fails}
 use Rattle.button_blinds.specs.declared.marks.Marks.{Marks}
 use Rattle.level_plan.specs.Plans.{unit_of_level}
 use Rattle.seat_book.specs.declared.place.Place.{Place}
@@ -201,11 +202,6 @@ run_keeps P test keeps state (event ∷ events) play later at after none is =
     (state_after state event) events)
     none).1 so)
   where
-    not_picked : (b c : Bool) → c ≡ true → (b && c) ≡ false → b ≡ false
-    not_picked true true taken none = none
-    not_picked true false taken none = absurd cc
-    not_picked false c taken none = refl
-
     by_answer : (taken : Bool) → is_accepted (answer_to state event) ≡ taken
         → ((test event && is_accepted (answer_to state event)) ≡ false)
         × (is_any_accepted test (state_after state event) events ≡ false)
@@ -214,7 +210,7 @@ run_keeps P test keeps state (event ∷ events) play later at after none is =
         let next : (state_after state event).play ≡ Some (play_effect play event) = rw (taken, at) refl in
         let here : is_accepted (answered (refusal_of play event)) ≡ true = rw at at taken in
         rest (play_effect play event) next
-        (keeps play event (not_picked (test event) (is_accepted (answer_to state event)) taken parts.0)
+        (keeps play event (first_fails (test event) (is_accepted (answer_to state event)) parts.0 taken)
         (accepted_none (refusal_of play event) here) is)
     by_answer false taken parts rest =
         let next : (state_after state event).play ≡ Some play = rw taken at in rest play next is

@@ -1,11 +1,12 @@
 -- What stays of units where no table's unit changes, and no pending race.
-use Rattle.std.proofs.Common.{◌≡◌, ◌∙◌, refl, sym, ap, subst, ℕ, zero, suc, ◌%◌, ◌≤◌, Bool, true, false, ◌==◌, cond, List, [], ◌∷◌, length, get_or, arith}
+use Rattle.std.proofs.Common.{◌≡◌, ◌∙◌, refl, sym, ap, subst, ℕ, zero, suc, ◌%◌, ◌≤◌, true, false, ◌==◌, cond, List, [], ◌∷◌, length, get_or, arith}
 use Rattle.std.specs.Prelude.{not, count_by, Option, None, is_some}
 use Rattle.std.specs.List.{list_any}
 use Rattle.std.specs.Option.{ForSome}
-use Rattle.std.proofs.lemmas.Bool.{and_parts, and_from, or_parts}
+use Rattle.std.proofs.lemmas.Bool.{or_parts}
 use Rattle.std.proofs.lemmas.List.Sums.{sum_by-set}
 use Rattle.rulebook.proofs.Found.{none-by_test}
+use Rattle.rulebook.proofs.Tests.{list_all-follows}
 use Rattle.level_plan.specs.Items.{is_between}
 use Rattle.level_plan.specs.Plans.{PlanTerms, unit_of_level}
 use Rattle.seat_book.specs.declared.seated.Seated.{Seated}
@@ -13,7 +14,7 @@ use Rattle.seat_book.specs.declared.table_status.TableStatus.{TableStatus}
 use Rattle.seat_book.specs.Tables.{fresh_status, status_at, with_status}
 use Rattle.table_engine.specs.declared.start.HandStart.{HandStart}
 use Rattle.tournament_rules.specs.Books.{start_at}
-use Rattle.tournament_rules.specs.Units.{IsRaceTo, IsUnitOf, AreWhole, AreDue, AreUnits, is_due}
+use Rattle.tournament_rules.specs.Units.{IsRaceTo, IsUnitOf, is_whole_at, AreWhole, AreDue, AreUnits, is_due}
 use Rattle.tournament_rules.specs.Valid.{IsStartAt, AreOut}
 use Rattle.tournament_rules.proofs.Fitting.{each_status}
 
@@ -57,11 +58,9 @@ unit_alike unit before after same race is = record {
 pub whole_alike : (before after : List TableStatus) (players : List Seated)
     → ((table : ℕ) → (status_at after table).unit ≡ (status_at before table).unit) → AreWhole before players
     → AreWhole after players
-whole_alike before after [] same whole = refl
-whole_alike before after (player ∷ players) same whole =
-    let test : ℕ → Bool = λ unit. player.stack % unit == 0 in
-    let parts = and_parts (test (status_at before player.place.table).unit) _ whole in
-    and_from _ _ (ap test (same player.place.table) ∙ parts.0) (whole_alike before after players same parts.1)
+whole_alike before after players same whole =
+    list_all-follows (is_whole_at before) (is_whole_at after) players
+    (λ player is. ap (λ (unit : ℕ). player.stack % unit == 0) (same player.place.table) ∙ is) whole
 
 -- Units are lawful where each table has the unit and the race that it had.
 pub units_kept : (plan : PlanTerms) (level added : ℕ) (before after : List TableStatus) (players later : List Seated)

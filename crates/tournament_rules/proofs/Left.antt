@@ -1,12 +1,14 @@
 -- Nobody sits at a table once it broke.
-use Rattle.std.proofs.Common.{◌≡◌, refl, ap, ℕ, ◌+◌, Bool, true, false, cond, ◌==◌, ◌&&◌, List, [], ◌∷◌, map, length, arith}
+use Rattle.std.proofs.Common.{◌≡◌, ◌∙◌, refl, sym, ap, ℕ, ◌+◌, Bool, true, false, cond, ◌==◌, ◌&&◌, List, [], ◌∷◌, map, length, arith}
 use Rattle.std.specs.Prelude.{not, find, count_by, nat_lt, Option, Some, None}
 use Rattle.std.specs.List.{list_all}
 use Rattle.std.specs.Str.{bytes_eq}
-use Rattle.std.proofs.lemmas.Bool.{and_parts, and_from, not-true}
+use Rattle.std.proofs.lemmas.Bool.{and_parts, not-true}
 use Rattle.std.proofs.lemmas.List.Sorted.{sum_by-IsPermutation, length_permutation}
+use Rattle.std.proofs.lemmas.List.Sums.{length-filter}
 use Rattle.std.proofs.lemmas.Slice.Eq.{bytes_eq-Decides}
-use Rattle.rulebook.proofs.Tests.{count_by-cons, find-passes}
+use Rattle.rulebook.proofs.Passing.{count_by-none, filter-filter, find-filter, none-find}
+use Rattle.rulebook.proofs.Tests.{count_by-cons, find-passes, list_all-follows, sum_by-map}
 use Rattle.seat_book.specs.declared.place.Place.{Place}
 use Rattle.seat_book.specs.declared.seated.Seated.{Seated}
 use Rattle.seat_book.specs.Players.{sits_at, players_at}
@@ -22,7 +24,7 @@ use Rattle.tournament_rules.specs.Effects.{broken}
 use Rattle.tournament_rules.specs.Moving.{is_called, after_taking, after_all}
 use Rattle.tournament_rules.specs.Valid.{IsValid}
 use Rattle.tournament_rules.proofs.Moved.{sum-moved}
-use Rattle.tournament_rules.proofs.Breaks.{MayBreak, MayTake, all-permuted, find-filter, named-found, taking, taken, taken_book, bare_book, may_take, valid_forgotten}
+use Rattle.tournament_rules.proofs.Breaks.{MayBreak, MayTake, all-permuted, named-found, taking, taken, taken_book, bare_book, may_take, valid_forgotten}
 
 -- Whether a player of this name sits at a table.
 abbrev has_name_at : ℕ → List ℕ → Seated → Bool
@@ -32,25 +34,12 @@ has_name_at table name player = sits_at table player && bytes_eq name player.nam
 names-counted : (table : ℕ) (name : List ℕ) (players : List Seated)
     → count_by (bytes_eq name) (map (λ seated. seated.name) (players_at players table))
     ≡ count_by (has_name_at table name) players
-names-counted table name [] = refl
-names-counted table name (player ∷ players) = by_test (sits_at table player) refl (names-counted table name players)
-  where
-    by_test : (b : Bool) → sits_at table player ≡ b
-        → count_by (bytes_eq name) (map (λ seated. seated.name) (players_at players table))
-        ≡ count_by (has_name_at table name) players
-        → count_by (bytes_eq name) (map (λ (seated : Seated). seated.name)
-        (cond b (player ∷ players_at players table) (players_at players table)))
-        ≡ count_by (has_name_at table name) (player ∷ players)
-    by_test true is rest =
-        let one = count_by-cons (has_name_at table name) player players in
-        let other = count_by-cons (bytes_eq name) player.name (map (λ (seated : Seated). seated.name)
-        (players_at players table)) in
-        let here = ap (λ (b : Bool). cond {A = ℕ} (b && bytes_eq name player.name) 1 0) is in
-        omega (arith, one, other, here, rest)
-    by_test false is rest =
-        let one = count_by-cons (has_name_at table name) player players in
-        let here = ap (λ (b : Bool). cond {A = ℕ} (b && bytes_eq name player.name) 1 0) is in
-        omega (arith, one, here, rest)
+names-counted table name players =
+    sum_by-map (λ (other : List ℕ). cond {A = ℕ} (bytes_eq name other) 1 0) (λ (seated : Seated). seated.name)
+    (players_at players table)
+    ∙ sym (length-filter (λ (seated : Seated). bytes_eq name seated.name) (players_at players table))
+    ∙ ap length (filter-filter (sits_at table) (λ seated. bytes_eq name seated.name) players)
+    ∙ length-filter (has_name_at table name) players
 
 same_name : (name : List ℕ) → bytes_eq name name ≡ true
 same_name name = (bytes_eq-Decides name name).1 refl
@@ -84,41 +73,18 @@ nobody_named table (player ∷ players) none =
 -- A name that comes among those of a table is found there.
 name_found : (table : ℕ) (name : List ℕ) (players : List Seated)
     → find (is_called name) (players_at players table) ≡ None → count_by (has_name_at table name) players ≡ 0
-name_found table name [] none = refl
-name_found table name (player ∷ players) none =
-    by_test (sits_at table player) refl none (name_found table name players)
+name_found table name players none =
+    count_by-none (has_name_at table name) players
+    (list_all-follows (λ (player : Seated). not (sits_at table player && is_called name player))
+    (λ player. not (has_name_at table name player)) players
+    (λ player fails. not_named (sits_at table player) player.name fails)
+    (none-find (λ player. sits_at table player && is_called name player) players
+    (sym (find-filter (sits_at table) (is_called name) players) ∙ none)))
   where
-    one : count_by (has_name_at table name) (player ∷ players)
-        ≡ cond (has_name_at table name player) 1 0 + count_by (has_name_at table name) players
-    one = count_by-cons (has_name_at table name) player players
-
-    by_name : (b : Bool) → is_called name player ≡ b
-        → cond b (Some player) (find (is_called name) (players_at players table)) ≡ None
-        → (find (is_called name) (players_at players table) ≡ None → count_by (has_name_at table name) players ≡ 0)
-        → sits_at table player ≡ true → count_by (has_name_at table name) (player ∷ players) ≡ 0
-    by_name true is none rest sits = absurd cc
-    by_name false is none rest sits =
-        let here = ap (λ (b : Bool). cond {A = ℕ} (sits_at table player && b) 1 0)
-        (other_way player.name name is) in
-        let off = no_one (sits_at table player) in
-        let all = one in
-        let zero = rest none in
-        omega (arith, here, off, all, zero)
-      where
-        no_one : (b : Bool) → cond {A = ℕ} (b && false) 1 0 ≡ 0
-        no_one true = refl
-        no_one false = refl
-
-    by_test : (b : Bool) → sits_at table player ≡ b
-        → find (is_called name) (cond b (player ∷ players_at players table) (players_at players table)) ≡ None
-        → (find (is_called name) (players_at players table) ≡ None → count_by (has_name_at table name) players ≡ 0)
-        → count_by (has_name_at table name) (player ∷ players) ≡ 0
-    by_test true is none rest = by_name (is_called name player) refl none rest is
-    by_test false is none rest =
-        let here = ap (λ (b : Bool). cond {A = ℕ} (b && bytes_eq name player.name) 1 0) is in
-        let all = one in
-        let zero = rest none in
-        omega (arith, here, all, zero)
+    not_named : (sits : Bool) (other : List ℕ) → not (sits && bytes_eq other name) ≡ true
+        → not (sits && bytes_eq name other) ≡ true
+    not_named true other fails = ap not (other_way other name (not-true (bytes_eq other name) fails))
+    not_named false other fails = refl
 
 -- Nobody sits at a table once its players took places at other tables.
 left_all : (book : BookState) (table : ℕ) (names : List (List ℕ)) (places : List Place) → IsValid book
@@ -151,7 +117,7 @@ left_all book table (name ∷ names) (place ∷ places) valid may away many alik
         let apart = valid.tables.lawful.apart in
         let after = taken book table name place places valid may in
         let moves = taking book.seating table name place player apart is in
-        let there = find-filter (sits_at table) (is_called name) players player is in
+        let there = sym (find-filter (sits_at table) (is_called name) players) ∙ is in
         let parts = and_parts (sits_at table player) (is_called name player)
         (find-passes (λ other. sits_at table other && is_called name other) players player there) in
         let named : player.name ≡ name = (bytes_eq-Decides player.name name).0 parts.1 in
@@ -183,20 +149,13 @@ broken_left book table places names valid may =
     left_all (bare_book book table) table names places (valid_forgotten book table valid opened.0)
     (may_take book table places names valid may)
     (all-permuted (λ (place : Place). not (place.table == table)) fill places right.places
-    (elsewhere fill (chosen-elsewhere book.seating table there fill may.drawn.is)))
+    (list_all-follows (λ (place : Place). is_other_open book.seating table place.table)
+    (λ place. not (place.table == table)) fill
+    (λ place is. (and_parts (nat_lt 0 (count_at book.seating.players place.table)) (not (place.table == table)) is).1)
+    (chosen-elsewhere book.seating table there fill may.drawn.is)))
     (omega (arith, many, few, all, sit))
     (λ name.
     let same = sum_by-IsPermutation (λ (other : List ℕ). cond {A = ℕ} (bytes_eq name other) 1 0)
     (names_at book.seating table) names right.players in
     let counted = names-counted table name book.seating.players in
     omega (arith, same, counted))
-  where
-    elsewhere : (places : List Place) → list_all (λ place. is_other_open book.seating table place.table) places ≡ true
-        → list_all (λ place. not (place.table == table)) places ≡ true
-    elsewhere [] all = refl
-    elsewhere (place ∷ places) all =
-        let parts = and_parts (is_other_open book.seating table place.table)
-        (list_all (λ place. is_other_open book.seating table place.table) places) all in
-        let his = and_parts (nat_lt 0 (count_at book.seating.players place.table)) (not
-        (place.table == table)) parts.0 in
-        and_from _ _ his.1 (elsewhere places parts.1)

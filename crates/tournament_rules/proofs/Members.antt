@@ -1,11 +1,12 @@
 -- Who of the players is one of those with whom a hand started.
-use Rattle.std.proofs.Common.{◌≡◌, ◌∙◌, refl, sym, ap, ℕ, Bool, true, false, cond, ◌==◌, ◌||◌, List, [], ◌∷◌, map, get_or}
+use Rattle.std.proofs.Common.{◌≡◌, ◌∙◌, refl, sym, ap, ℕ, Bool, true, false, cond, ◌==◌, List, [], ◌∷◌, map, get_or}
 use Rattle.std.specs.Prelude.{not, filter}
 use Rattle.std.specs.List.{list_all, list_any, All}
 use Rattle.std.proofs.lemmas.Bool.{and_parts, or_left, not-true, eq-eqb}
 use Rattle.std.proofs.lemmas.List.Sums.{AllPass-from_list_all}
 use Rattle.std.proofs.lemmas.List.Elements.{All-nil, All-cons}
-use Rattle.rulebook.proofs.Tests.{eqb-swap}
+use Rattle.rulebook.proofs.Passing.{list_any-none}
+use Rattle.rulebook.proofs.Tests.{eqb-swap, list_all-kept, list_any-made}
 use Rattle.seat_book.specs.declared.seated.Seated.{Seated}
 use Rattle.seat_book.specs.Players.{is_numbered, are_apart}
 use Rattle.table_engine.specs.declared.start.StartSeat.{StartSeat}
@@ -21,18 +22,11 @@ has_number number starter = starter.player == number
 pub none_picked : (number : ℕ) (test : Seated → Bool) (players : List Seated)
     → list_all (λ other. not (is_numbered number other)) players ≡ true
     → list_any (has_number number) (map start_seat (filter test players)) ≡ false
-none_picked number test [] none = refl
-none_picked number test (player ∷ players) none =
-    let parts = and_parts (not (is_numbered number player)) (list_all (λ other. not (is_numbered number other))
-    players) none in
-    by_test (test player) (not-true (is_numbered number player) parts.0) (none_picked number test players parts.1)
-  where
-    by_test : (b : Bool) → is_numbered number player ≡ false
-        → list_any (has_number number) (map start_seat (filter test players)) ≡ false
-        → list_any (has_number number) (map start_seat (cond b (player ∷ filter test players) (filter test players)))
-        ≡ false
-    by_test true here rest = rw (here, rest) refl
-    by_test false here rest = rest
+none_picked number test players none =
+    list_any-made (has_number number) start_seat (filter test players)
+    ∙ list_any-none (λ (other : Seated). not (is_numbered number other)) (is_numbered number) (filter test players)
+    (λ other differs. not-true (is_numbered number other) differs)
+    (list_all-kept (λ other. not (is_numbered number other)) test players none)
 
 head_dealt : (test : Seated → Bool) (player : Seated) (players : List Seated) (b : Bool)
     → list_any (has_number player.player) (map start_seat (filter test players)) ≡ false
@@ -65,9 +59,7 @@ is_one_of-dealt test (first ∷ players) apart =
 -- Who has a number does not depend on his stack.
 pub any_without : (number : ℕ) (starters : List StartSeat)
     → list_any (has_number number) (map without_stack starters) ≡ list_any (has_number number) starters
-any_without number [] = refl
-any_without number (starter ∷ starters) =
-    ap (λ (b : Bool). (starter.player == number) || b) (any_without number starters)
+any_without number starters = list_any-made (has_number number) without_stack starters
 
 -- In a valid book those who are in a hand are those who have nothing at rest.
 pub in_hand-lent : (book : BookState) → IsValid book

@@ -1,11 +1,14 @@
 -- Each balance and each break that is not refused is a lawful move, and what holds of tables and of entries.
-use Rattle.std.proofs.Common.{◌≡◌, ◌∙◌, refl, ap, subst, ℕ, zero, suc, ◌+◌, ◌≤◌, ◌<◌, Bool, true, false, ◌==◌, ◌&&◌, List, [], ◌∷◌, arith}
+use Rattle.std.proofs.Common.{◌≡◌, ◌∙◌, refl, sym, ap, subst, ℕ, zero, suc, ◌+◌, ◌≤◌, Bool, true, false, ◌==◌, ◌&&◌, List, [], ◌∷◌, arith}
 use Rattle.std.specs.Prelude.{not, nat_lt, Option, Some, None}
 use Rattle.std.specs.List.{list_any}
 use Rattle.std.specs.Option.{ForSome}
-use Rattle.std.proofs.lemmas.Bool.{and_parts, eqb-true}
-use Rattle.std.proofs.lemmas.Bool.Decides.{nat_tests}
+use Rattle.std.proofs.lemmas.Bool.{and_parts, lt-ltb, not-true}
 use Rattle.button_blinds.specs.declared.marks.Marks.{Marks}
+use Rattle.rulebook.proofs.Among.{all-among}
+use Rattle.rulebook.proofs.Found.{some-found}
+use Rattle.rulebook.proofs.Passing.{not-any}
+use Rattle.rulebook.proofs.Sides.{first_fails}
 use Rattle.rulebook.proofs.Tests.{at_most_one, count_by-cons}
 use Rattle.button_blinds.specs.Marks.{AreMarksOf, is_heads_up, leaves_fewer_than_three, waiting_between, marks_after, big_after}
 use Rattle.button_blinds.specs.SeatSets.{has_seat, with_seat, seat_count, AreSeatsOf}
@@ -46,25 +49,12 @@ not_refused state play event is accepted =
     let taken : answered (refusal_of play event) ≡ Ok = rw is at accepted in
     accepted_none (refusal_of play event) (ap is_accepted taken)
 
--- Where none of a list passes a test, none of its numbers does.
-none_of : (test : ℕ → Bool) (numbers : List ℕ) (number : ℕ) → list_any test numbers ≡ false
-    → list_any (λ other. other == number) numbers ≡ true → test number ≡ false
-none_of test [] number none among = absurd cc
-none_of test (first ∷ numbers) number none among =
-    by_tests (test first) refl (first == number) refl none among (none_of test numbers number)
-  where
-    by_tests : (b : Bool) → test first ≡ b → (here : Bool) → (first == number) ≡ here
-        → list_any test (first ∷ numbers) ≡ false → list_any (λ other. other == number) (first ∷ numbers) ≡ true
-        → (list_any test numbers ≡ false → list_any (λ other. other == number) numbers ≡ true → test number ≡ false)
-        → test number ≡ false
-    by_tests true is here at none among later = let some = rw is at none in absurd cc
-    by_tests false is true at none among later = subst (λ (n : ℕ). test n ≡ false) (eqb-true first number at) is
-    by_tests false is false at none among later = later (rw is at none) (rw at at among)
-
 -- Where no table passes a test, a table of the plan does not.
 pub no_table : (test : ℕ → Bool) (tables table : ℕ) → list_any test (table_numbers tables) ≡ false
     → IsTableOf tables table → test table ≡ false
-no_table test tables table none at = none_of test (table_numbers tables) table none (among-tables tables table at)
+no_table test tables table none at =
+    not-true (test table) (all-among (λ number. not (test number)) table (table_numbers tables)
+    (sym (not-any test (table_numbers tables)) ∙ ap not none) (among-tables tables table at))
 
 -- A table that is open and is not playing may be left.
 free_table : (book : BookState) (table : ℕ) → IsValid book → is_table_open book table ≡ true
@@ -134,7 +124,8 @@ module _ (seating : Seating) (lawful : IsSeating seating) where
   -- A table with two empty seats has a worst one.
   worst_there : (table : ℕ) → count_at seating.players table + 2 ≤ seating.seat_count
       → (seat : ℕ) × (worst_empty_seat seating table ≡ Some seat)
-  worst_there table two = found (worst_empty_seat seating table) refl
+  worst_there table two = some-found (worst_empty_seat seating table)
+      (none (status_at seating.tables table).marks (lawful.statuses table).marks)
     where
       counted : seat_count (taken_seats seating.players table) ≡ count_at seating.players table
       counted = taken_count-seating seating table lawful
@@ -158,11 +149,6 @@ module _ (seating : Seating) (lawful : IsSeating seating) where
           let more = seat_count-one_more (taken_seats seating.players table) marks.big in
           walk-free set seating.seat_count marks.big (within marks refl).big.1
           (let same = counted in omega (arith, same, more, two)) (alike ∙ is)
-
-      found : (result : Option ℕ) → worst_empty_seat seating table ≡ result
-          → (seat : ℕ) × (worst_empty_seat seating table ≡ Some seat)
-      found None is = absurd (none (status_at seating.tables table).marks (lawful.statuses table).marks is)
-      found (Some seat) is = (seat, is)
 
   -- The move of a balance between two tables of which the one has two players more.
   carried : (from to : ℕ) → count_at seating.players to + 2 ≤ count_at seating.players from
@@ -218,11 +204,8 @@ break_lawful book table places names valid may = record {
         let listed : IsTableOf book.plan.tables other = subst (λ (n : ℕ). IsTableOf n other) tables at in
         let none = no_table (λ other. is_open book.seating.players other && nat_lt table other) book.plan.tables other
         may.last listed in
-        closed (is_open book.seating.players other) table other above none;
+        first_fails (is_open book.seating.players other) (nat_lt table other) none (lt-ltb table other above);
     fill = (may.drawn.fill, (may.drawn.is, may.drawn.right.places));
     players = may.drawn.right.players;
   };
 }
-  where
-    closed : (opened : Bool) (table other : ℕ) → table < other → (opened && nat_lt table other) ≡ false → opened ≡ false
-    closed opened table other above none = grind (arith, nat_tests)

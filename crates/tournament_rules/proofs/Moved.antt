@@ -7,7 +7,8 @@ use Rattle.std.proofs.lemmas.Bool.{and_parts, cases_Bool, eqb-true, and_right}
 use Rattle.std.proofs.lemmas.Option.{same_Some}
 use Rattle.std.proofs.lemmas.List.Elements.{All-filter, All-head, All-tail, filter-append}
 use Rattle.std.proofs.lemmas.List.Sums.{sum_by-append, sum_by-cons, sum_by-insert}
-use Rattle.rulebook.proofs.Tests.{find-all}
+use Rattle.rulebook.proofs.Passing.{filter-all, find-none, none-find}
+use Rattle.rulebook.proofs.Tests.{find-all, list_all-filtered}
 use Rattle.button_blinds.specs.declared.marks.Marks.{Marks}
 use Rattle.seat_book.specs.declared.place.Place.{Place}
 use Rattle.seat_book.specs.declared.seated.Seated.{Seated}
@@ -16,7 +17,6 @@ use Rattle.seat_book.specs.Players.{sits_at, sits_in, is_numbered, player_at, pl
 use Rattle.seat_book.specs.Counts.{count_at}
 use Rattle.seat_book.specs.Tables.{status_at}
 use Rattle.seat_book.specs.Seatings.{is_entry}
-use Rattle.seat_book.proofs.Passing.{filter-all, find-none, none-find}
 use Rattle.balance_rule.specs.Moves.{is_race_pending}
 use Rattle.tournament_rules.specs.Books.{BookState}
 use Rattle.tournament_rules.specs.Players.{start_seat}
@@ -26,7 +26,7 @@ use Rattle.tournament_rules.proofs.KeptUnits.{none_due}
 use Rattle.tournament_rules.proofs.Insertions.{list_all-insert, All-insert, filter-insert_no}
 use Rattle.tournament_rules.proofs.Names.{IsNamed}
 use Rattle.tournament_rules.proofs.SitDown.{seating-sit_down}
-use Rattle.tournament_rules.proofs.Stayed.{without, all_stay, seating_left}
+use Rattle.tournament_rules.proofs.Stayed.{all_stay, seating_left}
 
 -- the players once this one has left his seat and sits in another place, with his stack
 abbrev pub moved : Place → Seated → List Seated → List Seated
@@ -127,17 +127,6 @@ All-found P test (item ∷ items) found all is =
         subst P (same_Some item found first) here
     by_test false passes here later = later (rw passes at is)
 
--- Whom a test takes away is none of the rest.
-pub none_gone : {A : Type 0} (gone : A → Bool) (items : List A)
-    → list_all (λ item. not (gone item)) (without gone items) ≡ true
-none_gone gone [] = refl
-none_gone gone (item ∷ items) = by_test (gone item) refl (none_gone gone items)
-  where
-    by_test : (b : Bool) → gone item ≡ b → list_all (λ item. not (gone item)) (without gone items) ≡ true
-        → list_all (λ item. not (gone item)) (cond (not b) (item ∷ without gone items) (without gone items)) ≡ true
-    by_test true is rest = rest
-    by_test false is rest = rw (is, rest) refl
-
 -- A player may move to a place: he sits and has something at rest, nobody sits in the place, his table has no marks or
 -- another player, no race is pending, and both tables have one unit.
 pub record MayMove (book : BookState) (player : Seated) (place : Place) : Type 0 where
@@ -189,7 +178,7 @@ valid_moved book player place valid may =
             (find-none (sits_in place) others
             (all_stay (λ other. not (sits_in place other)) (is_numbered player.player) players
             (none-find (sits_in place) players may.free)))
-            (none_gone (is_numbered player.player) players);
+            (list_all-filtered (λ other. not (is_numbered player.player other)) players);
         tables = valid.tables.tables;
         seats = valid.tables.seats;
         room = valid.tables.room;

@@ -8,6 +8,7 @@ use Rattle.std.proofs.lemmas.Bool.Decides.{nat_tests}
 use Rattle.std.proofs.lemmas.List.Elements.{All-head, All-tail}
 use Rattle.std.proofs.lemmas.Option.{same_Some}
 use Rattle.rulebook.specs.Pairs.{are_distinct}
+use Rattle.rulebook.proofs.Passing.{list_all-get}
 use Rattle.entry_list.proofs.Added.{other_way}
 use Rattle.seat_book.specs.declared.seated.Seated.{Seated}
 use Rattle.seat_book.specs.Players.{is_numbered, are_apart}
@@ -16,13 +17,8 @@ use Rattle.seat_book.specs.Players.{is_numbered, are_apart}
 differs_from : (name : List ℕ) (entries : List (List ℕ)) (i : ℕ) (other : List ℕ)
     → list_all (λ later. not (bytes_eq name later)) entries ≡ true → slice_get entries i ≡ Some other
     → bytes_eq name other ≡ false
-differs_from name [] i other all is = absurd cc
-differs_from name (first ∷ entries) zero other all is =
-    let parts = and_parts (not (bytes_eq name first)) (list_all (λ later. not (bytes_eq name later)) entries) all in
-    subst (λ (other : List ℕ). bytes_eq name other ≡ false) (same_Some first other is) (not-true _ parts.0)
-differs_from name (first ∷ entries) (suc i) other all is =
-    let parts = and_parts (not (bytes_eq name first)) (list_all (λ later. not (bytes_eq name later)) entries) all in
-    differs_from name entries i other parts.1 is
+differs_from name entries i other all is =
+    not-true (bytes_eq name other) (list_all-get (λ later. not (bytes_eq name later)) entries i other all is)
 
 -- Entries with different numbers have different names where no two entered under one.
 pub names_differ : (entries : List (List ℕ)) (i j : ℕ) (one other : List ℕ) → are_distinct bytes_eq entries ≡ true

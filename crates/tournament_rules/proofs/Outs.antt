@@ -2,12 +2,13 @@
 use Rattle.std.proofs.Common.{◌≡◌, refl, ap, ℕ, zero, suc, ◌+◌, ◌<◌, ◌≤◌, Bool, true, false, cond, ◌==◌, List, [], ◌∷◌, ◌++◌, length, arith, ◌∙◌}
 use Rattle.std.specs.Prelude.{not, nat_lt, count_by, find, option_map, is_some}
 use Rattle.std.specs.List.{list_any}
-use Rattle.std.proofs.lemmas.Bool.{eqb-true}
+use Rattle.std.proofs.lemmas.Bool.{eqb-true, not-true}
 use Rattle.std.proofs.lemmas.Bool.Decides.{nat_tests}
 use Rattle.std.proofs.lemmas.List.Folds.{Any-from_list_any}
 use Rattle.std.proofs.lemmas.List.Sums.{sum_by_push, count_by-le-length}
 use Rattle.rulebook.specs.declared.limits.TheConstants.{MOST_ENTRIES}
-use Rattle.rulebook.proofs.Tests.{at_most_one, count_by-cons}
+use Rattle.rulebook.proofs.Passing.{count_by-none, not-any}
+use Rattle.rulebook.proofs.Tests.{at_most_one, count_by-cons, list_all-always, none_by_count}
 use Rattle.place_list.specs.declared.bust.Bust.{Bust}
 use Rattle.place_list.proofs.Counts.{count_by-some}
 use Rattle.seat_book.specs.declared.seated.Seated.{Seated}
@@ -23,12 +24,11 @@ abbrev count_with : {A : Type 0} → (A → ℕ) → ℕ → List A → ℕ
 count_with key number items = count_by (λ item. key item == number) items
 
 none_below : {A : Type 0} (key : A → ℕ) (items : List A) → count_below key 0 items ≡ 0
-none_below key [] = refl
-none_below key (item ∷ items) =
-    let one = count_by-cons (λ item. nat_lt (key item) 0) item items in
-    omega (arith, one, none (key item), none_below key items)
+none_below key items =
+    count_by-none (λ item. nat_lt (key item) 0) items
+    (list_all-always (λ item. not (nat_lt (key item) 0)) items (λ item. none (key item)))
   where
-    none : (k : ℕ) → cond {A = ℕ} (nat_lt k 0) 1 0 ≡ 0
+    none : (k : ℕ) → not (nat_lt k 0) ≡ true
     none k = grind (arith, nat_tests)
 
 -- The next number adds those who have it.
@@ -111,11 +111,7 @@ some_counted test items some =
 -- Where none counts, nobody passes.
 pub none_counted : {A : Type 0} (test : A → Bool) (items : List A) → count_by test items ≡ 0
     → list_any test items ≡ false
-none_counted test items none = by_any (list_any test items) refl
-  where
-    by_any : (b : Bool) → list_any test items ≡ b → b ≡ false
-    by_any true is = let some = some_counted test items is in absurd (omega (arith, some, none))
-    by_any false is = refl
+none_counted test items none = not-true _ (not-any test items ∙ none_by_count test items none)
 
 -- each number has one row or none
 pub one_row : (entries : List (List ℕ)) (number : ℕ) → rows_owed entries number ≤ 1

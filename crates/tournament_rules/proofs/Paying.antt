@@ -1,13 +1,15 @@
 -- Stacks go back to those to whom they belong, by their numbers.
-use Rattle.std.proofs.Common.{◌≡◌, ◌∙◌, refl, sym, ap, ℕ, ◌+◌, Bool, true, false, cond, ◌%◌, ◌==◌, ◌&&◌, ◌||◌, List, [], ◌∷◌, map, arith}
+use Rattle.std.proofs.Common.{◌≡◌, ◌∙◌, refl, sym, ap, ℕ, ◌+◌, Bool, true, false, cond, ◌%◌, ◌==◌, List, [], ◌∷◌, map, arith}
 use Rattle.std.specs.Prelude.{not, nat_lt, filter, find, fold, drop, sum_by, Option, Some, None}
 use Rattle.std.specs.List.{list_all, list_any}
 use Rattle.std.specs.Option.{option_map_or}
-use Rattle.std.proofs.lemmas.Bool.{and_parts, and_from, not-true, or_parts, eq-eqb, eqb-true, and_left}
+use Rattle.std.proofs.lemmas.Bool.{and_parts, and_from, not-true, eq-eqb, eqb-true, ltb-true, ne_eqb, and_left, and_right}
 use Rattle.std.proofs.lemmas.Bool.Decides.{nat_tests}
+use Rattle.std.proofs.lemmas.List.{map-id}
 use Rattle.std.proofs.lemmas.List.Sums.{sum_by-cons}
 use Rattle.rulebook.specs.Pairs.{are_distinct}
-use Rattle.rulebook.proofs.Tests.{eqb-swap}
+use Rattle.rulebook.proofs.Passing.{find-none, list_any-none, map-agree, not-any}
+use Rattle.rulebook.proofs.Tests.{eqb-swap, list_any-made}
 use Rattle.seat_book.specs.declared.seated.Seated.{Seated}
 use Rattle.seat_book.specs.declared.table_status.TableStatus.{TableStatus}
 use Rattle.seat_book.specs.Players.{sits_at, is_numbered, are_apart}
@@ -66,19 +68,15 @@ not_his payee payees player differs =
 put_back-later : (payee : StartSeat) (payees : List StartSeat) (players : List Seated)
     → list_all (λ other. not (is_numbered payee.player other)) players ≡ true
     → put_back (payee ∷ payees) players ≡ put_back payees players
-put_back-later payee payees [] none = refl
-put_back-later payee payees (player ∷ players) none =
-    let parts = and_parts (not (is_numbered payee.player player))
-    (list_all (λ other. not (is_numbered payee.player other)) players) none in
-    let here = not_his payee payees player parts.0 in
-    let rest = put_back-later payee payees players parts.1 in
-    cc
+put_back-later payee payees players none =
+    map-agree (paid (payee ∷ payees)) (paid payees) (λ other. not (is_numbered payee.player other)) players
+    (not_his payee payees) none
 
 -- A payee has a number exactly where it is in the list of the payees' numbers.
 pub any_number : (number : ℕ) (payees : List StartSeat)
     → list_any (has_number number) payees ≡ list_any (λ other. other == number) (numbers_of payees)
-any_number number [] = refl
-any_number number (payee ∷ payees) = ap (λ (b : Bool). (payee.player == number) || b) (any_number number payees)
+any_number number payees =
+    sym (list_any-made (λ (other : ℕ). other == number) (λ (payee : StartSeat). payee.player) payees)
 
 -- The numbers of those who are picked for a start.
 pub picked_numbers : (found : List Seated)
@@ -89,10 +87,9 @@ picked_numbers (player ∷ found) = ap (λ (numbers : List ℕ). player.player �
 -- Where none of the payees has his number, a player keeps his stack.
 pub paid-nothing : (payees : List StartSeat) (player : Seated) → list_any (has_number player.player) payees ≡ false
     → paid payees player ≡ player
-paid-nothing [] player none = refl
-paid-nothing (payee ∷ payees) player none =
-    let parts = or_parts (payee.player == player.player) (list_any (has_number player.player) payees) none in
-    rw parts.0 (paid-nothing payees player parts.1)
+paid-nothing payees player none =
+    ap (λ (found : Option StartSeat). option_map_or (λ payee. with_rest player payee.stack) found player)
+    (find-none (has_number player.player) payees (sym (not-any (has_number player.player) payees) ∙ ap not none))
 
 none_is_payee : (number : ℕ) (test : Seated → Bool) (players : List Seated) (payees : List StartSeat)
     → numbers_of payees ≡ numbers_in (filter test players)
@@ -190,11 +187,9 @@ none_lent-step table player players [] true is above same rest = absurd cc
 none_lent-step table player players (payee ∷ payees) true is above same rest =
     let more : numbers_of payees ≡ numbers_in (filter (is_lent table) players) = cc in
     let parts = and_parts (nat_lt 0 payee.stack) (list_all (λ payee. nat_lt 0 payee.stack) payees) above in
-    rw (not_lent (sits_at table player) payee.stack parts.0) (rest payees parts.1 more)
-  where
-    not_lent : (sits : Bool) (stack : ℕ) → nat_lt 0 stack ≡ true → (sits && stack == 0) ≡ false
-    not_lent true stack above = grind (arith, nat_tests)
-    not_lent false stack above = refl
+    let some = ltb-true 0 payee.stack parts.0 in
+    let rests = ne_eqb payee.stack 0 (λ nothing. omega (arith, some, nothing)) in
+    rw (and_right (sits_at table player) (payee.stack == 0) rests) (rest payees parts.1 more)
 none_lent-step table player players payees false is above same rest = rw is (rest payees above same)
 
 none_lent-in_turn : (table : ℕ) (players : List Seated) (payees : List StartSeat)
@@ -287,10 +282,6 @@ pub whole-put_back : (tables : List TableStatus) (table : ℕ) (players : List S
 whole-put_back tables table players payees apart those all whole = rw
     (put_back-in_turn (is_lent table) players payees apart those) (whole-in_turn tables table players payees all whole)
 
-put_back-none : (players : List Seated) → put_back [] players ≡ players
-put_back-none [] = refl
-put_back-none (player ∷ players) = ap (λ (players : List Seated). player ∷ players) (put_back-none players)
-
 first_then_others : (payee : StartSeat) (payees : List StartSeat) (player : Seated) (b : Bool)
     → is_numbered payee.player player ≡ b → list_any (has_number payee.player) payees ≡ false
     → paid payees (cond b (with_rest player payee.stack) player) ≡ paid (payee ∷ payees) player
@@ -312,17 +303,16 @@ others_then_first payee payees (player ∷ players) none =
 none_later : (number : ℕ) (payees : List StartSeat)
     → list_all (λ other. not (number == other)) (numbers_of payees) ≡ true
     → list_any (has_number number) payees ≡ false
-none_later number [] differ = refl
-none_later number (payee ∷ payees) differ =
-    let parts = and_parts (not (number == payee.player)) (list_all (λ other. not (number == other))
-    (numbers_of payees)) differ in
-    rw (eqb-swap payee.player number, not-true (number == payee.player) parts.0) (none_later number payees parts.1)
+none_later number payees differ =
+    any_number number payees
+    ∙ list_any-none (λ (other : ℕ). not (number == other)) (λ other. other == number) (numbers_of payees)
+    (λ other differs. eqb-swap other number ∙ not-true (number == other) differs) differ
 
 -- Payees with distinct numbers who are paid one after another are all paid.
 pub paid-one_by_one : (payees : List StartSeat) (players : List Seated)
     → are_distinct (λ one other. one == other) (numbers_of payees) ≡ true
     → fold pay_one players payees ≡ put_back payees players
-paid-one_by_one [] players distinct = sym (put_back-none players)
+paid-one_by_one [] players distinct = sym (map-id players)
 paid-one_by_one (payee ∷ payees) players distinct =
     let parts = and_parts (list_all (λ other. not (payee.player == other)) (numbers_of payees))
     (are_distinct (λ one other. one == other) (numbers_of payees)) distinct in

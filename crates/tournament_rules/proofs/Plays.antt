@@ -1,13 +1,12 @@
 -- A tournament whose plan is whole is valid after each event: its book is, and each hand that is out is a lawful play
 -- of its start.
 use Rattle.std.proofs.Common.{◌≡◌, ◌∙◌, refl, sym, ap, subst, ℕ, ◌+◌, ◌<◌, true, false, ◌==◌, List, [], ◌∷◌, ◌++◌, length, inl, inr, arith, length-set}
-use Rattle.std.specs.Prelude.{replicate, slice_set, Option, Some, None, is_none, option_map, option_and_then, if◌then◌else◌}
+use Rattle.std.specs.Prelude.{replicate, slice_set, Option, Some, None, option_map, option_and_then}
 use Rattle.std.specs.Option.{option_map_or, ForSome}
 use Rattle.std.proofs.lemmas.Bool.{cases_Bool, eqb-true}
 use Rattle.std.proofs.lemmas.List.{get_or-set_same, get_or-set_other, length-replicate}
 use Rattle.std.proofs.lemmas.Option.{same_Some}
 use Rattle.rulebook.proofs.Tests.{some_there}
-use Rattle.floor_text.specs.declared.refusal.Refusal.{Refusal}
 use Rattle.card_set.specs.declared.card.CardRow.{CardRow}
 use Rattle.betting_round.specs.declared.act.Act.{Act}
 use Rattle.level_plan.specs.Plans.{PlanTerms, is_right}
@@ -24,7 +23,7 @@ use Rattle.tournament_rules.specs.Books.{start_at}
 use Rattle.tournament_rules.specs.Checks.{book_refusal}
 use Rattle.tournament_rules.specs.Dealing.{next_start}
 use Rattle.tournament_rules.specs.Effects.{settled, stopped_book}
-use Rattle.tournament_rules.specs.States.{PlayState, first_play, acts_at, hand_at, refusal_of, play_effect, play_after}
+use Rattle.tournament_rules.specs.States.{PlayState, first_play, acts_at, hand_at, refusal_of, play_effect}
 use Rattle.tournament_rules.specs.Valid.{IsValidPlay, IsStartAt}
 use Rattle.tournament_rules.specs.Apart.{hand_refusal}
 use Rattle.tournament_rules.proofs.Fitting.{table_range, other_number, table_out}
@@ -77,8 +76,9 @@ acts_changed out acts table new room plays here =
     (rw (get_or-set_same acts table new [] room) here)
     (λ other differ. rw (get_or-set_other acts table other new [] (other_number table other differ)) (plays other))
 
-some_lawful : (hand : HandTerms) → IsLawfulPlay hand → ForSome (Some hand) IsLawfulPlay
-some_lawful hand lawful = λ found is. subst IsLawfulPlay (same_Some hand found is) lawful
+-- What is so of an item is so of whatever an option that has it has.
+pub some_so : {A : Type 0} (P : A → Type 0) (item : A) → P item → ForSome (Some item) P
+some_so P item so = λ found is. subst P (same_Some item found is) so
 
 -- After a hand began.
 play_begun : (play : PlayState) (table : ℕ) (row : CardRow) → IsValidPlay play
@@ -93,7 +93,7 @@ play_begun play table row valid none =
       room = length-set play.acts table [] ∙ valid.room;
       plays = plays_changed play.book.out play.acts table (Some start) [] (omega (arith, range.1, out))
           (omega (arith, range.1, room)) valid.plays
-          (some_lawful (record { start = start; acts = [] }) (lawful_play-none start));
+          (some_so IsLawfulPlay (record { start = start; acts = [] }) (lawful_play-none start));
     }
 
 -- After an act.
@@ -120,7 +120,7 @@ play_acted play table name act valid none free =
     by_start None acts free lawful = λ hand is. absurd cc
     by_start (Some start) acts free lawful =
         let hand : HandTerms = record { start = start; acts = acts } in
-        some_lawful _
+        some_so IsLawfulPlay _
         (lawful_play-more hand (record { name = name; act = act; by_time = false }) (lawful hand refl) free)
 
 -- the acts of a hand once time is called, where one is out
@@ -151,7 +151,8 @@ play_timed play table valid none free =
     by_start None acts out free lawful = λ hand is. absurd cc
     by_start (Some start) acts out free lawful =
         let hand : HandTerms = record { start = start; acts = acts } in
-        some_lawful (hand_after_time hand) (lawful_play-time hand (out start refl).lawful (lawful hand refl) free)
+        some_so IsLawfulPlay (hand_after_time hand)
+        (lawful_play-time hand (out start refl).lawful (lawful hand refl) free)
 
 -- the tournament once a hand at a table is settled
 abbrev settled_at : PlayState → ℕ → HandTerms → PlayState

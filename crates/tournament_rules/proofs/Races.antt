@@ -3,7 +3,7 @@ use Rattle.std.proofs.Common.{◌≡◌, ◌∙◌, refl, sym, ap, subst, ℕ, z
 use Rattle.std.specs.Prelude.{not, filter, sum, sum_by, count_by, nat_lt, unwrap_or, Option, Some, None, is_some}
 use Rattle.std.specs.List.{list_all, enumerate_from}
 use Rattle.std.specs.Option.{option_map_or, ForSome}
-use Rattle.std.proofs.lemmas.Bool.{and_parts, and_from, eqb-true, eq-eqb, not-true}
+use Rattle.std.proofs.lemmas.Bool.{and_parts, and_from, eqb-true, eqb-false, eq-eqb, ne_eqb, not-true, not_from_false}
 use Rattle.std.proofs.lemmas.Bool.Decides.{nat_tests}
 use Rattle.std.proofs.lemmas.List.{length-map}
 use Rattle.std.proofs.lemmas.List.FromFn.{length-enumerate_from}
@@ -136,12 +136,6 @@ above-raced value table (player ∷ players) ordered within none keeps =
     (above-raced value table players apart.1 here.1 lent.1
     (λ at low high some. keeps at low high (still at (none_later player players apart.0) some)))
   where
-    some_stack : (stack : ℕ) → (stack == 0) ≡ false → 0 < stack
-    some_stack stack some = grind (arith, nat_tests)
-
-    not_nothing : (n : ℕ) → 0 < n → not (n == 0) ≡ true
-    not_nothing n some = grind (arith, nat_tests)
-
     by_table : (b : Bool) → sits_at table player ≡ b → (b && player.stack == 0) ≡ false
         → (0 < stack_in (player ∷ players) (record { table = table; seat = player.place.seat })
         → 0 < value player.place.seat)
@@ -150,8 +144,10 @@ above-raced value table (player ∷ players) ordered within none keeps =
     by_table true is lent kept =
         let own : stack_in (player ∷ players) (record { table = table; seat = player.place.seat }) ≡ player.stack =
         rw (is, eq-eqb player.place.seat player.place.seat refl) refl in
-        let some = some_stack player.stack lent in
-        not_nothing (value player.place.seat) (kept (omega (arith, own, some)))
+        let some = eqb-false player.stack 0 lent in
+        let now = kept (omega (arith, own, some)) in
+        not_from_false (value player.place.seat == 0)
+        (ne_eqb (value player.place.seat) 0 (λ nothing. omega (arith, now, nothing)))
 
     still : (at : ℕ) → player_at players player.place ≡ None
         → 0 < stack_in players (record { table = table; seat = at })

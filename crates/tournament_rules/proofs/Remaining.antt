@@ -1,11 +1,11 @@
 -- Somebody stays at a table when a hand there is settled.
-use Rattle.std.proofs.Common.{◌≡◌, ◌∙◌, refl, ap, ℕ, suc, ◌%◌, ◌<◌, ◌≤◌, Bool, true, false, cond, ◌==◌, ◌&&◌, List, [], ◌∷◌, map, length, arith}
+use Rattle.std.proofs.Common.{◌≡◌, ◌∙◌, refl, ap, ℕ, suc, ◌%◌, ◌<◌, ◌≤◌, Bool, true, false, cond, ◌==◌, List, [], ◌∷◌, map, length, arith}
 use Rattle.std.specs.Prelude.{filter, count_by, nat_lt, Option, Some}
 use Rattle.std.proofs.lemmas.Bool.{and_parts, eqb-true, ltb-true}
-use Rattle.std.proofs.lemmas.Bool.Decides.{nat_tests}
 use Rattle.std.proofs.lemmas.List.{length-map}
-use Rattle.std.proofs.lemmas.List.Sums.{sum_by-cons}
-use Rattle.rulebook.proofs.Tests.{count_by-cons}
+use Rattle.std.proofs.lemmas.List.Sums.{sum_by-cons, length-filter, count_by-le-length}
+use Rattle.rulebook.proofs.Tests.{list_all-filtered, list_all-follows}
+use Rattle.rulebook.proofs.Passing.{count_by-all}
 use Rattle.seat_book.specs.declared.seated.Seated.{Seated}
 use Rattle.seat_book.specs.Players.{sits_at, are_apart}
 use Rattle.seat_book.specs.Counts.{count_at}
@@ -20,13 +20,10 @@ use Rattle.tournament_rules.proofs.Paying.{paid-stacks, ArePayees}
 use Rattle.tournament_rules.proofs.Stayed.{who_stay, count_apart, with_nothing, lent_after}
 
 most_nothing : (payees : List StartSeat) → length (with_nothing payees) ≤ length payees
-most_nothing [] = omega arith
-most_nothing (payee ∷ payees) = by_test (payee.stack == 0) (most_nothing payees)
-  where
-    by_test : (b : Bool) → length (with_nothing payees) ≤ length payees
-        → length (cond b (payee ∷ with_nothing payees) (with_nothing payees)) ≤ suc (length payees)
-    by_test true rest = omega (arith, rest)
-    by_test false rest = omega (arith, rest)
+most_nothing payees =
+    let counted = length-filter (λ (payee : StartSeat). payee.stack == 0) payees in
+    let most = count_by-le-length (λ (payee : StartSeat). payee.stack == 0) payees in
+    omega (arith, counted, most)
 
 -- Where there are chips, fewer have nothing than there are.
 fewer_nothing : (payees : List StartSeat) → 0 < chips_of payees → length (with_nothing payees) < length payees
@@ -47,22 +44,11 @@ fewer_nothing (payee ∷ payees) some = by_test (payee.stack == 0) refl (fewer_n
 -- Those who have nothing at rest at a table sit there.
 lent_sit : (table : ℕ) (players : List Seated)
     → count_by (sits_at table) (filter (is_lent table) players) ≡ length (filter (is_lent table) players)
-lent_sit table [] = refl
-lent_sit table (player ∷ players) = by_test (is_lent table player) refl (lent_sit table players)
-  where
-    here : (sits stack : ℕ) → (sits == table && stack == 0) ≡ true → cond {A = ℕ} (sits == table) 1 0 ≡ 1
-    here sits stack lent = grind (arith, nat_tests)
-
-    by_test : (b : Bool) → is_lent table player ≡ b
-        → count_by (sits_at table) (filter (is_lent table) players) ≡ length (filter (is_lent table) players)
-        → count_by (sits_at table) (cond b (player ∷ filter (is_lent table) players)
-        (filter (is_lent table) players))
-        ≡ length (cond b (player ∷ filter (is_lent table) players) (filter (is_lent table) players))
-    by_test true is rest =
-        let one = count_by-cons (sits_at table) player (filter (is_lent table) players) in
-        let his = here player.place.table player.stack is in
-        omega (arith, one, his, rest)
-    by_test false is rest = rest
+lent_sit table players =
+    count_by-all (sits_at table) (filter (is_lent table) players)
+    (list_all-follows (is_lent table) (sits_at table) (filter (is_lent table) players)
+    (λ player lent. (and_parts (sits_at table player) (player.stack == 0) lent).0)
+    (list_all-filtered (is_lent table) players))
 
 somebody_sits : (table : ℕ) (players : List Seated) (starters : List StartSeat)
     → map start_seat (filter (is_lent table) players) ≡ map without_stack starters → 2 ≤ length starters

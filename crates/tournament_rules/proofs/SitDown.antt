@@ -12,8 +12,8 @@ use Rattle.seat_book.specs.Places.{comes_before}
 use Rattle.seat_book.specs.Players.{sits_in, is_numbered, player_at, sit_down, are_in_order, are_apart}
 use Rattle.seat_book.specs.Seatings.{Seating, IsSeating, sits_within, is_entry}
 use Rattle.rulebook.proofs.Pairs.{is_pairwise-between}
+use Rattle.rulebook.proofs.Passing.{count_by-none}
 use Rattle.rulebook.proofs.Tests.{eqb-swap, count_by-cons, list_all-follows}
-use Rattle.seat_book.proofs.Passing.{count_by-none}
 use Rattle.seat_book.proofs.PlaceOrder.{before-back, before-before}
 use Rattle.tournament_rules.proofs.Insertions.{list_all-insert, is_pairwise-insert}
 
@@ -45,16 +45,10 @@ after_other a b x y differ late = grind (arith, nat_tests)
 -- whoever comes before a player comes before all who come after that one
 before_later : (new first : Seated) (players : List Seated) → sits_before new first ≡ true
     → list_all (sits_before first) players ≡ true → list_all (sits_before new) players ≡ true
-before_later new first [] before later = refl
-before_later new first (next ∷ players) before later =
-    let parts = and_parts (sits_before first next) (list_all (sits_before first) players) later in
-    and_from _ _ (before_all new first next before parts.0) (before_later new first players before parts.1)
-  where
-    before_all : (new first next : Seated) → sits_before new first ≡ true → sits_before first next ≡ true
-        → sits_before new next ≡ true
-    before_all new first next before later =
-        before-before new.place.table new.place.seat first.place.table first.place.seat next.place.table
-        next.place.seat before later
+before_later new first players before later =
+    list_all-follows (sits_before first) (sits_before new) players
+    (λ next is. before-before new.place.table new.place.seat first.place.table first.place.seat next.place.table
+    next.place.seat before is) later
 
 -- nobody who comes after a player counts as before him
 none_back : (new : Seated) (players : List Seated) → list_all (sits_before new) players ≡ true
@@ -119,10 +113,9 @@ in_order-sit_down new players ordered free =
 
 other_way : (new : Seated) (players : List Seated) → list_all (differs new) players ≡ true
     → list_all (λ other. differs other new) players ≡ true
-other_way new [] all = refl
-other_way new (player ∷ players) all =
-    let parts = and_parts (differs new player) (list_all (differs new) players) all in
-    and_from _ _ (ap not (eqb-swap new.player player.player) ∙ parts.0) (other_way new players parts.1)
+other_way new players all =
+    list_all-follows (differs new) (λ other. differs other new) players
+    (λ player is. ap not (eqb-swap new.player player.player) ∙ is) all
 
 -- A player with a new number leaves the numbers apart.
 pub apart-sit_down : (new : Seated) (players : List Seated) → are_apart players ≡ true

@@ -1,14 +1,16 @@
 -- What is so of the players who stay, once those who have nothing at rest at a table have left their seats.
-use Rattle.std.proofs.Common.{◌≡◌, ◌∙◌, refl, sym, ap, ℕ, ◌+◌, ◌≤◌, Bool, true, false, cond, ◌==◌, ◌&&◌, List, [], ◌∷◌, ◌++◌, map, get_or, arith}
+use Rattle.std.proofs.Common.{◌≡◌, ◌∙◌, refl, sym, ap, ℕ, ◌+◌, ◌≤◌, Bool, true, false, cond, ◌==◌, ◌&&◌, List, [], ◌∷◌, ◌++◌, map, length, get_or, arith}
 use Rattle.std.specs.Prelude.{not, nat_le, drop, filter, count_by, sum_by, slice_get, Option, Some}
 use Rattle.std.specs.List.{list_all, list_any, All}
-use Rattle.std.proofs.lemmas.Bool.{and_parts, and_from, le-leb}
+use Rattle.std.proofs.lemmas.Bool.{and_parts, and_from, eqb-true, le-leb, leb-true}
 use Rattle.std.proofs.lemmas.Bool.Decides.{nat_tests}
-use Rattle.std.proofs.lemmas.List.Folds.{list_all-append}
-use Rattle.std.proofs.lemmas.List.Sums.{sum_by-append, sum_by-cons}
+use Rattle.std.proofs.lemmas.List.Folds.{list_all-append, list_all-map}
+use Rattle.std.proofs.lemmas.List.Sums.{length-filter, sum_by-append, sum_by-cons}
 use Rattle.std.proofs.lemmas.List.Elements.{All-filter, All-head, All-tail}
 use Rattle.rulebook.specs.Pairs.{is_pairwise}
-use Rattle.rulebook.proofs.Tests.{count_by-cons, list_all-kept, sum_by-map}
+use Rattle.rulebook.proofs.Pairs.{is_pairwise-kept}
+use Rattle.rulebook.proofs.Passing.{filter-filter, filter-none}
+use Rattle.rulebook.proofs.Tests.{count_by-cons, list_all-always, list_all-follows, list_all-kept, sum_by-map, list_all-filtered}
 use Rattle.level_plan.specs.Plans.{PlanTerms}
 use Rattle.place_list.specs.declared.bust.Bust.{Bust}
 use Rattle.seat_book.specs.declared.seated.Seated.{Seated}
@@ -36,19 +38,6 @@ who_stay table players = without (is_lent table) players
 pub all_stay : {A : Type 0} (test gone : A → Bool) (items : List A) → list_all test items ≡ true
     → list_all test (without gone items) ≡ true
 all_stay test gone items all = list_all-kept test (λ item. not (gone item)) items all
-
--- What holds between each two holds between those who stay.
-pub pairs_stay : {A : Type 0} (test : A → A → Bool) (gone : A → Bool) (items : List A)
-    → is_pairwise test items ≡ true → is_pairwise test (without gone items) ≡ true
-pairs_stay test gone [] pairs = refl
-pairs_stay test gone (item ∷ items) pairs =
-    let parts = and_parts (list_all (test item) items) (is_pairwise test items) pairs in
-    by_test (gone item) parts.0 (pairs_stay test gone items parts.1)
-  where
-    by_test : (b : Bool) → list_all (test item) items ≡ true → is_pairwise test (without gone items) ≡ true
-        → is_pairwise test (cond (not b) (item ∷ without gone items) (without gone items)) ≡ true
-    by_test true here rest = rest
-    by_test false here rest = and_from _ _ (all_stay (test item) gone items here) rest
 
 -- Those who stay and those who do not are all.
 pub count_apart : {A : Type 0} (test gone : A → Bool) (items : List A)
@@ -81,10 +70,12 @@ seating_left seating gone lawful = record {
   statuses = lawful.statuses;
   within = all_stay (sits_within seating.table_count seating.seat_count) gone seating.players lawful.within;
   ordered = in_order-pairs (without gone seating.players)
-      ∙ pairs_stay sits_before gone seating.players (sym (in_order-pairs seating.players) ∙ lawful.ordered);
+      ∙ is_pairwise-kept sits_before (λ seated. not (gone seated)) seating.players
+      (sym (in_order-pairs seating.players) ∙ lawful.ordered);
   entries = all_stay is_entry gone seating.players lawful.entries;
   apart = apart-pairs (without gone seating.players)
-      ∙ pairs_stay differs gone seating.players (sym (apart-pairs seating.players) ∙ lawful.apart);
+      ∙ is_pairwise-kept differs (λ seated. not (gone seated)) seating.players
+      (sym (apart-pairs seating.players) ∙ lawful.apart);
 }
 
 -- The seating fits the plan once some players have left.
@@ -113,13 +104,8 @@ entered_left entries players before after gone entered once = record {
 
 -- Nobody who stays has nothing at rest at the table.
 pub none_lent-stay : (table : ℕ) (players : List Seated) → filter (is_lent table) (who_stay table players) ≡ []
-none_lent-stay table [] = refl
-none_lent-stay table (player ∷ players) = by_test (is_lent table player) refl (none_lent-stay table players)
-  where
-    by_test : (b : Bool) → is_lent table player ≡ b → filter (is_lent table) (who_stay table players) ≡ []
-        → filter (is_lent table) (cond (not b) (player ∷ who_stay table players) (who_stay table players)) ≡ []
-    by_test true is rest = rest
-    by_test false is rest = rw is rest
+none_lent-stay table players = filter-none (is_lent table) (who_stay table players)
+    (list_all-filtered (λ player. not (is_lent table player)) players)
 
 -- Those who have nothing at rest at another table stay.
 pub lent_elsewhere-stay : (table other : ℕ) (players : List Seated) → (table == other) ≡ false
@@ -143,24 +129,18 @@ pub count_elsewhere-stay : (table other : ℕ) (players : List Seated) → (tabl
     → count_at (who_stay table players) other ≡ count_at players other
 count_elsewhere-stay table other players differ =
     let parts = count_apart (sits_at other) (is_lent table) players in
-    omega (arith, parts, none_left players)
+    omega (arith, parts, none_left)
   where
-    away : (sits stack : ℕ) → (sits == table && stack == 0) ≡ true → cond {A = ℕ} (sits == other) 1 0 ≡ 0
-    away sits stack lent = grind (arith, nat_tests)
+    away : (sits stack : ℕ) → not ((sits == table && stack == 0) && sits == other) ≡ true
+    away sits stack = grind (arith, nat_tests)
 
-    none_left : (players : List Seated) → count_by (sits_at other) (filter (is_lent table) players) ≡ 0
-    none_left [] = refl
-    none_left (player ∷ players) = by_test (is_lent table player) refl (none_left players)
-      where
-        by_test : (b : Bool) → is_lent table player ≡ b
-            → count_by (sits_at other) (filter (is_lent table) players) ≡ 0
-            → count_by (sits_at other) (cond b (player ∷ filter (is_lent table) players)
-            (filter (is_lent table) players)) ≡ 0
-        by_test true is rest =
-            let one = count_by-cons (sits_at other) player (filter (is_lent table) players) in
-            let none = away player.place.table player.stack is in
-            omega (arith, one, none, rest)
-        by_test false is rest = rest
+    none_left : count_by (sits_at other) (filter (is_lent table) players) ≡ 0
+    none_left =
+        sym (length-filter (sits_at other) (filter (is_lent table) players))
+        ∙ ap length (filter-filter (is_lent table) (sits_at other) players
+        ∙ filter-none (λ player. is_lent table player && sits_at other player) players
+        (list_all-always (λ (player : Seated). not (is_lent table player && sits_at other player)) players
+        (λ player. away player.place.table player.stack)))
 
 -- Those who leave have nothing, so the stacks at rest sum to the same.
 pub rest-stay : (table : ℕ) (players : List Seated)
@@ -168,16 +148,13 @@ pub rest-stay : (table : ℕ) (players : List Seated)
 rest-stay table [] = refl
 rest-stay table (player ∷ players) = by_test (is_lent table player) refl (rest-stay table players)
   where
-    nothing : (sits : Bool) (stack : ℕ) → (sits && stack == 0) ≡ true → stack ≡ 0
-    nothing sits stack lent = grind (arith, nat_tests)
-
     by_test : (b : Bool) → is_lent table player ≡ b → sum_by stack_of (who_stay table players)
         ≡ sum_by stack_of players
         → sum_by stack_of (cond (not b) (player ∷ who_stay table players) (who_stay table players))
         ≡ sum_by stack_of (player ∷ players)
     by_test true is rest =
         let one = sum_by-cons stack_of player players in
-        let none = nothing (sits_at table player) player.stack is in
+        let none = eqb-true player.stack 0 (and_parts (sits_at table player) (player.stack == 0) is).1 in
         omega (arith, one, none, rest)
     by_test false is rest =
         let one = sum_by-cons stack_of player players in
@@ -282,25 +259,21 @@ once_left entries table group leaving players busts once same = λ number.
 
 -- A group of players who go out is not later than itself.
 pub same_group : (group : ℕ) → nat_le group group ≡ true
-same_group group = grind (arith, nat_tests)
+same_group group = le-leb group group (omega arith)
 
 -- Nobody is in a later group than those who go out next where that number does not fall.
 pub past_later : (busts : List Bust) (group next : ℕ) → group ≤ next
     → list_all (λ bust. nat_le bust.group group) busts ≡ true → list_all (λ bust. nat_le bust.group next) busts ≡ true
-past_later [] group next most past = refl
-past_later (bust ∷ busts) group next most past =
-    let parts = and_parts (nat_le bust.group group) (list_all (λ bust. nat_le bust.group group) busts) past in
-    and_from _ _ (still bust.group group next most parts.0) (past_later busts group next most parts.1)
-  where
-    still : (one group next : ℕ) → group ≤ next → nat_le one group ≡ true → nat_le one next ≡ true
-    still one group next most past = grind (arith, nat_tests)
+past_later busts group next most past =
+    list_all-follows (λ (bust : Bust). nat_le bust.group group) (λ bust. nat_le bust.group next) busts
+    (λ bust is. le-leb bust.group next (omega (arith, leb-true bust.group group is))) past
 
 -- Where a group passes a test, so does that of each player who goes out in it.
 pub all_in_group : (test : ℕ → Bool) (group : ℕ) (leaving : List StartSeat) → test group ≡ true
     → list_all (λ (bust : Bust). test bust.group) (map (bust_of group) leaving) ≡ true
-all_in_group test group [] passes = refl
-all_in_group test group (starter ∷ leaving) passes =
-    and_from _ _ passes (all_in_group test group leaving passes)
+all_in_group test group leaving passes =
+    list_all-map (λ (bust : Bust). test bust.group) (bust_of group) leaving
+    ∙ list_all-always (λ (starter : StartSeat). test group) leaving (λ starter. passes)
 
 -- The groups do not fall once some more are out in the group of those who go out next, and that number does not fall.
 pub grouped_left : (group next : ℕ) (leaving : List StartSeat) (busts : List Bust) → group ≤ next

@@ -1,8 +1,7 @@
 -- A state is valid after any list of events.
-use Rattle.std.proofs.Common.{◌≡◌, refl, subst, ℕ, ◌+◌, ◌≤◌, Bool, true, false, List, [], ◌∷◌, arith}
+use Rattle.std.proofs.Common.{◌≡◌, refl, ℕ, ◌+◌, ◌≤◌, Bool, true, false, List, [], ◌∷◌, arith}
 use Rattle.std.specs.Prelude.{Option, Some, None, if◌then◌else◌}
 use Rattle.std.specs.Option.{option_map_or, ForSome}
-use Rattle.std.proofs.lemmas.Option.{same_Some}
 use Rattle.floor_text.specs.declared.refusal.Refusal.{Refusal}
 use Rattle.level_plan.specs.declared.line.PlanItem.{PlanItem}
 use Rattle.level_plan.specs.Drafts.{Draft, item_of_line, is_wrong_line, go_fault, plan_of, IsLawful}
@@ -14,7 +13,7 @@ use Rattle.tournament_rules.specs.Effects.{settled}
 use Rattle.tournament_rules.specs.States.{State, PlayState, first_state, first_play, hand_at, refusal_of, answered, answer_to, play_effect, accepted, is_accepted, state_after, run}
 use Rattle.tournament_rules.specs.Valid.{IsValidPlay, IsValidState}
 use Rattle.tournament_rules.proofs.Drafts.{lawful_empty, lawful_line, right_plan}
-use Rattle.tournament_rules.proofs.Plays.{play_keeps, valid_first_play}
+use Rattle.tournament_rules.proofs.Plays.{some_so, play_keeps, valid_first_play}
 
 -- An answer that tells a refusal, or that there is none, accepts where there is none.
 pub accepted_none : (refusal : Option Refusal) → is_accepted (answered refusal) ≡ true → refusal ≡ None
@@ -42,9 +41,6 @@ accepted_more play (events.Race table row) = omega arith
 accepted_more play (events.Hands on) = omega arith
 accepted_more play events.Round = omega arith
 accepted_more play events.Stop = omega arith
-
-some_so : {A : Type 0} (P : A → Type 0) (item : A) → P item → ForSome (Some item) P
-some_so P item so = λ found is. subst P (same_Some item found is) so
 
 -- An accepted line of a plan is not wrong.
 line_right : (wrong : Bool) (item : PlanItem) → is_accepted (if wrong then PlanWrong item else Ok) ≡ true

@@ -2,13 +2,13 @@
 use Rattle.std.proofs.Common.{◌≡◌, ◌≢◌, ◌∙◌, refl, sym, ap, ℕ, ◌+◌, ◌≤◌, Bool, true, false, cond, ◌==◌, ◌&&◌, ◌||◌, List, [], ◌∷◌, map, arith}
 use Rattle.std.specs.Prelude.{not, nat_lt, filter, count_by, Option, Some, None}
 use Rattle.std.specs.List.{list_all, list_any}
-use Rattle.std.specs.Option.{option_map_or, ForSome}
-use Rattle.std.proofs.lemmas.Bool.{and_parts, not-true, eqb-true, or_right}
-use Rattle.std.proofs.lemmas.Bool.Decides.{nat_tests}
+use Rattle.std.specs.Option.{option_map_or}
+use Rattle.std.proofs.lemmas.Bool.{and_parts, and_left, not-true, eqb-true, ltb-false, or_right}
 use Rattle.std.proofs.lemmas.List.Sums.{sum_by-insert}
 use Rattle.card_set.specs.declared.card.CardRow.{CardRow}
 use Rattle.rulebook.proofs.Found.{none-found}
-use Rattle.rulebook.proofs.Pairs.{first_alone}
+use Rattle.rulebook.proofs.Passing.{filter-none, list_any-none}
+use Rattle.rulebook.proofs.Sides.{first_alone, others_fail}
 use Rattle.rulebook.proofs.Tests.{at_most_one, none_by_count}
 use Rattle.button_blinds.specs.declared.marks.Marks.{Marks}
 use Rattle.seat_book.specs.declared.place.Place.{Place}
@@ -17,7 +17,6 @@ use Rattle.seat_book.specs.Places.{comes_before}
 use Rattle.seat_book.specs.Players.{sits_at, is_numbered, players_at, are_apart}
 use Rattle.seat_book.specs.Counts.{count_at, is_open}
 use Rattle.seat_book.specs.Tables.{status_at}
-use Rattle.seat_book.proofs.Passing.{filter-none}
 use Rattle.balance_rule.specs.Halting.{is_halted}
 use Rattle.table_engine.specs.declared.start.HandStart.{HandStart}
 use Rattle.table_engine.specs.declared.start.StartSeat.{StartSeat}
@@ -72,11 +71,9 @@ lent_sits number table (player ∷ players) among = by_test (is_lent table playe
 none_sits : (number table : ℕ) (players : List Seated) → list_all (λ other. not (is_numbered number other)) players
     ≡ true
     → list_any (sits_numbered number table) players ≡ false
-none_sits number table [] none = refl
-none_sits number table (player ∷ players) none =
-    let parts = and_parts (not (is_numbered number player)) (list_all (λ other. not (is_numbered number other)) players)
-    none in
-    rw (not-true _ parts.0) (none_sits number table players parts.1)
+none_sits number table players none =
+    list_any-none (λ (other : Seated). not (is_numbered number other)) (sits_numbered number table) players
+    (λ other differs. and_left (is_numbered number other) (sits_at table other) (not-true _ differs)) none
 
 -- A number sits at one table.
 one_table : (number table other : ℕ) (players : List Seated) → are_apart players ≡ true
@@ -124,10 +121,7 @@ one_hand book number table other valid here there =
 
 nobody_there : (book : BookState) (table : ℕ) → is_open book.seating.players table ≡ false
     → count_at book.seating.players table ≡ 0
-nobody_there book table closed = zero_of (count_at book.seating.players table) closed
-  where
-    zero_of : (count : ℕ) → nat_lt 0 count ≡ false → count ≡ 0
-    zero_of count none = grind (arith, nat_tests)
+nobody_there book table closed = omega (arith, ltb-false 0 (count_at book.seating.players table) closed)
 
 -- Nobody is listed at a table that is not open.
 pub no_players : (book : BookState) (table : ℕ) → is_open book.seating.players table ≡ false
@@ -149,25 +143,22 @@ no_hand book table valid closed = none-found (start_at book.out table) no_start
 -- A table that is not open has no marks.
 pub no_marks : (book : BookState) (table : ℕ) → IsValid book → is_open book.seating.players table ≡ false
     → (status_at book.seating.tables table).marks ≡ None
-no_marks book table valid closed = by_marks (status_at book.seating.tables table).marks (valid.marked table)
+no_marks book table valid closed = none-found (status_at book.seating.tables table).marks never
   where
-    by_marks : (marks : Option Marks) → ForSome marks (λ marks. 1 ≤ count_at book.seating.players table)
-        → marks ≡ None
-    by_marks None marked = refl
-    by_marks (Some marks) marked =
-        let one = marked marks refl in
+    never : (marks : Marks) → (status_at book.seating.tables table).marks ≡ Some marks → ⊥
+    never marks is =
+        let one = valid.marked table marks is in
         let none = nobody_there book table closed in
         absurd (omega (arith, one, none))
 
 -- No race is pending at a table that is not open.
 pub no_race : (book : BookState) (table : ℕ) → IsValid book → is_open book.seating.players table ≡ false
     → (status_at book.seating.tables table).race ≡ None
-no_race book table valid closed = by_race (status_at book.seating.tables table).race (valid.units.due table)
+no_race book table valid closed = none-found (status_at book.seating.tables table).race never
   where
-    by_race : (race : Option ℕ) → ForSome race (λ unit. 1 ≤ count_at book.seating.players table) → race ≡ None
-    by_race None due = refl
-    by_race (Some unit) due =
-        let one = due unit refl in
+    never : (unit : ℕ) → (status_at book.seating.tables table).race ≡ Some unit → ⊥
+    never unit is =
+        let one = valid.units.due table unit is in
         let none = nobody_there book table closed in
         absurd (omega (arith, one, none))
 
@@ -195,8 +186,9 @@ entered_few state play name table seat other is accepted could =
     let fewest = no_table (λ other. may_be_entered book other
     && nat_lt (count_at book.seating.players other) (count_at book.seating.players table)) book.plan.tables other
     may.fewest (record { first = range.0; last = range.1 }) in
-    let few = no_fewer (may_be_entered book other) (count_at book.seating.players other)
-    (count_at book.seating.players table) could fewest in
+    let few = ltb-false (count_at book.seating.players other) (count_at book.seating.players table)
+    (others_fail (may_be_entered book other) (nat_lt (count_at book.seating.players other)
+    (count_at book.seating.players table)) fewest could) in
     let new = newcomer book name table seat in
     let behind = count_by (λ other. comes_before other.place new.place) book.seating.players in
     let here = sum_by-insert (λ player. cond {A = ℕ} (sits_at table player) 1 0) book.seating.players behind new in
@@ -209,9 +201,6 @@ entered_few state play name table seat other is accepted could =
     let now = ap (λ (players : List Seated). count_at players table) after in
     let then = ap (λ (players : List Seated). count_at players other) after in
     omega (arith, few, here, there, one, now, then)
-  where
-    no_fewer : (may : Bool) (count mine : ℕ) → may ≡ true → (may && nat_lt count mine) ≡ false → mine ≤ count
-    no_fewer may count mine could none = grind (arith, nat_tests)
 
 -- Nobody sits at a table that an accepted break broke.
 pub left_after : (state : State) (play : PlayState) (table : ℕ) (places : List Place) (names : List (List ℕ))

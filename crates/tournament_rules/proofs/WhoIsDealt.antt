@@ -2,48 +2,37 @@
 use Rattle.std.proofs.Common.{◌≡◌, ◌⊎◌, ◌∙◌, refl, sym, ap, subst, ℕ, suc, ◌+◌, ◌≤◌, Bool, true, false, cond, ◌==◌, ◌&&◌, List, [], ◌∷◌, map, length, inl, inr, arith}
 use Rattle.std.specs.Prelude.{not, count_by, filter}
 use Rattle.std.specs.List.{list_all, list_any}
-use Rattle.std.proofs.lemmas.Bool.{and_parts, and_from, or_left, or_right, or_cases, cases_Bool, eq-eqb, eqb-true}
+use Rattle.std.proofs.lemmas.Bool.{and_parts, and_from, or_left, or_right, or_cases, eq-eqb, eqb-true}
+use Rattle.std.proofs.lemmas.List.{length-map}
+use Rattle.std.proofs.lemmas.List.Sums.{length-filter}
 use Rattle.rulebook.specs.Pairs.{are_rising, are_distinct}
-use Rattle.rulebook.proofs.Tests.{list_all-filter, eqb-swap, list_all-kept, count_by-cons}
+use Rattle.rulebook.proofs.Pairs.{is_pairwise-follows, is_pairwise-kept, is_pairwise-map}
+use Rattle.rulebook.proofs.Tests.{list_all-filter, eqb-swap, list_all-kept, count_by-cons, list_all-filtered}
+use Rattle.std.proofs.lemmas.List.Folds.{list_all-map}
 use Rattle.button_blinds.specs.SeatSets.{no_seats, has_seat, with_seat, with_seats, seat_count}
 use Rattle.button_blinds.proofs.SeatSetLaws.{has_seat-with_seat, no_seats-none}
 use Rattle.button_blinds.proofs.Distances.{dominated}
 use Rattle.seat_book.specs.declared.seated.Seated.{Seated}
-use Rattle.seat_book.specs.Places.{comes_before}
-use Rattle.seat_book.specs.Players.{sits_at, is_numbered, taken_seats, places_of, are_in_order, are_apart}
+use Rattle.seat_book.specs.Players.{sits_at, taken_seats, are_in_order, are_apart}
 use Rattle.seat_book.proofs.TakenSeats.{sits_in_seats, seats_at, seats_rise, taken_count}
 use Rattle.table_engine.specs.declared.start.StartSeat.{StartSeat}
 use Rattle.tournament_rules.specs.Players.{start_seat, is_dealt_in, dealt_seats}
+use Rattle.tournament_rules.proofs.SitDown.{sits_before, differs, in_order-pairs, apart-pairs}
 
 -- some of the players are in order too
 ordered_filter : (keep : Seated → Bool) (players : List Seated) → are_in_order players ≡ true
     → are_in_order (filter keep players) ≡ true
-ordered_filter keep [] ordered = refl
-ordered_filter keep (player ∷ players) ordered =
-    let parts = and_parts (list_all (comes_before player.place) (places_of players)) (are_in_order players) ordered in
-    let rest = ordered_filter keep players parts.1 in
-    elim (cases_Bool (keep player)) [
-      | inl kept ↦ rw kept (and_from _ _
-          (list_all-filter (comes_before player.place) (λ player. player.place) keep players parts.0) rest)
-      | inr left ↦ rw left rest
-    ]
+ordered_filter keep players ordered =
+    in_order-pairs (filter keep players)
+    ∙ is_pairwise-kept sits_before keep players (sym (in_order-pairs players) ∙ ordered)
 
 -- Where no two players have one number, their numbers are distinct.
 pub numbers_distinct : (players : List Seated) → are_apart players ≡ true
     → are_distinct (λ one other. one == other) (map (λ player. player.player) players) ≡ true
-numbers_distinct [] apart = refl
-numbers_distinct (player ∷ players) apart =
-    let parts = and_parts (list_all (λ other. not (is_numbered player.player other)) players) (are_apart players)
-    apart in
-    and_from _ _ (others players parts.0) (numbers_distinct players parts.1)
-  where
-    others : (players : List Seated) → list_all (λ other. not (is_numbered player.player other)) players ≡ true
-        → list_all (λ other. not (player.player == other)) (map (λ player. player.player) players) ≡ true
-    others [] none = refl
-    others (next ∷ players) none =
-        let parts = and_parts (not (is_numbered player.player next))
-        (list_all (λ other. not (is_numbered player.player other)) players) none in
-        and_from _ _ (ap not (eqb-swap player.player next.player) ∙ parts.0) (others players parts.1)
+numbers_distinct players apart =
+    is_pairwise-map (λ (one other : ℕ). not (one == other)) (λ (player : Seated). player.player) players
+    ∙ is_pairwise-follows differs (λ (one other : Seated). not (one.player == other.player)) players
+    (λ one other is. ap not (eqb-swap one.player other.player) ∙ is) (sym (apart-pairs players) ∙ apart)
 
 -- What of a player of a start is as it was of him who is dealt in, is so of all who are.
 pub keys_dealt : {K : Type 0} (key : StartSeat → K) (of : Seated → K)
@@ -121,21 +110,11 @@ from_other set other (next ∷ seats) before all seat there =
 all_wait : (table : ℕ) (waiting : List Bool) (players : List Seated)
     → list_all (has_seat waiting) (seats_at table (filter (λ player. has_seat waiting player.place.seat) players))
     ≡ true
-all_wait table waiting players = list_all-filter (has_seat waiting) (λ player. player.place.seat) (sits_at table)
-    (filter (λ player. has_seat waiting player.place.seat) players) (kept players)
-  where
-    step : (player : Seated) (found : List Seated) (b : Bool) → has_seat waiting player.place.seat ≡ b
-        → list_all (has_seat waiting) (map (λ player. player.place.seat) found) ≡ true
-        → list_all (has_seat waiting) (map (λ player. player.place.seat) (cond b (player ∷ found) found)) ≡ true
-    step player found true waits rest = rw (waits, rest) refl
-    step player found false waits rest = rest
-
-    kept : (players : List Seated)
-        → list_all (has_seat waiting) (map (λ player. player.place.seat)
-        (filter (λ player. has_seat waiting player.place.seat) players)) ≡ true
-    kept [] = refl
-    kept (player ∷ players) = step player (filter (λ player. has_seat waiting player.place.seat) players)
-        (has_seat waiting player.place.seat) refl (kept players)
+all_wait table waiting players =
+    let waits : Seated → Bool = λ player. has_seat waiting player.place.seat in
+    list_all-filter (has_seat waiting) (λ player. player.place.seat) (sits_at table) (filter waits players)
+    (list_all-map (has_seat waiting) (λ player. player.place.seat) (filter waits players)
+    ∙ list_all-filtered waits players)
 
 -- no more players wait at a table than seats
 few_wait : (table : ℕ) (waiting : List Bool) (players : List Seated) → are_in_order players ≡ true
@@ -179,16 +158,9 @@ dealt_or_waits table waiting (player ∷ players) =
 
 length_dealt : (table : ℕ) (waiting : List Bool) (players : List Seated)
     → length (dealt_seats table waiting players) ≡ count_by (is_dealt_in table waiting) players
-length_dealt table waiting [] = refl
-length_dealt table waiting (player ∷ players) =
-    let one = count_by-cons (is_dealt_in table waiting) player players in
-    let here = step player (filter (is_dealt_in table waiting) players) (is_dealt_in table waiting player) in
-    omega (arith, one, here, length_dealt table waiting players)
-  where
-    step : (player : Seated) (found : List Seated) (b : Bool)
-        → length (map start_seat (cond b (player ∷ found) found)) ≡ cond b 1 0 + length (map start_seat found)
-    step player found true = omega arith
-    step player found false = omega arith
+length_dealt table waiting players =
+    length-map (filter (is_dealt_in table waiting) players) start_seat
+    ∙ length-filter (is_dealt_in table waiting) players
 
 -- Who sits at a table is dealt in, but for as many as there are seats that wait.
 pub most_dealt : (table : ℕ) (waiting : List Bool) (players : List Seated) → are_in_order players ≡ true

@@ -1,5 +1,5 @@
 -- Who is out sits nowhere, is in no hand and makes no act.
-use Rattle.std.proofs.Common.{◌≡◌, ◌≢◌, ◌∙◌, refl, sym, ap, ℕ, Bool, true, false, cond, ◌||◌, List, [], ◌∷◌, map, get_or, arith}
+use Rattle.std.proofs.Common.{◌≡◌, ◌≢◌, ◌∙◌, refl, sym, ap, ℕ, Bool, true, false, cond, List, [], ◌∷◌, map, get_or, arith}
 use Rattle.std.specs.Prelude.{not, filter, count_by, slice_get, Option, Some, None, option_map, option_and_then}
 use Rattle.std.specs.List.{list_all, list_any, All}
 use Rattle.std.specs.Str.{bytes_eq}
@@ -7,7 +7,7 @@ use Rattle.std.proofs.lemmas.Bool.{and_parts, not-true, eq-eqb}
 use Rattle.std.proofs.lemmas.List.Elements.{All-head, All-tail}
 use Rattle.rulebook.specs.Pairs.{are_distinct}
 use Rattle.rulebook.proofs.Checks.{none_holds}
-use Rattle.rulebook.proofs.Tests.{some_there, none_by_count}
+use Rattle.rulebook.proofs.Tests.{some_there, list_any-made, none_by_count}
 use Rattle.card_set.specs.declared.card.Card.{Card}
 use Rattle.betting_round.specs.declared.act.Act.{Act}
 use Rattle.place_list.proofs.Counts.{count_by-some}
@@ -88,9 +88,7 @@ none_named entries number name test (player ∷ players) distinct is named other
 
 any_name_without : (name : List ℕ) (starters : List StartSeat)
     → list_any (has_name name) (map without_stack starters) ≡ list_any (has_name name) starters
-any_name_without name [] = refl
-any_name_without name (starter ∷ starters) =
-    ap (λ (b : Bool). bytes_eq starter.name name || b) (any_name_without name starters)
+any_name_without name starters = list_any-made (has_name name) without_stack starters
 
 -- Who has no seat is not dealt in under his name either.
 name_in_no_hand : (book : BookState) (table number : ℕ) (name : List ℕ) → IsValid book

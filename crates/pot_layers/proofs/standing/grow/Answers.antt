@@ -1,8 +1,9 @@
 use Rattle.std.proofs.Common.{◌≡◌, ◌∙◌, get_or, length, ap, arith}
 use Rattle.std.proofs.lemmas.List.{get_or_default}
 use Rattle.std.proofs.lemmas.List.Edits.{map_over_more}
+use Rattle.rulebook.proofs.Rewrites.{rewritten-here}
 use Rattle.pot_layers.specs.Standings.{grown}
-use Rattle.pot_layers.proofs.Raised.{no_standing, total-within, at-turn, length-at_turn}
+use Rattle.pot_layers.proofs.Raised.{no_standing, total-within, length-at_turn}
 use Rattle.pot_layers.proofs.standing.grow.Goals as goal
 
 pub grown-requires-clause-fits : goal.grown-requires-clause-fits
@@ -10,8 +11,8 @@ grown-requires-clause-fits c =
     let same : get_or c.loop-index.standings c.loop-index.index no_standing
     ≡ get_or c.args.standings.now c.loop-index.index no_standing =
     ap (λ s. get_or s c.loop-index.index no_standing) c.loop-index.invariant
-    ∙ at-turn (grown c.args.before c.args.after) c.args.standings.now c.loop-index.index no_standing
-    (omega arith) in
+    ∙ rewritten-here (grown c.args.before c.args.after) c.args.standings.now c.args.standings.now c.loop-index.index
+    no_standing (omega arith) (omega arith) in
     let within = total-within c.args.standings.now c.loop-index.index c.requires.right in
     rw same (omega (arith, within, c.requires.fits))
 

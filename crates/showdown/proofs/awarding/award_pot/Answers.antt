@@ -1,8 +1,7 @@
 use Rattle.std.proofs.Common.{◌≡◌, ◌∙◌, ◌≤◌, ℕ, List, true, false, length, ap, sym, subst, arith}
 use Rattle.std.specs.Prelude.{◌==◌, ◌||◌, sum}
 use Rattle.std.specs.List.{list_all}
-use Rattle.std.proofs.lemmas.Bool.{or_right}
-use Rattle.std.proofs.lemmas.Bool.Decides.{nat_tests}
+use Rattle.std.proofs.lemmas.Bool.{eq-eqb, ne_eqb, or_right}
 use Rattle.button_blinds.specs.SeatSets.{seat_count}
 use Rattle.pot_layers.specs.Layers.{are_same_seats}
 use Rattle.pot_layers.specs.Shares.{high_half, low_half}
@@ -16,12 +15,6 @@ use Rattle.showdown.proofs.SameSeats.{pointwise-same}
 use Rattle.showdown.proofs.awarding.award_pot.Goals.{then-count-eq0-via-then-count-eq0, then-count-eq0-via-else-count-eq0+then-eq}
 use Rattle.showdown.proofs.awarding.award_pot.Goals as goal
 
-zero-count : (n count : ℕ) → count ≡ n → count ≡ 0 → (n == 0) ≡ true
-zero-count n count is none = grind (arith, nat_tests)
-
-some-count : (n count : ℕ) → count ≡ n → (count ≡ 0 → ⊥) → (n == 0) ≡ false
-some-count n count is some = grind (arith, nat_tests)
-
 pub returns-then-count-eq0 : goal.returns-then-count-eq0
 returns-then-count-eq0 c =
     let highs = c.winners-highs.ensures ∙ ap (winners High) c.in_play-rivals.ensures.rivals in
@@ -31,7 +24,7 @@ returns-then-count-eq0 c =
     (winners Low (in_play c.args.pot.eligible c.args.hands.now))) ≡ true =
     rw (← highs, ← lows) (elim c.then-count-eq0.branch [
       | then-count-eq0-via-then-count-eq0 w ↦
-          rw (zero-count (seat_count c.winners-lows.result) c.count.result c.count.ensures.count w.if-count-eq0.true)
+          rw (eq-eqb (seat_count c.winners-lows.result) 0 (sym c.count.ensures.count ∙ w.if-count-eq0.true))
       | then-count-eq0-via-else-count-eq0+then-eq w ↦
           or_right (seat_count c.winners-lows.result == 0) (are_same_seats c.winners-highs.result c.winners-lows.result)
           (sym (pointwise-same c.winners-highs.result c.winners-lows.result) ∙ sym w.eq.ensures ∙ w.if-eq.true)
@@ -84,7 +77,7 @@ returns c =
     (winners High (in_play c.args.pot.eligible c.args.hands.now))
     (winners Low (in_play c.args.pot.eligible c.args.hands.now))) ≡ false =
     rw (← highs, ← lows)
-    (rw (some-count (seat_count c.winners-lows.result) c.count.result c.count.ensures.count c.if-count-eq0.false)
+    (rw (ne_eqb (seat_count c.winners-lows.result) 0 (λ none. c.if-count-eq0.false (c.count.ensures.count ∙ none)))
     (sym (pointwise-same c.winners-highs.result c.winners-lows.result) ∙ sym c.eq.ensures ∙ c.if-eq.false)) in
     c.split-3.ensures
     ∙ ap (λ (n : ℕ). split n c.args.unit c.split-2.new.awards c.as_slice-3.result.now) c.halves-high.ensures.low

@@ -1,9 +1,10 @@
 use Rattle.std.proofs.Common.{◌∙◌, [], ap, refl, arith}
 use Rattle.std.specs.Prelude.{map}
 use Rattle.std.specs.Option.{is_some}
+use Rattle.rulebook.proofs.Found.{somes-made}
 use Rattle.betting_round.specs.declared.street.Street.{Street}
 use Rattle.betting_round.specs.StreetActs.{at_next_street}
-use Rattle.table_engine.proofs.Standings.{at-next, ready-start, right-next, somes-made, somes-street}
+use Rattle.table_engine.proofs.Standings.{at-next, ready-start, right-next, somes-street}
 use Rattle.table_engine.proofs.standing.Standing.begin_next.Goals as goal
 
 pub start-requires : goal.start-requires

@@ -1,10 +1,11 @@
 use Rattle.std.proofs.Common.{◌∙◌, [], ap, refl, arith}
 use Rattle.std.specs.Prelude.{map}
 use Rattle.std.specs.Option.{is_some}
+use Rattle.rulebook.proofs.Found.{somes-made}
 use Rattle.betting_round.specs.declared.street.Street.{Street}
 use Rattle.table_engine.specs.Hands.{lacking, players_by_seat, seated}
 use Rattle.table_engine.proofs.BySeat.{sum-of_start}
-use Rattle.table_engine.proofs.Standings.{ready-start, somes-made, somes-street}
+use Rattle.table_engine.proofs.Standings.{ready-start, somes-street}
 use Rattle.table_engine.proofs.Starts.{few-lacking, right-first}
 use Rattle.table_engine.proofs.standing.Standing.first.Goals as goal
 
