@@ -16,7 +16,7 @@ use Rattle.history_lock.specs.declared.view.View.{View}
 use Rattle.history_lock.specs.Entries.{entries_by}
 use Rattle.history_lock.specs.Views.{Each, AtLeastOne, HasView}
 use Rattle.history_lock.specs.Passes.{pass_number, seen, own, share_of}
-use Rattle.history_lock.specs.Rule.{IsKept}
+use Rattle.history_lock.specs.Rule.{IsKept, IsKeptShare}
 use Rattle.history_lock.proofs.Lists.{each_map, all_of_each, two_le_sum_by}
 use Rattle.history_lock.proofs.Frames.{shares_of, same_view}
 
@@ -59,8 +59,7 @@ module _ {Val E : Type 0} (history : Val → List E) (caller_of : E → ℕ) (n 
       (λ ne. false_from_ne_true a.served (λ is. let t = r.served.ticket j a h is in let i =
       r.spent j a h (none_left j a ne h) in absurd (cc (t, i)))) in
       let home = r.slot.home quiet in
-      let Own : Share E → Type 0 = λ z. (z.number < n) × (r.keeper z.number ≡ id)
-      × (z.own ≡ entries_by caller_of z.number r.now) in (
+      let Own : Share E → Type 0 = IsKeptShare caller_of n r.now r.keeper id in (
         home.0,
         f.4 0 (Some home.0) (ap (λ hs. get_elem? hs 0) home.1),
         record {

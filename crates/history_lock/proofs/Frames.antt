@@ -10,7 +10,7 @@ use Rattle.history_lock.specs.declared.view.View.{View}
 use Rattle.history_lock.specs.declared.grows.TheConstants.{OPENER}
 use Rattle.history_lock.specs.Entries.{entries_by}
 use Rattle.history_lock.specs.Views.{Each, AtLeastOne, HasView, waiting, share_count}
-use Rattle.history_lock.specs.Rule.{TicketsAreInRange, NowIsLongest, NumbersAreKept, OneIsServed, SpentIsIdle}
+use Rattle.history_lock.specs.Rule.{TicketsAreInRange, NowIsLongest, IsKeptShare, NumbersAreKept, OneIsServed, SpentIsIdle}
 use Rattle.history_lock.proofs.Lists.{within, each_set, each_map, sum_by-set}
 use Rattle.history_lock.proofs.Prefixes.{prefix_trans, prefix_length}
 
@@ -128,10 +128,8 @@ module _ {E : Type 0} where
       → Each (λ (e : E). (caller_of e < n) ⊎ (caller_of e ≡ OPENER)) now'
       → NumbersAreKept caller_of n now keeper views → NumbersAreKept caller_of n now' keeper (set views id w)
   numbers_stay caller_of n now now' keeper views id v w x y at has has' number own rest all r =
-      let P : ℕ → Share E → Type 0 = λ j z. (z.number < n) × (keeper z.number ≡ j)
-      × (z.own ≡ entries_by caller_of z.number now) in
-      let Q : ℕ → Share E → Type 0 = λ j z. (z.number < n) × (keeper z.number ≡ j)
-      × (z.own ≡ entries_by caller_of z.number now') in
+      let P : ℕ → Share E → Type 0 = IsKeptShare caller_of n now keeper in
+      let Q : ℕ → Share E → Type 0 = IsKeptShare caller_of n now' keeper in
       let mine : P id x = (subst (Each (P id)) has (r.own id v at)).0 in record {
         kept = λ k l. let t = r.kept k l in dite (ℕ_discrete (keeper k) id)
             (λ e. let is : t.0 ≡ v = same_view views id t.0 v (subst (λ j. HasView views j t.0) e t.1) at in

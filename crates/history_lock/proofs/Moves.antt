@@ -15,7 +15,7 @@ use Rattle.history_lock.specs.declared.view.View.{View}
 use Rattle.history_lock.specs.declared.grows.TheConstants.{OPENER}
 use Rattle.history_lock.specs.Entries.{entries_by}
 use Rattle.history_lock.specs.Views.{Each, HasView, first_share}
-use Rattle.history_lock.specs.Rule.{IsKept, SlotIsRight, OneIsServed}
+use Rattle.history_lock.specs.Rule.{IsKept, IsKeptShare, SlotIsRight, OneIsServed}
 use Rattle.history_lock.specs.Steps.{drew, looked, IsFound, served_view, share_left, published, passed_on, counted}
 use Rattle.history_lock.proofs.Lists.{within, each_set, each_append, each_map}
 use Rattle.history_lock.proofs.Prefixes.{prefix_self, prefix_length, drop_append, entries_by_grown, entries_by_kept}
@@ -33,12 +33,9 @@ module _ {Val E : Type 0} (history : Val → List E) (caller_of : E → ℕ) (n 
   Rule = IsKept history caller_of n
 
   -- the share of a pass, as the rule has it
-  abbrev Owned : List E → (ℕ → ℕ) → ℕ → Share E → Type 0
-  Owned now keeper j z = (z.number < n) × (keeper z.number ≡ j) × (z.own ≡ entries_by caller_of z.number now)
-
   owned : (s : St) (r : Rule s) (id : ℕ) (v : View E) (x : Share E) → HasView s.views id v → v.shares ≡ x ∷ []
-      → Owned r.now r.keeper id x
-  owned s r id v x at has = (subst (Each (Owned r.now r.keeper id)) has (r.numbers.own id v at)).0
+      → IsKeptShare caller_of n r.now r.keeper id x
+  owned s r id v x at has = (subst (Each (IsKeptShare caller_of n r.now r.keeper id)) has (r.numbers.own id v at)).0
 
   begins : (s : St) (r : Rule s) (id : ℕ) (v : View E) (x : Share E) → HasView s.views id v → v.shares ≡ x ∷ []
       → IsPrefix x.seen r.now

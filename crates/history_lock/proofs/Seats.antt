@@ -12,7 +12,7 @@ use Rattle.history_lock.specs.declared.view.View.{View}
 use Rattle.history_lock.specs.declared.grows.TheConstants.{OPENER}
 use Rattle.history_lock.specs.Entries.{entries_by}
 use Rattle.history_lock.specs.Views.{Each, AtLeastOne, HasView, share_count, view_of, spent_view, shares_from, opening_view, further_shares, only_first}
-use Rattle.history_lock.specs.Rule.{IsKept, NowIsLongest, NumbersAreKept}
+use Rattle.history_lock.specs.Rule.{IsKept, IsKeptShare, NowIsLongest, NumbersAreKept}
 use Rattle.history_lock.specs.Steps.{arrived}
 use Rattle.history_lock.proofs.Lists.{within, each_set, each_append, each_map, at_push, least_append_left, least_append_right, each_both, put, put_here, put_else, turn, turn_here, turn_else}
 use Rattle.history_lock.proofs.Prefixes.{prefix_self, entries_by_other}
@@ -43,8 +43,7 @@ module _ {E : Type 0} where
   numbers_push : (caller_of : E → ℕ) (n : ℕ) (now : List E) (keeper : ℕ → ℕ) (views : List (View E))
       → NumbersAreKept caller_of n now keeper views → NumbersAreKept caller_of n now keeper (views ++ spent_view ∷ [])
   numbers_push caller_of n now keeper views r =
-      let P : ℕ → Share E → Type 0 = λ j z. (z.number < n) × (keeper z.number ≡ j)
-      × (z.own ≡ entries_by caller_of z.number now) in record {
+      let P : ℕ → Share E → Type 0 = IsKeptShare caller_of n now keeper in record {
         kept = λ k l. let t = r.kept k l in (t.0, at_longer views (spent_view ∷ []) (keeper k) t.0 t.1, t.2);
         own = λ j a h. ⊎_elim (λ o. r.own j a o)
             (λ (q : (j ≡ length views) × (spent_view ≡ a)). subst (λ (z : View E). Each (P j) z.shares) q.1 tt)
@@ -114,7 +113,7 @@ module _ {Val E : Type 0} (history : Val → List E) (caller_of : E → ℕ) (n 
 
   -- a share that stands in the j-th view
   abbrev Owned : List E → (ℕ → ℕ) → ℕ → Share E → Type 0
-  Owned now keeper j z = (z.number < n) × (keeper z.number ≡ j) × (z.own ≡ entries_by caller_of z.number now)
+  Owned = IsKeptShare caller_of n
 
   -- a pass with the first share is split off
   pub splits : (id : ℕ) (v : View E) (x : Share E) (rest : List (Share E)) → v.shares ≡ x ∷ rest

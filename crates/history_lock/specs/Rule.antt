@@ -32,15 +32,18 @@ module _ {E : Type 0} where
     pub is_seen : (j : ℕ) × (v : View E) × HasView views j v × AtLeastOne (λ (x : Share E). x.seen ≡ now) v.shares
     pub known : (j : ℕ) (v : View E) → HasView views j v → v.known ≤ length now
 
-  -- Each of the n numbers has one share, in the view that keeps it. Its own list is what `now` has of this number. All
-  -- other entries are the opener's.
+  -- A share of the j-th view has one of the n numbers, which this view keeps. Its own list is what `now` has of this
+  -- number.
+  abbrev pub IsKeptShare : (E → ℕ) → ℕ → List E → (ℕ → ℕ) → ℕ → Share E → Type 0
+  IsKeptShare caller_of n now keeper j share = (share.number < n) × (keeper share.number ≡ j)
+      × (share.own ≡ entries_by caller_of share.number now)
+
+  -- Each of the n numbers has one share, in the view that keeps it. All other entries are the opener's.
   pub record NumbersAreKept (caller_of : E → ℕ) (n : ℕ) (now : List E) (keeper : ℕ → ℕ) (views : List (View E))
       : Type 0 where
     pub kept : (k : ℕ) → k < n → (v : View E) × HasView views (keeper k) v
         × AtLeastOne (λ (x : Share E). x.number ≡ k) v.shares
-    pub own : (j : ℕ) (v : View E) → HasView views j v
-        → Each (λ (x : Share E). (x.number < n) × (keeper x.number ≡ j)
-        × (x.own ≡ entries_by caller_of x.number now)) v.shares
+    pub own : (j : ℕ) (v : View E) → HasView views j v → Each (IsKeptShare caller_of n now keeper j) v.shares
     pub once : share_count views ≡ n
     pub others : Each (λ (e : E). (caller_of e < n) ⊎ (caller_of e ≡ OPENER)) now
 
