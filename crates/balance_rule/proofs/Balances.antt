@@ -68,19 +68,19 @@ count-lifted number seated (first ∷ players) table apart is =
         omega (arith, rest, before, now)
 
 -- who moves from a table to another, by the balance of the two
-record Moves (seating : Seating) (from to : ℕ) (order : Move) (seated : Seated) : Type 0 where
-  found : player_of seating.players order.player ≡ Some seated
+record Moves (seating : Seating) (from to : ℕ) (move_ : Move) (seated : Seated) : Type 0 where
+  found : player_of seating.players move_.player ≡ Some seated
   left : seated.place.table ≡ from
-  taken : order.to.table ≡ to
+  taken : move_.to.table ≡ to
 
-mover : (seating : Seating) (from to : ℕ) (order : Move) → IsSeating seating → balance_move seating from to ≡ Some order
-    → (seated : Seated) × Moves seating from to order seated
-mover seating from to order lawful is =
+mover : (seating : Seating) (from to : ℕ) (move_ : Move) → IsSeating seating → balance_move seating from to ≡ Some move_
+    → (seated : Seated) × Moves seating from to move_ seated
+mover seating from to move_ lawful is =
     by_parts (next_big_player seating from) refl (worst_empty_seat seating to)
     is
   where
     by_parts : (found : Option Seated) → next_big_player seating from ≡ found → (seat : Option ℕ)
-        → move_to to found seat ≡ Some order → (seated : Seated) × Moves seating from to order seated
+        → move_to to found seat ≡ Some move_ → (seated : Seated) × Moves seating from to move_ seated
     by_parts None sits seat moves = absurd cc
     by_parts (Some seated) sits None moves = absurd cc
     by_parts (Some seated) sits (Some seat) moves =
@@ -91,70 +91,70 @@ mover seating from to order lawful is =
           to =
               record { table = to; seat = seat };
         } in
-        let same : carried ≡ order = cc in
-        let number : order.player ≡ seated.player = ap (λ (order : Move). order.player) (sym same) in
+        let same : carried ≡ move_ = cc in
+        let number : move_.player ≡ seated.player = ap (λ (move_ : Move). move_.player) (sym same) in
         let there = found-place seating.players place seated sits in (
           seated,
           record {
             found = ap (player_of seating.players) number
                 ∙ found-numbered (sits_in place) seating.players seated lawful.apart sits;
             left = ap (λ (place : Place). place.table) there;
-            taken = ap (λ (order : Move). order.to.table) (sym same);
+            taken = ap (λ (move_ : Move). move_.to.table) (sym same);
           },
         )
 
 -- the counts after a move
-count-after : (seating : Seating) (from to : ℕ) (order : Move) (table : ℕ) → IsSeating seating
-    → balance_move seating from to ≡ Some order
-    → count_at (after_move order seating).players table + cond (from == table) 1 0
+count-after : (seating : Seating) (from to : ℕ) (move_ : Move) (table : ℕ) → IsSeating seating
+    → balance_move seating from to ≡ Some move_
+    → count_at (after_move move_ seating).players table + cond (from == table) 1 0
     ≡ count_at seating.players table + cond (to == table) 1 0
-count-after seating from to order table lawful is =
-    let moved = mover seating from to order lawful is in
+count-after seating from to move_ table lawful is =
+    let moved = mover seating from to move_ lawful is in
     let seated = moved.0 in
-    let parts = find-passes (is_numbered order.player) seating.players seated moved.1.found in
-    let number : seated.player ≡ order.player = eqb-true seated.player order.player parts in
-    let players = ap (λ found. count_at (reseated order found seating.players) table) moved.1.found in
-    let down = count-down (record seated { place = order.to }) (lifted seated.player seating.players) table in
+    let parts = find-passes (is_numbered move_.player) seating.players seated moved.1.found in
+    let number : seated.player ≡ move_.player = eqb-true seated.player move_.player parts in
+    let players = ap (λ found. count_at (reseated move_ found seating.players) table) moved.1.found in
+    let down = count-down (record seated { place = move_.to }) (lifted seated.player seating.players) table in
     let up = count-lifted seated.player seated seating.players table lawful.apart
     (ap (player_of seating.players) number ∙ moved.1.found) in
     let left : one_at seated.place table ≡ cond (from == table) 1 0 =
     ap (λ (n : ℕ). cond {A = ℕ} (n == table) 1 0) moved.1.left in
-    let taken : one_at order.to table ≡ cond (to == table) 1 0 =
+    let taken : one_at move_.to table ≡ cond (to == table) 1 0 =
     ap (λ (n : ℕ). cond {A = ℕ} (n == table) 1 0) moved.1.taken in
     omega (arith, players, down, up, left, taken)
 
-module _ (seating : Seating) (from to : ℕ) (order : Move) (valid : IsSeating seating)
-    (lawful : IsLawfulMove seating (Balance from to order)) where
+module _ (seating : Seating) (from to : ℕ) (move_ : Move) (valid : IsSeating seating)
+    (lawful : IsLawfulMove seating (Balance from to move_)) where
   differ : from ≢ to
   differ same = let count = ap (count_at seating.players) same in omega (arith, count, lawful.lawful.gap)
 
   -- The one table has one player fewer after a lawful balance.
-  pub gives-one : count_at (after_move order seating).players from + 1 ≡ count_at seating.players from
+  pub gives-one : count_at (after_move move_ seating).players from + 1 ≡ count_at seating.players from
   gives-one =
-      let counted = count-after seating from to order from valid lawful.lawful.carried in
+      let counted = count-after seating from to move_ from valid lawful.lawful.carried in
       let no = differ in
       grind (arith, nat_tests)
 
   -- The other has one more.
-  pub takes-one : count_at (after_move order seating).players to ≡ count_at seating.players to + 1
+  pub takes-one : count_at (after_move move_ seating).players to ≡ count_at seating.players to + 1
   takes-one =
-      let counted = count-after seating from to order to valid lawful.lawful.carried in
+      let counted = count-after seating from to move_ to valid lawful.lawful.carried in
       let no = differ in
       grind (arith, nat_tests)
 
   -- Every other table has as many as before.
   pub others-same : (other : ℕ) → other ≢ from → other ≢ to
-      → count_at (after_move order seating).players other ≡ count_at seating.players other
+      → count_at (after_move move_ seating).players other ≡ count_at seating.players other
   others-same other not_from not_to =
-      let counted = count-after seating from to order other valid lawful.lawful.carried in
+      let counted = count-after seating from to move_ other valid lawful.lawful.carried in
       grind (arith, nat_tests)
 
   -- The other still has no more players than the one.
-  pub still-fewer : count_at (after_move order seating).players to ≤ count_at (after_move order seating).players from
+  pub still-fewer : count_at (after_move move_ seating).players to ≤ count_at (after_move move_ seating).players from
   still-fewer = omega (arith, gives-one, takes-one, lawful.lawful.gap)
 
   -- No balance of the seating after it goes back.
-  pub not-back : (back : Move) → IsLawfulMove (after_move order seating) (Balance to from back) → ⊥
+  pub not-back : (back : Move) → IsLawfulMove (after_move move_ seating) (Balance to from back) → ⊥
   not-back back turned = omega (arith, still-fewer, turned.lawful.gap)
 
 -- what three checks say that do not hold
@@ -175,11 +175,11 @@ passed here there most least none =
         (ltb-false here most one_is, ltb-false least there two_is, ltb-false here (there + 2) three_is)
 
 -- Two open tables that pass the checks of a balance, of which the one is not playing, are balanced lawfully.
-pub checked-lawful : (seating : Seating) (from to : ℕ) (order : Move) → is_race_pending seating ≡ false
+pub checked-lawful : (seating : Seating) (from to : ℕ) (move_ : Move) → is_race_pending seating ≡ false
     → is_round_open seating ≡ false → IsFreeTable seating from → IsTableOf seating.table_count to
     → is_open seating.players to ≡ true → first_that_holds (balance_checks seating from to) ≡ None
-    → balance_move seating from to ≡ Some order → IsLawfulMove seating (Balance from to order)
-checked-lawful seating from to order no_race no_round free number opened none is =
+    → balance_move seating from to ≡ Some move_ → IsLawfulMove seating (Balance from to move_)
+checked-lawful seating from to move_ no_race no_round free number opened none is =
     let pass = passed (count_at seating.players from) (count_at seating.players to)
     (greatest_count seating.table_count seating.players) (least_count seating.table_count seating.players) none in
     record {

@@ -57,12 +57,12 @@ balance_move seating from to = move_to to (next_big_player seating from) (worst_
 
 -- The players, of whom this one has left his seat and sits down in the other place with his stack.
 abbrev pub reseated : Move → Option Seated → List Seated → List Seated
-reseated order (Some seated) players =
-    sit_down (record seated { place = order.to }) (lifted seated.player players)
-reseated order None players = players
+reseated move_ (Some seated) players =
+    sit_down (record seated { place = move_.to }) (lifted seated.player players)
+reseated move_ None players = players
 
 -- The seating after a move.
 abbrev pub after_move : Move → Seating → Seating
-after_move order seating = record seating {
-  players = reseated order (player_of seating.players order.player) seating.players;
+after_move move_ seating = record seating {
+  players = reseated move_ (player_of seating.players move_.player) seating.players;
 }

@@ -32,7 +32,7 @@ pub record IsFreeTable (seating : Seating) (table : ℕ) : Type 0 where
   pub playing : (status_at seating.tables table).playing ≡ false
 
 -- A lawful balance.
-pub record IsLawfulBalance (seating : Seating) (from to : ℕ) (order : Move) : Type 0 where
+pub record IsLawfulBalance (seating : Seating) (from to : ℕ) (move_ : Move) : Type 0 where
   -- the one table is open and is not playing
   pub free : IsFreeTable seating from
   -- no open table has more players than it
@@ -47,7 +47,7 @@ pub record IsLawfulBalance (seating : Seating) (from to : ℕ) (order : Move) : 
   -- their counts differ by two or more
   pub gap : count_at seating.players to + 2 ≤ count_at seating.players from
   -- and the next big blind of the one moves to the worst empty seat of the other
-  pub carried : balance_move seating from to ≡ Some order
+  pub carried : balance_move seating from to ≡ Some move_
 
 -- A lawful break.
 pub record IsLawfulBreak (seating : Seating) (table : ℕ) (seats : List Place) (names : List (List ℕ))
@@ -63,7 +63,7 @@ pub record IsLawfulBreak (seating : Seating) (table : ℕ) (seats : List Place) 
   pub players : IsPermutation (names_at seating table) names
 
 abbrev pub IsLawfulOf : Seating → FloorMove → Type 0
-IsLawfulOf seating (Balance from to order) = IsLawfulBalance seating from to order
+IsLawfulOf seating (Balance from to move_) = IsLawfulBalance seating from to move_
 IsLawfulOf seating (Break table seats names) = IsLawfulBreak seating table seats names
 
 -- A lawful move: a lawful balance or a lawful break, while no race is pending at any table and no table has begun in

@@ -33,11 +33,11 @@ pub fn balance_order(book: &SeatBook, from: u8, to: u8) -> Result<Move, Refusal>
     requires to { IsTableOf book.now.table_count to }
     requires to_open { IsTrue (is_open book.now.players to) }
     ensures checked { IsChecked (balance_checks book.now from to) result }
-    ensures order { IfOk result (λ order. balance_move book.now from to ≡ Some order) }
-    ensures entry { IfOk result (λ order. order.player < MOST_ENTRIES) }
-    ensures sits { IfOk result (λ order. place_of book.now.players order.player ≡ Some order.from) }
-    ensures place { IfOk result (λ order. IsPlaceOf book.now.table_count book.now.seat_count order.to) }
-    ensures empty { IfOk result (λ order. player_at book.now.players order.to ≡ None) }
+    ensures move_ { IfOk result (λ move_. balance_move book.now from to ≡ Some move_) }
+    ensures entry { IfOk result (λ move_. move_.player < MOST_ENTRIES) }
+    ensures sits { IfOk result (λ move_. place_of book.now.players move_.player ≡ Some move_.from) }
+    ensures place { IfOk result (λ move_. IsPlaceOf book.now.table_count book.now.seat_count move_.to) }
+    ensures empty { IfOk result (λ move_. player_at book.now.players move_.to ≡ None) }
 {
     let seats = book.seat_count();
     let here = book.count(from);

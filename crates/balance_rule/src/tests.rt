@@ -206,7 +206,7 @@ fn a_table_is_halted_by_the_gap(rt: HostRuntime) -> Result<(), Fail> {
 }
 
 /// The move of a balance of two open tables.
-fn order(rt: &impl Abort, book: &SeatBook, from: u8, to: u8) -> Result<Move, Refusal> {
+fn move_(rt: &impl Abort, book: &SeatBook, from: u8, to: u8) -> Result<Move, Refusal> {
     let tables = book.table_count();
     assert!(rt; 1 <= from && from <= tables);
     assert!(rt; 1 <= to && to <= tables);
@@ -240,9 +240,9 @@ fn the_next_big_blind_moves_to_the_worst_seat(rt: HostRuntime) -> Result<(), Fai
     mark(&rt, &mut book, 1, Some((7, 8, 9)));
     sit(&rt, &mut book, 2, &[1, 2, 3, 4, 6, 7, 9]);
     mark(&rt, &mut book, 2, Some((3, 4, 5)));
-    assert_eq!(rt; order(&rt, &book, 1, 2), from_to((1, 1), (2, 8)));
+    assert_eq!(rt; move_(&rt, &book, 1, 2), from_to((1, 1), (2, 8)));
     sit(&rt, &mut book, 2, &[8]);
-    assert_eq!(rt; order(&rt, &book, 1, 2), Err(Refusal::EvenEnough));
+    assert_eq!(rt; move_(&rt, &book, 1, 2), Err(Refusal::EvenEnough));
     Ok(())
 }
 
@@ -251,7 +251,7 @@ fn tables_that_had_no_hand(rt: HostRuntime) -> Result<(), Fail> {
     let mut book = SeatBook::new(rt.alloc(), 3, 6)?;
     sit(&rt, &mut book, 1, &[2, 4, 5]);
     sit(&rt, &mut book, 3, &[1]);
-    assert_eq!(rt; order(&rt, &book, 1, 3), from_to((1, 5), (3, 2)));
+    assert_eq!(rt; move_(&rt, &book, 1, 3), from_to((1, 5), (3, 2)));
     Ok(())
 }
 
@@ -269,7 +269,7 @@ fn the_first_check_that_holds(rt: HostRuntime) -> Result<(), Fail> {
         (1, 3, from_to((1, 3), (3, 1))),
     ];
     for (from, to, wanted) in pairs {
-        assert_eq!(rt; order(&rt, &book, from, to), wanted, "{from} to {to}");
+        assert_eq!(rt; move_(&rt, &book, from, to), wanted, "{from} to {to}");
     }
     Ok(())
 }

@@ -30,7 +30,7 @@ use Rattle.tournament_rules.specs.Books.{BookState, start_at, blind_now}
 use Rattle.tournament_rules.specs.Players.{start_seat, dealt_seats, dealt_in, put_back, stayed}
 use Rattle.tournament_rules.specs.Dealing.{next_at, next_start}
 use Rattle.tournament_rules.specs.Checks.{begin_checks, book_refusal}
-use Rattle.tournament_rules.specs.Effects.{with_table, playing_from, at_rest, begun_book, ended, broke_by, bust_of, next_group, settled, void_at, void_first, stopped_book}
+use Rattle.tournament_rules.specs.Effects.{with_table, playing_from, at_rest, begun_book, ended, busted_by, bust_of, next_group, settled, void_at, void_first, stopped_book}
 use Rattle.tournament_rules.proofs.Ends.{left-void_first}
 use Rattle.floor_core.specs.Pay.{ArePayees}
 use Rattle.floor_core.specs.Seats.{has_lawful_seat, dealt_of}
@@ -55,38 +55,38 @@ seating_begun seating played dealt table next hands status status_is played_is d
     ∙ rw (played_is, status_is) refl
 
 -- The fields that a begin writes make the book of the definition.
-pub begun_state : (book : BookState) (table : ℕ) (cards : List Card) (seating : Seating) (out : List (Option HandStart))
+pub begun_state : (book : BookState) (table : ℕ) (cards : List Card) (seating : Seating) (started : List (Option HandStart))
     → seating ≡ record (with_table book.seating table
     (playing_from (next_at book table).marks book.seating.hands))
     { players = dealt_in table (next_at book table).waiting book.seating.players }
-    → out ≡ slice_set book.out table (Some (next_start book table cards))
-    → record book { seating = seating; out = out; begun = book.begun + 1; accepted = book.accepted + 1 }
+    → started ≡ slice_set book.started table (Some (next_start book table cards))
+    → record book { seating = seating; started = started; begun = book.begun + 1; accepted = book.accepted + 1 }
     ≡ begun_book book table cards
-begun_state book table cards seating out seating_is out_is = rw (seating_is, out_is) refl
+begun_state book table cards seating started seating_is out_is = rw (seating_is, out_is) refl
 
 -- The fields that an end writes make the book of the definition.
 pub ended_state : (book : BookState) (table : ℕ) (payees : List StartSeat) (paid rested : Seating)
-    (out : List (Option HandStart)) → paid ≡ record book.seating { players = put_back payees book.seating.players }
-    → rested ≡ with_table paid table at_rest → out ≡ slice_set book.out table None
-    → record book { seating = rested; out = out } ≡ ended book table payees
-ended_state book table payees paid rested out paid_is rested_is out_is = rw (rested_is, paid_is, out_is) refl
+    (started : List (Option HandStart)) → paid ≡ record book.seating { players = put_back payees book.seating.players }
+    → rested ≡ with_table paid table at_rest → started ≡ slice_set book.started table None
+    → record book { seating = rested; started = started } ≡ ended book table payees
+ended_state book table payees paid rested started paid_is rested_is out_is = rw (rested_is, paid_is, out_is) refl
 
 -- The fields that a settle writes make the book of the definition.
 pub settled_state : (book : BookState) (hand : HandTerms) (payees : List StartSeat) (paid rested left : Seating)
-    (busts : List Bust) (out : List (Option HandStart)) (group : ℕ) → payees ≡ players_after hand
+    (busts : List Bust) (started : List (Option HandStart)) (group : ℕ) → payees ≡ players_after hand
     → paid ≡ record book.seating { players = put_back payees book.seating.players } → rested
     ≡ with_table paid hand.start.table at_rest
-    → left ≡ record rested { players = stayed (broke_by hand) rested.players }
-    → busts ≡ book.busts ++ map (bust_of book.group) (broke_by hand) → out ≡ slice_set book.out hand.start.table None
+    → left ≡ record rested { players = stayed (busted_by hand) rested.players }
+    → busts ≡ book.busts ++ map (bust_of book.group) (busted_by hand) → started ≡ slice_set book.started hand.start.table None
     → group ≡ next_group book
     → record book {
       seating = left;
-      out = out;
+      started = started;
       busts = busts;
       group = group;
       accepted = book.accepted + 1;
     } ≡ settled book hand
-settled_state book hand payees paid rested left busts out group payees_is paid_is rested_is left_is busts_is out_is
+settled_state book hand payees paid rested left busts started group payees_is paid_is rested_is left_is busts_is out_is
     group_is = rw (left_is, busts_is, rested_is, paid_is, out_is, payees_is, group_is) refl
 
 seat_known : (tables seats at seat : ℕ) → seats ≤ 10
@@ -113,7 +113,7 @@ pub payees_of : (start : HandStart) → IsLawfulStart start → ArePayees start.
 payees_of start lawful = record { apart = lawful.numbers; entries = lawful.entries }
 
 -- The fields that a void writes make the book of the definition.
-pub voided_state : (book : BookState) (table : ℕ) (start : HandStart) → start_at book.out table ≡ Some start
+pub voided_state : (book : BookState) (table : ℕ) (start : HandStart) → start_at book.started table ≡ Some start
     → ended book table start.seats ≡ void_at book table
 voided_state book table start is = rw is refl
 
@@ -140,12 +140,12 @@ start_state book table deck next seats seat_count begun blind game next_is seats
     game_is = rw (seats_is, next_is, count_is, begun_is, blind_is, game_is) refl
 
 -- A start that is taken out of its slot was out at its table.
-pub taken_out : (out : List (Option HandStart)) (index table : ℕ) (slot taken : Option HandStart) (start : HandStart)
-    → index < length out → index ≡ table → slot ≡ get_or out index slot → taken ≡ slot → taken ≡ Some start
-    → start_at out table ≡ Some start
-taken_out out index table slot taken start within same slot_is taken_is is =
-    ap (λ (table : ℕ). start_at out table) (sym same)
-    ∙ (get_or_default out index None slot within ∙ (sym slot_is ∙ (sym taken_is ∙ is)))
+pub taken_out : (started : List (Option HandStart)) (index table : ℕ) (slot taken : Option HandStart) (start : HandStart)
+    → index < length started → index ≡ table → slot ≡ get_or started index slot → taken ≡ slot → taken ≡ Some start
+    → start_at started table ≡ Some start
+taken_out started index table slot taken start within same slot_is taken_is is =
+    ap (λ (table : ℕ). start_at started table) (sym same)
+    ∙ (get_or_default started index None slot within ∙ (sym slot_is ∙ (sym taken_is ∙ is)))
 
 -- Voids leave the number of tables.
 pub left_count : (book : BookState) (tables : ℕ) → (void_first book tables).seating.table_count
@@ -179,7 +179,7 @@ pub begun_by_steps : (book : BookState) (table number index : ℕ) (cards : List
     ≡ next_start book table cards
     → record book {
       seating = dealt;
-      out = slice_set book.out index (Some start);
+      started = slice_set book.started index (Some start);
       begun = book.begun + 1;
       accepted =
           book.accepted + 1;
@@ -192,6 +192,6 @@ begun_by_steps book table number index cards played dealt next hands status star
     ≡ record (with_table book.seating table (playing_from (next_at book table).marks book.seating.hands))
     { players = dealt_in table (next_at book table).waiting book.seating.players } =
     rw (next_is, hands_is, same) refl in
-    let out : slice_set book.out index (Some start)
-    ≡ slice_set book.out table (Some (next_start book table cards)) = rw (index_is, same, start_is) refl in
-    begun_state book table cards dealt (slice_set book.out index (Some start)) (seated ∙ here) out
+    let started : slice_set book.started index (Some start)
+    ≡ slice_set book.started table (Some (next_start book table cards)) = rw (index_is, same, start_is) refl in
+    begun_state book table cards dealt (slice_set book.started index (Some start)) (seated ∙ here) started

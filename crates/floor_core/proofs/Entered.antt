@@ -45,13 +45,13 @@ next_stands entries players busts agree =
     none_owed n = grind (arith, nat_tests)
 
 -- The fields of a new book make the book before any entry.
-pub first_state_of : (plan : PlanTerms) (entries : List (List ℕ)) (seating : Seating) (out : List (Option HandStart))
-    (busts : List Bust) → entries ≡ [] → seating ≡ first_seating plan → out ≡ no_hands plan.tables → busts ≡ []
+pub first_state_of : (plan : PlanTerms) (entries : List (List ℕ)) (seating : Seating) (started : List (Option HandStart))
+    (busts : List Bust) → entries ≡ [] → seating ≡ first_seating plan → started ≡ no_hands plan.tables → busts ≡ []
     → (let book : BookState = record {
       plan = plan;
       entries = entries;
       seating = seating;
-      out = out;
+      started = started;
       busts = busts;
       group = 0;
       level = 1;
@@ -61,5 +61,5 @@ pub first_state_of : (plan : PlanTerms) (entries : List (List ℕ)) (seating : S
       accepted = 0;
       stopped = false;
     } in book) ≡ first_book plan
-first_state_of plan entries seating out busts entries_is seating_is out_is busts_is =
+first_state_of plan entries seating started busts entries_is seating_is out_is busts_is =
     rw (entries_is, seating_is, out_is, busts_is) refl

@@ -28,7 +28,7 @@ use Rattle.floor_core.proofs.Dealt.{seated_as}
 
 -- The players of a hand that is out may go out once stacks went back to them.
 pub may_all : (book : BookState) (table : ℕ) (start : HandStart) (payees : List StartSeat) → IsValid book
-    → start_at book.out table ≡ Some start → MayGoOut start.seats (put_back payees book.seating.players) book.busts
+    → start_at book.started table ≡ Some start → MayGoOut start.seats (put_back payees book.seating.players) book.busts
 may_all book table start payees valid is =
     let lawful = (valid.hands.starts table start is).lawful in
     let players = book.seating.players in
@@ -57,19 +57,19 @@ is_broke hand player = stack_after_hand hand player == 0
 
 -- the seats and the players who are out once those of the first so many players who are broke went out
 pub record IsBustSoFar (players : List StartSeat) (test : StartSeat → Bool) (group : ℕ) (before now : Seating)
-    (out out_now : List Bust) (index : ℕ) : Type 0 where
+    (started out_now : List Bust) (index : ℕ) : Type 0 where
   pub seats : now ≡ seated_as before (stayed (filter test (take index players)) before.players)
-  pub busts : out_now ≡ out ++ map (bust_of group) (filter test (take index players))
+  pub busts : out_now ≡ started ++ map (bust_of group) (filter test (take index players))
   pub entries : List (List ℕ)
   pub few : length entries ≤ MOST_ENTRIES
   pub once : AreOnce entries now.players out_now
 
 -- Before any player nobody went out.
-pub bust_first : (players : List StartSeat) (test : StartSeat → Bool) (group : ℕ) (before : Seating) (out : List Bust)
-    → MayGoOut players before.players out → IsBustSoFar players test group before before out out 0
-bust_first players test group before out may = record {
+pub bust_first : (players : List StartSeat) (test : StartSeat → Bool) (group : ℕ) (before : Seating) (started : List Bust)
+    → MayGoOut players before.players started → IsBustSoFar players test group before before started started 0
+bust_first players test group before started may = record {
   seats = ap (seated_as before) (sym (stayed-none before.players));
-  busts = sym (append-nil out);
+  busts = sym (append-nil started);
   entries = may.entries;
   few = may.few;
   once = may.once;
@@ -77,10 +77,10 @@ bust_first players test group before out may = record {
 
 -- The next player sits.
 next_sits : (players : List StartSeat) (test : StartSeat → Bool) (group : ℕ) (before now : Seating)
-    (out out_now : List Bust) (index : ℕ) (player : StartSeat) → MayGoOut players before.players out
-    → IsBustSoFar players test group before now out out_now index → index < length players
+    (started out_now : List Bust) (index : ℕ) (player : StartSeat) → MayGoOut players before.players started
+    → IsBustSoFar players test group before now started out_now index → index < length players
     → player ≡ get_or players index player → list_any (is_numbered player.player) now.players ≡ true
-next_sits players test group before now out out_now index player may so_far within is =
+next_sits players test group before now started out_now index player may so_far within is =
     let sat : list_any (is_numbered player.player) before.players ≡ true = rw (← is)
     at (AllPass-from_list_all (λ (player : StartSeat). list_any (is_numbered player.player) before.players) players
     may.sit index player within) in
@@ -90,12 +90,12 @@ next_sits players test group before now out out_now index player may so_far with
 
 -- He may leave his seat.
 pub next_leaves : (players : List StartSeat) (test : StartSeat → Bool) (group : ℕ) (before now : Seating)
-    (out out_now : List Bust) (index : ℕ) (player : StartSeat) → MayGoOut players before.players out
-    → IsBustSoFar players test group before now out out_now index → index < length players
+    (started out_now : List Bust) (index : ℕ) (player : StartSeat) → MayGoOut players before.players started
+    → IsBustSoFar players test group before now started out_now index → index < length players
     → player ≡ get_or players index player → MayLeave now.players out_now player.player
-next_leaves players test group before now out out_now index player may so_far within is =
+next_leaves players test group before now started out_now index player may so_far within is =
     may_leave so_far.entries now.players out_now player.player so_far.once so_far.few
-    (next_sits players test group before now out out_now index player may so_far within is)
+    (next_sits players test group before now started out_now index player may so_far within is)
 
 -- Those of the first so many players and of one more whom a test picks.
 picked_more : (players : List StartSeat) (test : StartSeat → Bool) (index : ℕ) (player : StartSeat)
@@ -109,26 +109,26 @@ picked_more players test index player within is =
 
 -- One player more, who is broke.
 pub bust_next : (players : List StartSeat) (test : StartSeat → Bool) (group : ℕ) (before now next : Seating)
-    (out out_now out_next : List Bust) (index : ℕ) (player : StartSeat) → MayGoOut players before.players out
-    → IsBustSoFar players test group before now out out_now index → index < length players
+    (started out_now out_next : List Bust) (index : ℕ) (player : StartSeat) → MayGoOut players before.players started
+    → IsBustSoFar players test group before now started out_now index → index < length players
     → player ≡ get_or players index player → test player ≡ true
     → next ≡ seated_as now (lifted player.player now.players) → out_next ≡ out_now ++ bust_of group player ∷ []
-    → IsBustSoFar players test group before next out out_next (index + 1)
-bust_next players test group before now next out out_now out_next index player may so_far within is broke next_is
+    → IsBustSoFar players test group before next started out_next (index + 1)
+bust_next players test group before now next started out_now out_next index player may so_far within is broke next_is
     out_is =
     let gone = filter test (take index players) in
     let more : gone ++ player ∷ [] ≡ filter test (take (index + 1) players) =
     sym (picked_more players test index player within is
     ∙ ap (λ (b : Bool). gone ++ cond b (player ∷ []) []) broke) in
-    let sits = next_sits players test group before now out out_now index player may so_far within is in
+    let sits = next_sits players test group before now started out_now index player may so_far within is in
     record {
       seats = (rw so_far.seats at next_is)
           ∙ ap (seated_as before) (sym (stayed-more gone player before.players)
           ∙ ap (λ (gone : List StartSeat). stayed gone before.players) more);
       busts = out_is ∙ (ap (λ (busts : List Bust). busts ++ bust_of group player ∷ []) so_far.busts
-          ∙ (append_assoc out (map (bust_of group) gone) (bust_of group player ∷ [])
-          ∙ (ap (λ (rows : List Bust). out ++ rows) (sym (map-append (bust_of group) gone (player ∷ [])))
-          ∙ ap (λ (gone : List StartSeat). out ++ map (bust_of group) gone) more)));
+          ∙ (append_assoc started (map (bust_of group) gone) (bust_of group player ∷ [])
+          ∙ (ap (λ (rows : List Bust). started ++ rows) (sym (map-append (bust_of group) gone (player ∷ [])))
+          ∙ ap (λ (gone : List StartSeat). started ++ map (bust_of group) gone) more)));
       entries = so_far.entries;
       few = so_far.few;
       once = rw (next_is, out_is) (once-leaves so_far.entries now.players out_now (bust_of group player) so_far.once
@@ -137,17 +137,17 @@ bust_next players test group before now next out out_now out_next index player m
 
 -- One player more, who is not.
 pub stay_next : (players : List StartSeat) (test : StartSeat → Bool) (group : ℕ) (before now : Seating)
-    (out out_now : List Bust) (index : ℕ) (player : StartSeat)
-    → IsBustSoFar players test group before now out out_now index → index < length players
+    (started out_now : List Bust) (index : ℕ) (player : StartSeat)
+    → IsBustSoFar players test group before now started out_now index → index < length players
     → player ≡ get_or players index player → test player ≡ false
-    → IsBustSoFar players test group before now out out_now (index + 1)
-stay_next players test group before now out out_now index player so_far within is stays =
+    → IsBustSoFar players test group before now started out_now (index + 1)
+stay_next players test group before now started out_now index player so_far within is stays =
     let gone = filter test (take index players) in
     let same : gone ≡ filter test (take (index + 1) players) = sym (picked_more players test index player within is
     ∙ (ap (λ (b : Bool). gone ++ cond b (player ∷ []) []) stays ∙ append-nil gone)) in
     record {
       seats = so_far.seats ∙ ap (λ (gone : List StartSeat). seated_as before (stayed gone before.players)) same;
-      busts = so_far.busts ∙ ap (λ (gone : List StartSeat). out ++ map (bust_of group) gone) same;
+      busts = so_far.busts ∙ ap (λ (gone : List StartSeat). started ++ map (bust_of group) gone) same;
       entries = so_far.entries;
       few = so_far.few;
       once = so_far.once;

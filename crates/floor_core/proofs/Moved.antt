@@ -110,22 +110,22 @@ pub taking-tables : (seating : Seating) (table : ℕ) (name : List ℕ) (place :
     → (after_taking table name place seating).table_count ≡ seating.table_count
 taking-tables seating table name place = by_find (find (is_called name) (players_at seating.players table))
   where
-    by_find : (found : Option Seated) → (option_map_or (λ order. after_move order seating)
+    by_find : (found : Option Seated) → (option_map_or (λ move_. after_move move_ seating)
         (option_map (λ player. record { player = player.player; from = player.place; to = place }) found)
         seating).table_count ≡ seating.table_count
     by_find None = refl
     by_find (Some player) = refl
 
 -- Who moves by a balance sits where his move begins.
-pub mover-sits : (seating : Seating) (from to : ℕ) (order : Move) → balance_move seating from to ≡ Some order
-    → option_map (λ seated. seated.player) (player_at seating.players order.from) ≡ Some order.player
-mover-sits seating from to order is =
-    let who = mover seating from to order is in
+pub mover-sits : (seating : Seating) (from to : ℕ) (move_ : Move) → balance_move seating from to ≡ Some move_
+    → option_map (λ seated. seated.player) (player_at seating.players move_.from) ≡ Some move_.player
+mover-sits seating from to move_ is =
+    let who = mover seating from to move_ is in
     let big : Place = record { table = from; seat = next_big_seat seating from } in
-    let there : big ≡ order.from = sym (found-place seating.players big who.seated who.sits)
-    ∙ ap (λ (order : Move). order.from) who.is in
-    let number : who.seated.player ≡ order.player = ap (λ (order : Move). order.player) who.is in
-    let sits : player_at seating.players order.from ≡ Some who.seated =
+    let there : big ≡ move_.from = sym (found-place seating.players big who.seated who.sits)
+    ∙ ap (λ (move_ : Move). move_.from) who.is in
+    let number : who.seated.player ≡ move_.player = ap (λ (move_ : Move). move_.player) who.is in
+    let sits : player_at seating.players move_.from ≡ Some who.seated =
     subst (λ (place : Place). player_at seating.players place ≡ Some who.seated) there who.sits in
     ap (option_map (λ (seated : Seated). seated.player)) sits ∙ ap Some number
 

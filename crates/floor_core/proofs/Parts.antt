@@ -15,7 +15,7 @@ use Rattle.tournament_rules.specs.Books.{BookState}
 use Rattle.tournament_rules.specs.Checks.{book_refusal, before_act_checks, before_hand_checks}
 use Rattle.tournament_rules.specs.States.{PlayState, refusal_of}
 use Rattle.tournament_rules.specs.Apart.{start_of, seen_of, hand_for, hand_refusal}
-use Rattle.floor_core.specs.Orders.{leaves_hands}
+use Rattle.tournament_rules.specs.Kinds.{leaves_hands}
 use Rattle.tournament_rules.proofs.Layers.{hand_for-read}
 use Rattle.tournament_rules.proofs.Passed.{refusal-parts}
 
@@ -24,7 +24,7 @@ abbrev pub seen : BookState → List (Option HandTerms) → PlayState
 seen book hands = seen_of (record { book = book; hands = hands })
 
 -- An event is refused by the book, or else by the hand that it is about.
-pub in_parts : (book : BookState) (hands : List (Option HandTerms)) (event : Event) → map start_of hands ≡ book.out
+pub in_parts : (book : BookState) (hands : List (Option HandTerms)) (event : Event) → map start_of hands ≡ book.started
     → refusal_of (seen book hands) event ≡ option_or (book_refusal book event)
     (option_and_then (hand_refusal event) (hand_for hands event))
 in_parts book hands event tied =
@@ -34,7 +34,7 @@ in_parts book hands event tied =
 
 -- An event about no hand is refused by the book alone.
 pub by_book_alone : (book : BookState) (hands : List (Option HandTerms)) (event : Event) → map start_of hands
-    ≡ book.out → hand_for hands event ≡ None → refusal_of (seen book hands) event ≡ book_refusal book event
+    ≡ book.started → hand_for hands event ≡ None → refusal_of (seen book hands) event ≡ book_refusal book event
 by_book_alone book hands event tied none = in_parts book hands event tied ∙ rw none (no_more (book_refusal book event))
   where
     no_more : (refusal : Option Refusal) → option_or refusal None ≡ refusal
@@ -42,28 +42,18 @@ by_book_alone book hands event tied none = in_parts book hands event tied ∙ rw
     no_more (Some found) = refl
 
 -- An order that leaves the hands as they are is refused by the book alone.
-pub by_order : (book : BookState) (hands : List (Option HandTerms)) (event : Event) → map start_of hands ≡ book.out
+pub by_order : (book : BookState) (hands : List (Option HandTerms)) (event : Event) → map start_of hands ≡ book.started
     → leaves_hands event ≡ true → refusal_of (seen book hands) event ≡ book_refusal book event
 by_order book hands event tied leaves = by_book_alone book hands event tied (about_none event leaves)
   where
     about_none : (event : Event) → leaves_hands event ≡ true → hand_for hands event ≡ None
-    about_none (events.Plan line) leaves = refl
-    about_none events.Go leaves = refl
-    about_none (events.Enter name table seat) leaves = refl
-    about_none (events.Begin table row) leaves = refl
     about_none (events.Act table name act) leaves = absurd cc
     about_none (events.Time table) leaves = absurd cc
     about_none (events.Settle table) leaves = absurd cc
-    about_none (events.Balance from to) leaves = refl
-    about_none (events.Break table places names) leaves = refl
-    about_none events.Level leaves = refl
-    about_none (events.Race table row) leaves = refl
-    about_none (events.Hands on) leaves = refl
-    about_none events.Round leaves = refl
-    about_none events.Stop leaves = refl
+    about_none _ leaves = refl
 
 -- What the book does not refuse is refused by the hand alone.
-pub by_hand : (book : BookState) (hands : List (Option HandTerms)) (event : Event) → map start_of hands ≡ book.out
+pub by_hand : (book : BookState) (hands : List (Option HandTerms)) (event : Event) → map start_of hands ≡ book.started
     → book_refusal book event ≡ None → refusal_of (seen book hands) event
     ≡ option_and_then (hand_refusal event) (hand_for hands event)
 by_hand book hands event tied none = in_parts book hands event tied ∙ rw none refl

@@ -34,14 +34,14 @@ unfolding book_refusal
 break_refusal book table places names = refl
 
 -- A book whose player took the place of the move is that of the balance.
-pub balanced_state : (book : BookState) (from to : ℕ) (order : Move) (player : Seated) (seats : Seating)
-    → balance_move book.seating from to ≡ Some order → player.player ≡ order.player → player.place ≡ order.from
-    → seats ≡ after_move (record { player = player.player; from = player.place; to = order.to }) book.seating
+pub balanced_state : (book : BookState) (from to : ℕ) (move_ : Move) (player : Seated) (seats : Seating)
+    → balance_move book.seating from to ≡ Some move_ → player.player ≡ move_.player → player.place ≡ move_.from
+    → seats ≡ after_move (record { player = player.player; from = player.place; to = move_.to }) book.seating
     → record book { seating = seats; accepted = book.accepted + 1 } ≡ balanced book from to
-balanced_state book from to order player seats moves number place after =
-    let same : record { player = player.player; from = player.place; to = order.to } ≡ order =
-    λ i. record { player = number i; from = place i; to = order.to } in
-    let seated : seats ≡ after_move order book.seating = after ∙ ap (λ (o : Move). after_move o book.seating) same in
+balanced_state book from to move_ player seats moves number place after =
+    let same : record { player = player.player; from = player.place; to = move_.to } ≡ move_ =
+    λ i. record { player = number i; from = place i; to = move_.to } in
+    let seated : seats ≡ after_move move_ book.seating = after ∙ ap (λ (o : Move). after_move o book.seating) same in
     rw moves (ap (λ (s : Seating). record book { seating = s; accepted = book.accepted + 1 }) seated)
 
 -- A book whose players took the places of the draw is that of the break.

@@ -1,6 +1,5 @@
 pub mod Busts
 pub mod Fields
 pub mod Moves
-pub mod Orders
 pub mod Pay
 pub mod Seats

@@ -24,8 +24,8 @@ impl Book {
     pub(crate) fn check_act(&self, table: u64, name: Name) -> Result<u8, Refusal>
         ensures checked { IsChecked (before_act_checks self.now table name) result }
         ensures same { IfOk result (λ number. number ≡ table) }
-        ensures within { IfOk result (λ number. number < length self.now.out) }
-        ensures out { IfOk result (λ number. IsSome (start_at self.now.out number)) }
+        ensures within { IfOk result (λ number. number < length self.now.started) }
+        ensures started { IfOk result (λ number. IsSome (start_at self.now.started number)) }
     {
         self.check_going()?;
         self.check_known(name)?;
@@ -36,10 +36,10 @@ impl Book {
     pub(crate) fn check_hand(&self, table: u64) -> Result<u8, Refusal>
         ensures checked { IsChecked (before_hand_checks self.now table) result }
         ensures same { IfOk result (λ number. number ≡ table) }
-        ensures within { IfOk result (λ number. number < length self.now.out) }
-        ensures out { IfOk result (λ number. IsSome (start_at self.now.out number)) }
+        ensures within { IfOk result (λ number. number < length self.now.started) }
+        ensures started { IfOk result (λ number. IsSome (start_at self.now.started number)) }
         ensures here { IfOk result (λ number. (start : HandStart)
-            → start_at self.now.out number ≡ Some start → start.table ≡ number) }
+            → start_at self.now.started number ≡ Some start → start.table ≡ number) }
     {
         self.check_going()?;
         self.check_playing(table)

@@ -30,17 +30,17 @@ struct OpenTables {
 }
 
 /// Gives the player of a move, who sits where it begins.
-fn mover(seats: &SeatBook, order: Move) -> Seated
-    requires within { IsPlaceOf seats.now.table_count seats.now.seat_count order.from }
-    requires sits { option_map (λ seated. seated.player) (player_at seats.now.players order.from) ≡ Some order.player }
-    ensures player { player_at seats.now.players order.from ≡ Some result }
+fn mover(seats: &SeatBook, move_: Move) -> Seated
+    requires within { IsPlaceOf seats.now.table_count seats.now.seat_count move_.from }
+    requires sits { option_map (λ seated. seated.player) (player_at seats.now.players move_.from) ≡ Some move_.player }
+    ensures player { player_at seats.now.players move_.from ≡ Some result }
     ensures entry { result.player < MOST_ENTRIES }
-    ensures number { result.player ≡ order.player }
-    ensures place { result.place ≡ order.from }
+    ensures number { result.player ≡ move_.player }
+    ensures place { result.place ≡ move_.from }
 {
-    let (player, name, stack) = seats.at(order.from).unwrap();
+    let (player, name, stack) = seats.at(move_.from).unwrap();
     Seated {
-        place: order.from,
+        place: move_.from,
         player,
         name,
         stack,
@@ -89,19 +89,19 @@ impl Book {
     /// Makes the checks of a balance, and gives the move of the player who leaves the one table for the other.
     fn check_balance(&self, from: u64, to: u64) -> Result<Move, Refusal>
         ensures checked { IsChecked (all_balance_checks self.now from to) result }
-        ensures order { IfOk result (λ order. balance_move self.now.seating from to ≡ Some order) }
-        ensures sits { IfOk result (λ order. option_map (λ seated. seated.player)
-            (player_at self.now.seating.players order.from) ≡ Some order.player) }
+        ensures move_ { IfOk result (λ move_. balance_move self.now.seating from to ≡ Some move_) }
+        ensures sits { IfOk result (λ move_. option_map (λ seated. seated.player)
+            (player_at self.now.seating.players move_.from) ≡ Some move_.player) }
         ensures here { IfOk result
-            (λ order. IsPlaceOf self.now.seating.table_count self.now.seating.seat_count order.from) }
+            (λ move_. IsPlaceOf self.now.seating.table_count self.now.seating.seat_count move_.from) }
         ensures within { IfOk result
-            (λ order. IsPlaceOf self.now.seating.table_count self.now.seating.seat_count order.to) }
-        ensures free { IfOk result (λ order. player_at self.now.seating.players order.to ≡ None) }
+            (λ move_. IsPlaceOf self.now.seating.table_count self.now.seating.seat_count move_.to) }
+        ensures free { IfOk result (λ move_. player_at self.now.seating.players move_.to ≡ None) }
     {
         let tables = self.check_to_balance(from, to)?;
-        let order = balance_order(&self.seats, tables.from, tables.to)?;
+        let move_ = balance_order(&self.seats, tables.from, tables.to)?;
         self.check_round()?;
-        Ok(order)
+        Ok(move_)
     }
 
     /// Balances two tables: the player who would be the next big blind at the one sits down at the other, with his
@@ -113,9 +113,9 @@ impl Book {
         ensures state { OnOk result (self.new ≡ balanced self.old from to) }
         ensures err { OnErr result (self.new ≡ self.old) }
     {
-        let order = self.check_balance(from, to)?;
-        let player = mover(&self.seats, order);
-        reseat(&mut self.seats, player, order.to);
+        let move_ = self.check_balance(from, to)?;
+        let player = mover(&self.seats, move_);
+        reseat(&mut self.seats, player, move_.to);
         self.accepted += 1;
         Ok(())
     }

@@ -239,7 +239,7 @@ impl Book {
         ensures hand { IfOk result (λ hand.
             hand ≡ record { start = next_start self.old table row.now.cards; acts = [] }) }
         ensures state { OnOk result (self.new ≡ begun_book self.old table row.now.cards) }
-        ensures within { OnOk result (table < length self.old.out) }
+        ensures within { OnOk result (table < length self.old.started) }
         ensures err { OnErr result (self.new ≡ self.old) }
     {
         let Ready { table, deck } = self.check_begin(table, row)?;
@@ -257,7 +257,7 @@ impl Book {
         };
         self.seats.set_status(table, status);
         deal_in(&mut self.seats, table, &next.waiting);
-        self.out[usize::from(table)] = Some(start);
+        self.started[usize::from(table)] = Some(start);
         self.begun += 1;
         self.accepted += 1;
         Ok(hand)

@@ -24,7 +24,7 @@ pub struct Book {
     pub(crate) entries: EntryList,
     pub(crate) seats: SeatBook,
     /// By table number, the start of the hand that is out. There is no table 0, so its slot stays empty.
-    pub(crate) out: Vec<Option<HandStart>>,
+    pub(crate) started: Vec<Option<HandStart>>,
     pub(crate) busts: PlaceList,
     /// The number of the group of those who go out next.
     pub(crate) group: u64,
@@ -82,14 +82,14 @@ impl Book {
         ensures { IfOk result (λ book. book ≡ first_book plan) }
     {
         let seats = first_seats(alloc, &plan)?;
-        let out = empty_slots(alloc, plan.tables as usize + 1)?;
+        let started = empty_slots(alloc, plan.tables as usize + 1)?;
         let busts = PlaceList::new(alloc)?;
         Ok(Book {
             alloc,
             plan,
             entries: EntryList::new(alloc),
             seats,
-            out,
+            started,
             busts,
             group: 0,
             level: 1,

@@ -3,9 +3,9 @@
 ghost use Rattle.std.specs.Prelude.{◌≡◌, ◌<◌, ◌++◌, ◌∷◌, [], map, length, false, IsSome};
 ghost use Rattle.std.specs.List.{list_any};
 ghost use Rattle.seat_book.specs.Players.{place_of, lifted};
-ghost use Rattle.table_engine.specs.Plays.{IsCompletePlay, hand_of};
+ghost use Rattle.table_engine.specs.Plays.{IsCompletePlay, recorded_hand};
 ghost use Rattle.tournament_rules.specs.Players.{stayed};
-ghost use Rattle.tournament_rules.specs.Effects.{bust_of, broke_by};
+ghost use Rattle.tournament_rules.specs.Effects.{bust_of, busted_by};
 ghost use Rattle.tournament_rules.specs.Valid.{is_bust_of};
 ghost use Rattle.floor_core.specs.Busts.{MayGoOut};
 
@@ -29,13 +29,13 @@ fn bust(seats: &mut SeatBook, busts: &mut PlaceList, player: StartSeat, group: u
 }
 
 /// Puts out the players whom a hand leaves without chips, in one group.
-pub(crate) fn bust_broke(seats: &mut SeatBook, busts: &mut PlaceList, done: &HandRecord, group: u64)
+pub(crate) fn bust_players(seats: &mut SeatBook, busts: &mut PlaceList, done: &HandRecord, group: u64)
     requires play { IsCompletePlay done.now }
     requires may { MayGoOut done.now.start.seats seats.old.players busts.old }
     ensures seats { seats.new ≡ record seats.old {
-      players = stayed (broke_by (hand_of done.now)) seats.old.players;
+      players = stayed (busted_by (recorded_hand done.now)) seats.old.players;
     } }
-    ensures busts { busts.new ≡ busts.old ++ map (bust_of group) (broke_by (hand_of done.now)) }
+    ensures busts { busts.new ≡ busts.old ++ map (bust_of group) (busted_by (recorded_hand done.now)) }
 {
     let players = done.start.seats.items();
     let stacks = done.stacks.items();

@@ -9,7 +9,7 @@ ghost use Rattle.table_engine.specs.Acts.{IsAnswer};
 ghost use Rattle.floor_events.specs.declared.event.Event.TheVariants as events;
 ghost use Rattle.tournament_rules.specs.Checks.{is_last_level, level_checks, book_refusal};
 ghost use Rattle.tournament_rules.specs.Effects.{with_table, leveled};
-ghost use Rattle.tournament_rules.specs.Racing.{raised_table, raised};
+ghost use Rattle.tournament_rules.specs.Racing.{announced_table, announced};
 
 use crate::BookFault;
 use crate::book::Book;
@@ -18,8 +18,8 @@ use floor_text::Refusal;
 use seat_book::{SeatBook, TableStatus};
 
 /// Tells how a table stands once a level with this greater unit is current.
-fn raised_status(status: TableStatus, unit: u64, opened: bool) -> TableStatus
-    ensures { result ≡ raised_table unit opened status }
+fn announced_status(status: TableStatus, unit: u64, opened: bool) -> TableStatus
+    ensures { result ≡ announced_table unit opened status }
 {
     if opened {
         TableStatus {
@@ -36,33 +36,33 @@ fn raised_status(status: TableStatus, unit: u64, opened: bool) -> TableStatus
 }
 
 /// Makes a level with this greater unit current at a table.
-fn raise_table(seats: &mut SeatBook, table: u8, unit: u64)
+fn announce_at_table(seats: &mut SeatBook, table: u8, unit: u64)
     requires table { IsTableOf seats.old.table_count table }
     requires some { 1 ≤ unit }
-    ensures { seats.new ≡ with_table seats.old table (raised_table unit (is_open seats.old.players table)) }
+    ensures { seats.new ≡ with_table seats.old table (announced_table unit (is_open seats.old.players table)) }
 {
-    let status = raised_status(seats.status(table), unit, seats.count(table) > 0);
+    let status = announced_status(seats.status(table), unit, seats.count(table) > 0);
     seats.set_status(table, status);
 }
 
 /// Makes a level with this greater unit current at each table: a race is pending where somebody sits, and else the
 /// table has the unit at once.
-fn raise(seats: &mut SeatBook, unit: u64)
+fn announce(seats: &mut SeatBook, unit: u64)
     requires { 1 ≤ unit }
-    ensures { seats.new ≡ raised unit seats.old }
+    ensures { seats.new ≡ announced unit seats.old }
 {
     for below in 0..seats.table_count() {
-        raise_table(seats, below + 1, unit);
+        announce_at_table(seats, below + 1, unit);
     }
 }
 
 /// Gives the tables a level's unit, where it is greater than the one before.
-fn raise_from(seats: &mut SeatBook, before: u64, unit: u64)
+fn announce_from(seats: &mut SeatBook, before: u64, unit: u64)
     requires { 1 ≤ unit }
-    ensures { seats.new ≡ (if nat_lt before unit then raised unit seats.old else seats.old) }
+    ensures { seats.new ≡ (if nat_lt before unit then announced unit seats.old else seats.old) }
 {
     if before < unit {
-        raise(seats, unit);
+        announce(seats, unit);
     }
 }
 
@@ -109,7 +109,7 @@ impl Book {
         self.check_level()?;
         let before = self.unit_of_level(self.level);
         let unit = self.unit_of_level(self.level + 1);
-        raise_from(&mut self.seats, before, unit);
+        announce_from(&mut self.seats, before, unit);
         self.level += 1;
         self.accepted += 1;
         Ok(())

@@ -5,8 +5,8 @@ ghost use Rattle.rulebook.specs.Checks.{IsChecked};
 ghost use Rattle.table_engine.specs.Acts.{IsAnswer};
 ghost use Rattle.tournament_rules.specs.Checks.{book_refusal};
 ghost use Rattle.tournament_rules.specs.Effects.{book_effect};
-ghost use Rattle.tournament_rules.specs.States.{answered};
-ghost use Rattle.floor_core.specs.Orders.{is_order, book_after};
+ghost use Rattle.tournament_rules.specs.States.{answered, book_after};
+ghost use Rattle.tournament_rules.specs.Kinds.{is_order};
 
 use crate::BookFault;
 use crate::book::Book;

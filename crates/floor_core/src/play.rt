@@ -4,14 +4,14 @@ ghost use Rattle.std.specs.Prelude.{◌≡◌, ◌<◌, ◌^◌, length, slice_s
 ghost use Rattle.std.specs.Option.{option_map_or, option_and_then};
 ghost use Rattle.table_engine.specs.Hands.{HandTerms, is_over};
 ghost use Rattle.table_engine.specs.Acts.{IsAnswer, refusal_of_act, refusal_of_time, hand_after, hand_after_time};
-ghost use Rattle.table_engine.specs.Plays.{IsCompletePlay, hand_of};
+ghost use Rattle.table_engine.specs.Plays.{IsCompletePlay, recorded_hand};
 ghost use Rattle.rulebook.specs.Checks.{IsChecked};
 ghost use Rattle.floor_events.specs.declared.event.Event.TheVariants as events;
 ghost use Rattle.tournament_rules.specs.States.{first_play, refusal_of, play_effect};
 ghost use Rattle.tournament_rules.specs.Checks.{end_checks};
 ghost use Rattle.tournament_rules.specs.Valid.{IsValid};
 ghost use Rattle.tournament_rules.specs.Apart.{hand_in};
-ghost use Rattle.floor_core.specs.Orders.{leaves_hands};
+ghost use Rattle.tournament_rules.specs.Kinds.{leaves_hands};
 
 use crate::BookFault;
 use crate::book::Book;
@@ -42,7 +42,7 @@ impl Model for Play {
     ghost view = { λ play. record { book = play.book; acts = map acts_of play.hands.items } };
 
     // The starts of the hands are those that are out.
-    ghost invariant = { λ play. map start_of play.hands.items ≡ play.book.out };
+    ghost invariant = { λ play. map start_of play.hands.items ≡ play.book.started };
 }
 
 impl Play {
@@ -212,7 +212,7 @@ fn check_end(hands: &[Option<Hand>], index: usize) -> Result<(), Refusal>
 fn finish_at(hands: &mut Vec<Option<Hand>>, index: usize) -> HandRecord
     requires within { index < length hands.old.items }
     requires over { option_map_or is_over (hand_in hands.old.items index) false ≡ true }
-    ensures hand { hand_in hands.old.items index ≡ Some (hand_of result) }
+    ensures hand { hand_in hands.old.items index ≡ Some (recorded_hand result) }
     ensures play { IsCompletePlay result }
     ensures hands { hands.new.items ≡ slice_set hands.old.items index None }
 {

@@ -4,7 +4,7 @@ ghost use Rattle.std.specs.Prelude.{◌≡◌, ◌<◌, ◌^◌, length, map, su
 ghost use Rattle.std.specs.List.{All};
 ghost use Rattle.seat_book.specs.Players.{players_in};
 ghost use Rattle.table_engine.specs.Starts.{chips_of};
-ghost use Rattle.tournament_rules.specs.Books.{players_out};
+ghost use Rattle.tournament_rules.specs.Books.{starters_of};
 ghost use Rattle.tournament_rules.specs.Chips.{rest_in, play_of};
 ghost use Rattle.tournament_rules.specs.Players.{is_one_of, is_in_hand};
 ghost use Rattle.tournament_rules.specs.Report.{reported, book_report};
@@ -31,8 +31,8 @@ fn rest_of(slots: &[Option<Seated>]) -> u64
 }
 
 /// Gives the players with whom a hand started, where one did.
-fn players_out(start: &Option<HandStart>) -> &[StartSeat]
-    ensures { result.now ≡ players_out start.now }
+fn starters_of(start: &Option<HandStart>) -> &[StartSeat]
+    ensures { result.now ≡ starters_of start.now }
 {
     match start {
         Some(start) => start.seats.items(),
@@ -49,13 +49,13 @@ fn chips_of(players: &[StartSeat]) -> u64
 }
 
 /// Sums the stacks with which the players of all started hands began, in chips.
-fn play_of(out: &[Option<HandStart>]) -> u64
-    requires { sum_by (λ start. chips_of (players_out start)) out.now < 2 ^ 64 }
-    ensures { result ≡ sum_by (λ start. chips_of (players_out start)) out.now }
+fn play_of(started: &[Option<HandStart>]) -> u64
+    requires { sum_by (λ start. chips_of (starters_of start)) started.now < 2 ^ 64 }
+    ensures { result ≡ sum_by (λ start. chips_of (starters_of start)) started.now }
 {
     let mut chips = 0;
-    for start in out {
-        chips += chips_of(players_out(start));
+    for start in started {
+        chips += chips_of(starters_of(start));
     }
     chips
 }
@@ -70,11 +70,11 @@ fn is_one_of(starters: &[StartSeat], player: &Seated) -> bool
 }
 
 /// Reports a player who is in, with the stack at rest, or in play.
-fn reported(out: &[Option<HandStart>], player: &Seated) -> ReportSeat
-    requires { player.now.place.table < length out.now }
-    ensures { result ≡ reported out.now player.now }
+fn reported(started: &[Option<HandStart>], player: &Seated) -> ReportSeat
+    requires { player.now.place.table < length started.now }
+    ensures { result ≡ reported started.now player.now }
 {
-    let is_in_hand = is_one_of(players_out(&out[usize::from(player.place.table)]), player);
+    let is_in_hand = is_one_of(starters_of(&started[usize::from(player.place.table)]), player);
     ReportSeat {
         place: player.place,
         name: player.name,
@@ -85,16 +85,16 @@ fn reported(out: &[Option<HandStart>], player: &Seated) -> ReportSeat
 /// Reports the players who are in, by table and then seat.
 fn all_reported(
     alloc: Global,
-    out: &[Option<HandStart>],
+    started: &[Option<HandStart>],
     slots: &[Option<Seated>],
 ) -> Result<List<ReportSeat>, AllocError>
-    requires { All (λ player. player.place.table < length out.now) (players_in slots.now) }
-    ensures { IfOk result (λ lines. lines ≡ map (reported out.now) (players_in slots.now)) }
+    requires { All (λ player. player.place.table < length started.now) (players_in slots.now) }
+    ensures { IfOk result (λ lines. lines ≡ map (reported started.now) (players_in slots.now)) }
 {
     let mut lines = List::new(alloc);
     for slot in slots {
         if let Some(player) = slot {
-            lines.push(reported(out, player))?;
+            lines.push(reported(started, player))?;
         }
     }
     Ok(lines)
@@ -112,7 +112,7 @@ impl Book {
     fn chips_in_play(&self) -> u64
         ensures { result ≡ play_of self.now }
     {
-        play_of(&self.out)
+        play_of(&self.started)
     }
 
     /// Reports how the tournament stands.
@@ -126,7 +126,7 @@ impl Book {
             added: self.added,
             rest: self.chips_at_rest(),
             play: self.chips_in_play(),
-            seats: all_reported(self.alloc, &self.out, self.seats.slots())?,
+            seats: all_reported(self.alloc, &self.started, self.seats.slots())?,
             outs: List::new(self.alloc),
         })
     }

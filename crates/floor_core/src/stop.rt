@@ -18,7 +18,7 @@ impl Book {
         requires { IsTableOf self.old.seating.table_count table }
         ensures { self.new ≡ void_at self.old table }
     {
-        if let Some(start) = self.out[usize::from(table)].take() {
+        if let Some(start) = self.started[usize::from(table)].take() {
             pay_players(&mut self.seats, start.seats.items());
             rest_table(&mut self.seats, table);
         }

@@ -63,10 +63,10 @@ impl Book {
     pub(crate) fn check_playing(&self, table: u64) -> Result<u8, Refusal>
         ensures checked { IsChecked (playing_checks self.now table) result }
         ensures same { IfOk result (λ number. number ≡ table) }
-        ensures within { IfOk result (λ number. number < length self.now.out) }
-        ensures out { IfOk result (λ number. IsSome (start_at self.now.out number)) }
+        ensures within { IfOk result (λ number. number < length self.now.started) }
+        ensures started { IfOk result (λ number. IsSome (start_at self.now.started number)) }
         ensures here { IfOk result (λ number. (start : HandStart)
-            → start_at self.now.out number ≡ Some start → start.table ≡ number) }
+            → start_at self.now.started number ≡ Some start → start.table ≡ number) }
     {
         let Some(number) = self.table_number(table) else {
             return Err(Refusal::NoTable);

@@ -2,13 +2,14 @@
 -- own_rows, again and words_of_text.
 use Rattle.std.proofs.Common.{◌≡◌, ℕ, ◌≤◌, Bool, true, false, cond, leb, List, [], ◌∷◌, length, Option, Some, None, option_map, refl, sym, ap, ◌∙◌, subst, arith}
 use Rattle.std.specs.Prelude.{codes}
-use Rattle.std.specs.List.{join_with_byte, AllByRecursion}
+use Rattle.std.specs.List.{list_all, join_with_byte, AllByRecursion}
 use Rattle.std.specs.Str.{bytes_eq}
 use Rattle.std.specs.Option.{IfSome}
 use Rattle.std.proofs.lemmas.Bool.Decides.{nat_tests}
 use Rattle.std.proofs.lemmas.List.Splits.{join_with_byte-slice_split}
 use Rattle.std.proofs.lemmas.Slice.Eq.{bytes_eq-Decides}
 use Rattle.floor_text.specs.declared.limits.TheConstants.{LONGEST_LINE}
+use Rattle.floor_text.specs.Lines.{HasNoFeed}
 use Rattle.card_set.proofs.Steps.{map_found}
 use Rattle.level_plan.specs.declared.line.PlanLine.TheVariants as lines
 use Rattle.floor_events.specs.declared.event.Event.{Event}
@@ -21,7 +22,7 @@ use Rattle.floor_events.specs.Spelling.{event_words, event_text, item_text, HasL
 use Rattle.floor_events.proofs.FieldLaws.{test_found, number_field, name_field, game_field, switch_field, row_field, act_rest, last}
 use Rattle.floor_events.proofs.PieceLaws.{shares_rest, places_field, names_field}
 use Rattle.floor_events.proofs.RowLaws.{Spells, Reads, row0, row1, row2, row3, fields0_again, fields1_again, fields2_again, fields3_again}
-use Rattle.floor_events.proofs.Spaces.{pieces_again}
+use Rattle.floor_events.proofs.Spaces.{is_word, words_lack, pieces_again, line_no_feed}
 
 abbrev IsOwnRow : List ℕ × Reader → Type 0
 IsOwnRow row = Reads (λ words. row.0 ∷ words) row.1
@@ -101,53 +102,67 @@ again (events.Hands on) parts = fields1_again (last switch_field) events.Hands o
 again events.Round parts = fields0_again events.Round
 again events.Stop parts = fields0_again events.Stop
 
--- no word of an event has a space
+-- the words of an event are words
+pub words_of_event : (event : Event) → HasLineParts event → list_all is_word (event_words event) ≡ true
+words_of_event (events.Plan (lines.Game game)) parts = rw (game_field.word game parts) refl
+words_of_event (events.Plan (lines.Tables n)) parts = rw (number_field.word n parts) refl
+words_of_event (events.Plan (lines.Seats n)) parts = rw (number_field.word n parts) refl
+words_of_event (events.Plan (lines.Stack n)) parts = rw (number_field.word n parts) refl
+words_of_event (events.Plan (lines.Buyin n)) parts = rw (number_field.word n parts) refl
+words_of_event (events.Plan (lines.Late n)) parts = rw (number_field.word n parts) refl
+words_of_event (events.Plan (lines.Blinds s b u)) parts =
+    rw (number_field.word s parts.0, number_field.word b parts.1, number_field.word u parts.2) refl
+words_of_event (events.Plan (lines.Shares shares)) parts = shares_rest.words shares parts
+words_of_event (events.Enter name table seat) parts =
+    rw (name_field.word name parts.0, number_field.word table parts.1, number_field.word seat parts.2) refl
+words_of_event (events.Begin table row) parts = rw (number_field.word table parts, row_field.word row tt) refl
+words_of_event (events.Act table name act) parts =
+    rw (number_field.word table parts.1, name_field.word name parts.0) (act_rest.words act parts.2)
+words_of_event (events.Time table) parts = rw (number_field.word table parts) refl
+words_of_event (events.Settle table) parts = rw (number_field.word table parts) refl
+words_of_event (events.Balance from to) parts =
+    rw (number_field.word from parts.0, number_field.word to parts.1) refl
+words_of_event (events.Break table seats names) parts =
+    rw (number_field.word table parts.0, places_field.word seats parts.1, names_field.word names parts.2) refl
+words_of_event (events.Race table row) parts = rw (number_field.word table parts, row_field.word row tt) refl
+words_of_event (events.Hands on) parts = rw (switch_field.word on parts) refl
+words_of_event _ parts = refl
+
+-- an event has at least one word
+some_word : (event : Event) → (first : List ℕ) × (others : List (List ℕ)) × (event_words event ≡ first ∷ others)
+some_word (events.Plan (lines.Game game)) = (codes "game", _, refl)
+some_word (events.Plan (lines.Tables n)) = (codes "tables", _, refl)
+some_word (events.Plan (lines.Seats n)) = (codes "seats", _, refl)
+some_word (events.Plan (lines.Stack n)) = (codes "stack", _, refl)
+some_word (events.Plan (lines.Buyin n)) = (codes "buyin", _, refl)
+some_word (events.Plan (lines.Late n)) = (codes "late", _, refl)
+some_word (events.Plan (lines.Blinds s b u)) = (codes "blinds", _, refl)
+some_word (events.Plan (lines.Shares shares)) = (codes "shares", _, refl)
+some_word events.Go = (codes "go", _, refl)
+some_word (events.Enter name table seat) = (codes "enter", _, refl)
+some_word (events.Begin table row) = (codes "begin", _, refl)
+some_word (events.Act table name act) = (codes "act", _, refl)
+some_word (events.Time table) = (codes "time", _, refl)
+some_word (events.Settle table) = (codes "settle", _, refl)
+some_word (events.Balance from to) = (codes "balance", _, refl)
+some_word (events.Break table seats names) = (codes "break", _, refl)
+some_word events.Level = (codes "level", _, refl)
+some_word (events.Race table row) = (codes "race", _, refl)
+some_word (events.Hands on) = (codes "hands", _, refl)
+some_word events.Round = (codes "round", _, refl)
+some_word events.Stop = (codes "stop", _, refl)
+
+-- an event's text is cut into its words
 words_of_text : (event : Event) → HasLineParts event → words_of_line (event_text event) ≡ event_words event
-words_of_text (events.Plan (lines.Game game)) parts =
-    pieces_again 32 (codes "game") _ (rw (game_field.spaceless game parts) refl)
-words_of_text (events.Plan (lines.Tables n)) parts =
-    pieces_again 32 (codes "tables") _ (rw (number_field.spaceless n parts) refl)
-words_of_text (events.Plan (lines.Seats n)) parts =
-    pieces_again 32 (codes "seats") _ (rw (number_field.spaceless n parts) refl)
-words_of_text (events.Plan (lines.Stack n)) parts =
-    pieces_again 32 (codes "stack") _ (rw (number_field.spaceless n parts) refl)
-words_of_text (events.Plan (lines.Buyin n)) parts =
-    pieces_again 32 (codes "buyin") _ (rw (number_field.spaceless n parts) refl)
-words_of_text (events.Plan (lines.Late n)) parts =
-    pieces_again 32 (codes "late") _ (rw (number_field.spaceless n parts) refl)
-words_of_text (events.Plan (lines.Blinds s b u)) parts =
-    pieces_again 32 (codes "blinds") _ (rw
-    (number_field.spaceless s parts.0, number_field.spaceless b parts.1, number_field.spaceless u parts.2) refl)
-words_of_text (events.Plan (lines.Shares shares)) parts =
-    pieces_again 32 (codes "shares") _ (shares_rest.spaceless shares parts)
-words_of_text events.Go parts = pieces_again 32 (codes "go") [] refl
-words_of_text (events.Enter name table seat) parts =
-    pieces_again 32 (codes "enter") _ (rw
-    (name_field.spaceless name parts.0, number_field.spaceless table parts.1, number_field.spaceless seat parts.2)
-    refl)
-words_of_text (events.Begin table row) parts =
-    pieces_again 32 (codes "begin") _ (rw (number_field.spaceless table parts, row_field.spaceless row tt) refl)
-words_of_text (events.Act table name act) parts =
-    pieces_again 32 (codes "act") _ (rw
-    (number_field.spaceless table parts.1, name_field.spaceless name parts.0, act_rest.spaceless act parts.2) refl)
-words_of_text (events.Time table) parts =
-    pieces_again 32 (codes "time") _ (rw (number_field.spaceless table parts) refl)
-words_of_text (events.Settle table) parts =
-    pieces_again 32 (codes "settle") _ (rw (number_field.spaceless table parts) refl)
-words_of_text (events.Balance from to) parts =
-    pieces_again 32 (codes "balance") _ (rw
-    (number_field.spaceless from parts.0, number_field.spaceless to parts.1) refl)
-words_of_text (events.Break table seats names) parts =
-    pieces_again 32 (codes "break") _ (rw
-    (number_field.spaceless table parts.0, places_field.spaceless seats parts.1, names_field.spaceless names parts.2)
-    refl)
-words_of_text events.Level parts = pieces_again 32 (codes "level") [] refl
-words_of_text (events.Race table row) parts =
-    pieces_again 32 (codes "race") _ (rw (number_field.spaceless table parts, row_field.spaceless row tt) refl)
-words_of_text (events.Hands on) parts =
-    pieces_again 32 (codes "hands") _ (rw (switch_field.spaceless on parts) refl)
-words_of_text events.Round parts = pieces_again 32 (codes "round") [] refl
-words_of_text events.Stop parts = pieces_again 32 (codes "stop") [] refl
+words_of_text event parts =
+    let some = some_word event in
+    let lack = words_lack 32 (event_words event) (omega arith) (words_of_event event parts) in
+    ap (λ (words : List (List ℕ)). words_of_line (join_with_byte 32 words)) some.2
+    ∙ (pieces_again 32 some.0 some.1 (rw some.2 at lack) ∙ sym some.2)
+
+-- an event's text has no line feed
+pub text_no_feed : (event : Event) → HasLineParts event → HasNoFeed (event_text event)
+text_no_feed event parts = line_no_feed (event_words event) (words_of_event event parts)
 
 row_or_later : (b : Bool) (row : List ℕ × Reader) (later : Option Event) (word : List ℕ) (words : List (List ℕ))
     (event : Event) → (b ≡ true → word ≡ row.0) → IsOwnRow row → (later ≡ Some event → Spells (word ∷ words) event)

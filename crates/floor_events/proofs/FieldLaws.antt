@@ -18,7 +18,7 @@ use Rattle.betting_round.specs.declared.act.Act.{Act}
 use Rattle.betting_round.specs.declared.act.Act.TheVariants.{Fold, Check, Call, AllIn, Bet, Raise}
 use Rattle.floor_events.specs.Spelling.{game_word, switch_word, act_words, HasLineAmount}
 use Rattle.floor_events.specs.Fields.{meaning, game_list, game_of, switch_list, switch_of, act_list, amount_list, act_of, name_of, next_by, last_by}
-use Rattle.floor_events.proofs.Spaces.{lacks, decimal_spaceless, name_spaceless, row_spaceless}
+use Rattle.floor_events.proofs.Spaces.{is_word, number_word, name_word, row_word}
 
 -- a test that let something through
 pub test_found : {A : Type 0} (b : Bool) (o : Option A) (x : A) → cond b o None ≡ Some x → (b ≡ true) × (o ≡ Some x)
@@ -29,21 +29,21 @@ test_found false o x h = absurd cc
 pub record IsField {A : Type 0} (read : List ℕ → Option A) (write : A → List ℕ) (Fits : A → Type 0) : Type 0 where
   pub found : (word : List ℕ) (value : A) → read word ≡ Some value → (word ≡ write value) × Fits value
   pub again : (value : A) → Fits value → read (write value) ≡ Some value
-  pub spaceless : (value : A) → Fits value → lacks 32 (write value) ≡ true
+  pub word : (value : A) → Fits value → is_word (write value) ≡ true
 
 -- a field of all words that are left reads exactly what it writes
 pub record IsRest {A : Type 0} (read : List (List ℕ) → Option A) (write : A → List (List ℕ)) (Fits : A → Type 0)
     : Type 0 where
   pub found : (words : List (List ℕ)) (value : A) → read words ≡ Some value → (words ≡ write value) × Fits value
   pub again : (value : A) → Fits value → read (write value) ≡ Some value
-  pub spaceless : (value : A) → Fits value → list_all (lacks 32) (write value) ≡ true
+  pub words : (value : A) → Fits value → list_all is_word (write value) ≡ true
 
 -- a number
 pub number_field : IsField number_of decimal IsLineNumber
 number_field = record {
   found = λ word n h. let found = number_found word n h in (found.1, found.0);
   again = number_of-decimal;
-  spaceless = decimal_spaceless;
+  word = number_word;
 }
 
 name_found : (word name : List ℕ) → name_of word ≡ Some name → (word ≡ name) × IsTrue (is_name name)
@@ -56,7 +56,7 @@ name_again name right = rw right refl
 
 -- a player's name
 pub name_field : IsField name_of (λ name. name) (λ name. IsTrue (is_name name))
-name_field = record { found = name_found; again = name_again; spaceless = name_spaceless }
+name_field = record { found = name_found; again = name_again; word = name_word }
 
 meaning_here : {A : Type 0} (Spelled : List ℕ → A → Type 0) (b : Bool) (entry : List ℕ × A) (others : Option A)
     (word : List ℕ) (a : A) → (b ≡ true → word ≡ entry.0) → Spelled entry.0 entry.1
@@ -79,10 +79,10 @@ game_again Holdem fits = refl
 game_again Omaha fits = refl
 game_again Hilo fits = refl
 
-game_spaceless : (game : Game) → Unit {0} → lacks 32 (game_word game) ≡ true
-game_spaceless Holdem fits = refl
-game_spaceless Omaha fits = refl
-game_spaceless Hilo fits = refl
+game_is_word : (game : Game) → Unit {0} → is_word (game_word game) ≡ true
+game_is_word Holdem fits = refl
+game_is_word Omaha fits = refl
+game_is_word Hilo fits = refl
 
 -- a game
 pub game_field : IsField game_of game_word (λ game. Unit {0})
@@ -90,16 +90,16 @@ game_field = record {
   found = λ word game h.
       (meaning_found (λ word game. word ≡ game_word game) game_list word game (refl, (refl, (refl, tt))) h, tt);
   again = game_again;
-  spaceless = game_spaceless;
+  word = game_is_word;
 }
 
 switch_again : (on : Bool) → Unit {0} → switch_of (switch_word on) ≡ Some on
 switch_again true fits = refl
 switch_again false fits = refl
 
-switch_spaceless : (on : Bool) → Unit {0} → lacks 32 (switch_word on) ≡ true
-switch_spaceless true fits = refl
-switch_spaceless false fits = refl
+switch_is_word : (on : Bool) → Unit {0} → is_word (switch_word on) ≡ true
+switch_is_word true fits = refl
+switch_is_word false fits = refl
 
 -- on or off
 pub switch_field : IsField switch_of switch_word (λ on. Unit {0})
@@ -107,7 +107,7 @@ switch_field = record {
   found = λ word on h.
       (meaning_found (λ word on. word ≡ switch_word on) switch_list word on (refl, (refl, tt)) h, tt);
   again = switch_again;
-  spaceless = switch_spaceless;
+  word = switch_is_word;
 }
 
 -- a row of cards
@@ -115,7 +115,7 @@ pub row_field : IsField row_of (λ (row : CardRow). row_text row.cards) (λ row.
 row_field = record {
   found = λ word row h. (sym (row_found word row h), tt);
   again = λ row fits. row_again row;
-  spaceless = λ row fits. row_spaceless row.cards;
+  word = λ row fits. row_word row.cards;
 }
 
 -- words are the spelling of an act
@@ -150,17 +150,17 @@ act_again AllIn fits = refl
 act_again (Bet n) fits = rw (number_of-decimal n fits) refl
 act_again (Raise n) fits = rw (number_of-decimal n fits) refl
 
-act_spaceless : (act : Act) → HasLineAmount act → list_all (lacks 32) (act_words act) ≡ true
-act_spaceless Fold fits = refl
-act_spaceless Check fits = refl
-act_spaceless Call fits = refl
-act_spaceless AllIn fits = refl
-act_spaceless (Bet n) fits = rw (decimal_spaceless n fits) refl
-act_spaceless (Raise n) fits = rw (decimal_spaceless n fits) refl
+act_are_words : (act : Act) → HasLineAmount act → list_all is_word (act_words act) ≡ true
+act_are_words Fold fits = refl
+act_are_words Check fits = refl
+act_are_words Call fits = refl
+act_are_words AllIn fits = refl
+act_are_words (Bet n) fits = rw (number_word n fits) refl
+act_are_words (Raise n) fits = rw (number_word n fits) refl
 
 -- an act
 pub act_rest : IsRest act_of act_words HasLineAmount
-act_rest = record { found = act_found; again = act_again; spaceless = act_spaceless }
+act_rest = record { found = act_found; again = act_again; words = act_are_words }
 
 -- the first word is the spelling of the field that is read, and the others are left
 pub record IsNext {A : Type 0} (write : A → List ℕ) (Fits : A → Type 0) (words : List (List ℕ))
@@ -203,5 +203,5 @@ unfolding last_by
 last {A} {read} {write} {Fits} field = record {
   found = last_found read write Fits field;
   again = field.again;
-  spaceless = λ a fits. rw (field.spaceless a fits) refl;
+  words = λ a fits. rw (field.word a fits) refl;
 }

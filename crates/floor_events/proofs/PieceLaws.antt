@@ -18,7 +18,7 @@ use Rattle.floor_events.specs.Spelling.{place_text, list_text, AreFew, AreLineSh
 use Rattle.floor_events.specs.Fields.{◌>>=◌, each_of, few_of, shares_of, name_of, place_at, place_of, members_of, next_by, last_by}
 use Rattle.floor_events.proofs.FieldLaws.{IsField, IsRest, test_found, number_field, name_field, next_found, next_again, last}
 use Rattle.floor_events.proofs.WordSplits.{is_byte}
-use Rattle.floor_events.proofs.Spaces.{lacks, pieces_again, decimal_lacks, name_lacks}
+use Rattle.floor_events.proofs.Spaces.{lacks, is_word, number_word, joined_word, pieces_again, decimal_lacks, name_lacks}
 
 module _ {A : Type 0} {read : List ℕ → Option A} {write : A → List ℕ} {Fits : A → Type 0}
     (field : IsField read write Fits) where
@@ -40,9 +40,9 @@ module _ {A : Type 0} {read : List ℕ → Option A} {write : A → List ℕ} {F
   each_again [] fits = refl
   each_again (item ∷ items) fits = rw (field.again item fits.0, each_again items fits.1) refl
 
-  each_spaceless : (items : List A) → AllByRecursion Fits items → list_all (lacks 32) (map write items) ≡ true
-  each_spaceless [] fits = refl
-  each_spaceless (item ∷ items) fits = rw (field.spaceless item fits.0, each_spaceless items fits.1) refl
+  each_word : (items : List A) → AllByRecursion Fits items → list_all is_word (map write items) ≡ true
+  each_word [] fits = refl
+  each_word (item ∷ items) fits = rw (field.word item fits.0, each_word items fits.1) refl
 
   few_found : (most : ℕ) (words : List (List ℕ)) (items : List A) → few_of most read words ≡ Some items
       → (words ≡ map write items) × AreFew most Fits items
@@ -69,7 +69,7 @@ unfolding shares_of
 shares_rest = record {
   found = few_found number_field MOST_SHARES;
   again = few_again number_field MOST_SHARES;
-  spaceless = λ shares fits. each_spaceless number_field shares fits.2;
+  words = λ shares fits. each_word number_field shares fits.2;
 }
 
 -- what is joined of pieces that lack a byte by a greater one lacks it too
@@ -107,6 +107,13 @@ place_lacks byte low place fits =
     joined_lacks byte 46 low (decimal place.table) (decimal place.seat ∷ []) (rw (
       decimal_lacks byte (omega (arith, low)) place.table (table_number place.table fits.table.last),
       decimal_lacks byte (omega (arith, low)) place.seat (seat_number place.seat fits.last),
+    ) refl)
+
+place_word : (place : Place) → IsPlaceOf MOST_TABLES MOST_SEATS place → is_word (place_text place) ≡ true
+place_word place fits =
+    joined_word 46 (omega arith) (decimal place.table ∷ decimal place.seat ∷ []) (rw (
+      number_word place.table (table_number place.table fits.table.last),
+      number_word place.seat (seat_number place.seat fits.last),
     ) refl)
 
 -- the test of a place, and what it tells
@@ -159,7 +166,7 @@ place_again place fits =
 
 place_member : IsMember place_of place_text (IsPlaceOf MOST_TABLES MOST_SEATS)
 place_member = record {
-  field = record { found = place_found; again = place_again; spaceless = place_lacks 32 (omega arith) };
+  field = record { found = place_found; again = place_again; word = place_word };
   commaless = place_lacks 44 (omega arith);
 }
 
@@ -187,13 +194,11 @@ module _ {A : Type 0} {read : List ℕ → Option A} {write : A → List ℕ} {F
   members_again items fits =
       ap (few_of MOST_SEATS read) (cut_again items fits) ∙ few_again member.field MOST_SEATS items fits
 
-  members_spaceless : (items : List A) → AreFew MOST_SEATS Fits items → lacks 32 (list_text write items) ≡ true
-  members_spaceless [] fits = absurd (omega (arith, fits.0))
-  members_spaceless (item ∷ items) fits = joined_lacks 32 44 (omega arith) (write item) (map write items)
-      (each_spaceless member.field (item ∷ items) fits.2)
+  members_word : (items : List A) → AreFew MOST_SEATS Fits items → is_word (list_text write items) ≡ true
+  members_word items fits = joined_word 44 (omega arith) (map write items) (each_word member.field items fits.2)
 
   members_field : IsField (members_of read) (list_text write) (AreFew MOST_SEATS Fits)
-  members_field = record { found = members_found; again = members_again; spaceless = members_spaceless }
+  members_field = record { found = members_found; again = members_again; word = members_word }
 
 -- the places of a list
 pub places_field : IsField (members_of place_of) (list_text place_text) AreLinePlaces

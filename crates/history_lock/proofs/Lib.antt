@@ -8,3 +8,4 @@ pub mod Turns
 pub mod Dealing
 pub mod Ending
 pub mod Diaries
+pub mod Holds

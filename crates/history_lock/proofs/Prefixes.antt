@@ -1,11 +1,13 @@
 -- Beginnings of one list, and the entries of one caller in a longer one.
-use Rattle.std.proofs.Common.{◌≡◌, ◌≢◌, ◌==◌, ℕ, ◌≤◌, true, false, List, [], ◌∷◌, ◌++◌, length, drop, refl, sym, ap, ◌∙◌, arith, append_assoc, length-append}
+use Rattle.std.proofs.Common.{◌≡◌, ◌≢◌, ◌==◌, ℕ, ◌≤◌, true, false, List, [], ◌∷◌, ◌++◌, length, drop, refl, sym, ap, ◌∙◌, arith, append_assoc, length-append, All}
 use Rattle.std.proofs.lemmas.List.{append-nil}
 use Rattle.std.proofs.lemmas.List.Elements.{filter-append}
 use Rattle.std.proofs.lemmas.Bool.Decides.{nat_tests}
 use mathlib.Core.List.{IsPrefix}
-use Rattle.history_lock.specs.Entries.{entries_by}
+use Rattle.history_lock.specs.Entries.{entries_by, IsGrownBy}
+use Rattle.history_lock.specs.declared.grows.TheConstants.{OPENER}
 use Rattle.history_lock.specs.Views.{Each}
+use Rattle.history_lock.proofs.Lists.{each_of_all}
 
 module _ {A : Type 0} where
   -- each list begins with itself
@@ -60,3 +62,18 @@ module _ {E : Type 0} (caller_of : E → ℕ) where
       filter-append (λ e. caller_of e == i) log added
       ∙ (ap (λ w. entries_by caller_of i log ++ w) (entries_by_other k i added ne own)
       ∙ append-nil (entries_by caller_of i log))
+
+  -- where a history has of caller k just these entries, a longer one to which only k added has those that were added too
+  pub own_left : (k : ℕ) (seen own left : List E) → entries_by caller_of k seen ≡ own → IsGrownBy caller_of k seen left
+      → entries_by caller_of k left ≡ own ++ drop (length seen) left
+  own_left k seen own left mine grown =
+      let whole = grown.1 in
+      ap (entries_by caller_of k) whole
+      ∙ (entries_by_grown k seen grown.0 (each_of_all (λ e. caller_of e ≡ k) grown.0 grown.2)
+      ∙ (ap (λ w. w ++ grown.0) mine
+      ∙ (ap (λ w. own ++ w) (sym (drop_append seen grown.0)) ∙ ap (λ w. own ++ drop (length seen) w) (sym whole))))
+
+  -- a history of the opener's entries has none of a caller below it
+  pub none_own : (k : ℕ) (log : List E) → k ≤ 256 → All (λ e. caller_of e ≡ OPENER) log → entries_by caller_of k log ≡ []
+  none_own k log small opened =
+      entries_by_other OPENER k log (λ e. omega (arith, e)) (each_of_all (λ e. caller_of e ≡ OPENER) log opened)

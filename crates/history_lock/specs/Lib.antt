@@ -4,3 +4,4 @@ pub mod Rule
 pub mod Steps
 pub mod Passes
 pub mod Lending
+pub mod Holds

@@ -2,6 +2,7 @@
 ghost use Rattle.std.specs.Prelude.{◌≡◌, ◌+◌, ◌++◌, ◌<◌, ◌≤◌, length, [], ◌∷◌, List, None, Some};
 ghost use mathlib.Core.List.{IsPrefix};
 ghost use Rattle.history_lock.specs.Entries.{entries_by, IsGrownBy};
+ghost use Rattle.history_lock.specs.Holds.{IsEntered, IsLeft};
 ghost use Rattle.history_lock.specs.Passes.{lock_of, lock_id, pass_number, seen, own, holds, known, value_of, found, inside_lock, inside_number, inside_own, inside_holds, inside_known};
 ghost use Rattle.history_lock.specs.Views.{ticketed_view, let_in_view, first_share};
 ghost use Rattle.history_lock.specs.Steps.{IsFound, served_view, share_left};
@@ -80,6 +81,9 @@ impl<V: Grows> HistoryLock<V> {
 
         ensures holds { inside_holds result ≡ holds pass + 1 }
         ensures found { found result ≡ V.history (value_of result) }
+        // Only others have added to the history since the pass has seen it.
+        ensures entered { IsEntered pass result }
+
         ensures same { (inside_lock result ≡ lock_of pass) × (inside_number result ≡ pass_number pass)
             × (inside_own result ≡ own pass) × (inside_known result ≡ known pass) }
     {
@@ -108,6 +112,8 @@ impl<V: Grows> HistoryLock<V> {
         // Its own list is longer by what was added in this hold.
         ensures own { (added : List V.Entry) → V.history (value_of inside) ≡ found inside ++ added
             → own result ≡ inside_own inside ++ added }
+
+        ensures left { IsLeft inside result }
 
         ensures same { (lock_of result ≡ inside_lock inside) × (pass_number result ≡ inside_number inside)
             × (holds result ≡ inside_holds inside) × (known result ≡ inside_known inside) }

@@ -1,6 +1,7 @@
 //! A pass that was let in, with the value.
 ghost use Rattle.std.specs.Prelude.{◌≡◌, [], ◌∷◌, None};
-ghost use Rattle.history_lock.specs.Views.{inside_view};
+ghost use Rattle.history_lock.specs.Entries.{entries_by};
+ghost use Rattle.history_lock.specs.Views.{first_share, inside_view};
 
 use crate::grows::Grows;
 use crate::rule::LockSeat;
@@ -12,6 +13,8 @@ pub struct Turn<V: Grows> {
     pub(crate) seat: LockSeat<V>,
     ghost empty_slot: { seat.me.1 ≡ (0, None) ∷ [] },
     ghost let_in: { seat.me.0 ≡ inside_view number known seat.me.0 },
+    pub ghost mine: { entries_by V.caller_of number (first_share seat.me.0.shares).seen
+        ≡ (first_share seat.me.0.shares).own },
 }
 
 /// The value of a lock, while one pass is inside. It is not `Drop`: end it by `leave`.

@@ -17,6 +17,7 @@ fn deal<V: Grows>(steps: &Steps<V>, seat: LockSeat<V>, passes: Vec<Pass<V>>, n: 
     requires table { (seat.table_id ≡ steps.now.table_id) × (steps.now.table_id.words ≡ 4) }
     requires all { (seat.me.0 ≡ opening_view n (first_share seat.me.0.shares).seen) × (seat.me.1 ≡ []) × (0 < n) }
     requires room { (passes.items ≡ []) × (n ≤ vec_capacity passes) }
+    requires opener { (n ≤ 256) × All (λ e. V.caller_of e ≡ OPENER) (first_share seat.me.0.shares).seen }
     ensures count { vec_len result ≡ n }
     ensures fresh { AreFresh seat.table_id (first_share seat.me.0.shares).seen result.items }
 {

@@ -7,6 +7,8 @@ ghost use Rattle.seat_book.specs.Players.{players_in, player_at, player_of, plac
 ghost use Rattle.seat_book.specs.Counts.{count_at, greatest_count, least_count};
 ghost use Rattle.seat_book.specs.Tables.{status_at, with_status, IsStatusOf};
 ghost use Rattle.seat_book.specs.Kept.{slot_of};
+ghost use Rattle.std.specs.List.{list_any};
+ghost use Rattle.std.specs.Option.{is_some};
 
 use crate::{Place, Seated, TableStatus};
 use button_blinds::SeatSet;
@@ -256,6 +258,29 @@ impl SeatBook {
             }
         }
         least
+    }
+
+    /// Gives how the tables stand, by number.
+    pub fn statuses(&self) -> &[TableStatus]
+        ensures { result.now ≡ self.now.tables }
+    {
+        &self.statuses
+    }
+
+    /// Tells whether a chip race is pending at some table.
+    pub fn is_race_pending(&self) -> bool
+        ensures { result ≡ list_any (λ status. is_some status.race) self.now.tables }
+    {
+        self.statuses
+            .iter()
+            .any(|status| status.race.is_some())
+    }
+
+    /// Tells whether some table has begun in the round of hand-for-hand that is open.
+    pub fn is_any_begun(&self) -> bool
+        ensures { result ≡ list_any (λ status. status.begun) self.now.tables }
+    {
+        self.statuses.iter().any(|status| status.begun)
     }
 
     /// Tells how a table stands.

@@ -4,10 +4,12 @@ pub mod Chips
 pub mod ChipsAfter
 pub mod Contested
 pub mod DueNames
+pub mod NoCards
 pub mod Paid
 pub mod Plays
 pub mod Puts
 pub mod Refusals
+pub mod Rising
 pub mod Showdowns
 pub mod Slots
 pub mod Sound

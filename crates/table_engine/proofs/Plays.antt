@@ -6,8 +6,8 @@ use Rattle.rulebook.proofs.Found.{none-by_test}
 use Rattle.table_engine.specs.declared.start.HandStart.{HandStart}
 use Rattle.table_engine.specs.declared.record.ActOf.{ActOf}
 use Rattle.table_engine.specs.Hands.{HandTerms}
-use Rattle.table_engine.specs.Acts.{refusal_of_act}
-use Rattle.table_engine.specs.Plays.{are_lawful_after, IsLawfulPlay}
+use Rattle.table_engine.specs.Acts.{refusal_of_act, time_act}
+use Rattle.table_engine.specs.Plays.{AreTimedAfter, IsTimed, are_lawful_after, IsLawfulPlay}
 
 -- After any acts, others are lawful with one more where they are and the one more is refused by no check.
 lawful_after-more : (start : HandStart) (before acts : List ActOf) (act : ActOf)
@@ -53,3 +53,19 @@ pub lawful_play-each : (hand : HandTerms) (front : List ActOf) (act : ActOf) (ba
     → refusal_of_act (record hand { acts = front }) act.name act.act ≡ None
 lawful_play-each hand front act back play is = lawful_after-each hand.start [] front act back
     (ap (are_lawful_after hand.start []) (sym is) ∙ play.acts)
+
+-- After any acts, others are as called with one more where they are and the one more is.
+timed_after-more : (start : HandStart) (before acts : List ActOf) (act : ActOf) → AreTimedAfter start before acts
+    → (act.by_time ≡ true → act ≡ time_act (record { start = start; acts = before ++ acts }))
+    → AreTimedAfter start before (acts ++ act ∷ [])
+timed_after-more start before [] act timed called = (rw append-nil at called, tt)
+timed_after-more start before (first ∷ acts) act timed called =
+    let joined : (before ++ first ∷ []) ++ acts ≡ before ++ first ∷ acts = append_assoc before (first ∷ []) acts in
+    (timed.0, timed_after-more start (before ++ first ∷ []) acts act timed.1 (rw joined called))
+
+pub timed-none : (start : HandStart) → IsTimed (record { start = start; acts = [] })
+timed-none start = record { acts = tt }
+
+pub timed-more : (hand : HandTerms) (act : ActOf) → IsTimed hand
+    → (act.by_time ≡ true → act ≡ time_act hand) → IsTimed (record hand { acts = hand.acts ++ act ∷ [] })
+timed-more hand act timed called = record { acts = timed_after-more hand.start [] hand.acts act timed.acts called }

@@ -6,7 +6,7 @@ use Rattle.table_engine.specs.declared.start.StartSeat.{StartSeat}
 use Rattle.table_engine.specs.declared.record.HandRecord.{HandRecord}
 use Rattle.table_engine.specs.Hands.{HandTerms}
 use Rattle.table_engine.specs.Results.{stack_after_hand, stacks_after_hand, with_stack, with_stacks, players_after}
-use Rattle.table_engine.specs.Plays.{hand_of, IsCompletePlay}
+use Rattle.table_engine.specs.Plays.{recorded_hand, IsCompletePlay}
 use Rattle.rulebook.proofs.Rewrites.{rewritten-more, rewritten-here}
 
 -- Another stack for one player more.
@@ -37,9 +37,9 @@ with_stacks-made stack_of (player ∷ players) = ap (◌∷◌ (with_stack playe
 
 -- The players of a complete play, with the stacks of its record, are those of the hand after it.
 pub players-of_record : (done : HandRecord) → IsCompletePlay done
-    → with_stacks done.start.seats done.stacks ≡ players_after (hand_of done)
+    → with_stacks done.start.seats done.stacks ≡ players_after (recorded_hand done)
 players-of_record done complete = rw complete.stacks
-    (with_stacks-made (stack_after_hand (hand_of done)) done.start.seats)
+    (with_stacks-made (stack_after_hand (recorded_hand done)) done.start.seats)
 
 -- What does not look at a player's stack is the same of players with other stacks.
 same-whatever_stack : {K : Type 0} (key : StartSeat → K) (stack_of : StartSeat → ℕ) (players : List StartSeat)

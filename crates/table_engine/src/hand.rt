@@ -1,12 +1,13 @@
 //! A hand that is played.
 
-ghost use Rattle.std.specs.Prelude.{◌≡◌, ◌<◌, ◌^◌, [], Some, None, IsTrue, false, true, sum, is_none, IfOk, IfErr, OnOk, OnErr};
+ghost use Rattle.std.specs.Prelude.{◌≡◌, ◌<◌, ◌^◌, [], Some, None, IsTrue, false, true, sum, is_none, option_map, IfOk, IfErr, OnOk, OnErr};
 ghost use Rattle.table_engine.specs.Starts.{IsLawfulStart};
-ghost use Rattle.table_engine.specs.Hands.{due_in_hand, due_name, is_over, seat_of_name};
-ghost use Rattle.table_engine.specs.Acts.{refusal_in_seat, refusal_of_act, refusal_of_time, act_in_time, done_in_seat, done_of_act, done_of_time, hand_after, hand_after_time, IsAnswer};
+ghost use Rattle.betting_round.specs.ActChecks.{facing_in};
+ghost use Rattle.table_engine.specs.Hands.{due_in_hand, due_name, is_over, seat_of_name, street_of};
+ghost use Rattle.table_engine.specs.Acts.{time_act, refusal_in_seat, refusal_of_act, refusal_of_time, act_in_time, done_in_seat, done_of_act, done_of_time, hand_after, hand_after_time, IsAnswer};
 ghost use Rattle.table_engine.specs.Awards.{awards_in_hand, most_awarded};
 ghost use Rattle.table_engine.specs.Results.{is_won_by_folds, showdown_awards, starting_stacks};
-ghost use Rattle.table_engine.specs.Plays.{IsLawfulPlay, IsCompletePlay};
+ghost use Rattle.table_engine.specs.Plays.{IsLawfulPlay, IsCompletePlay, IsTimed};
 
 use crate::awards::Awards;
 use crate::dealing::{all_live, board_of, dealt_seats};
@@ -15,7 +16,7 @@ use crate::record::{ActFault, ActOf, HandRecord};
 use crate::standing::Standing;
 use crate::start::HandStart;
 use crate::telling::{first_puts, tell};
-use betting_round::{Act, Done};
+use betting_round::{Act, Done, Facing};
 use floor_text::{List, Name, Refusal};
 use pot_layers::PotTally;
 use showdown::award;
@@ -80,6 +81,7 @@ impl Hand {
         ensures same { result.now ≡ self.now.start }
         ensures lawful { IsLawfulStart self.now.start }
         ensures played { IsLawfulPlay self.now }
+        ensures timed { IsTimed self.now }
     {
         &self.start
     }
@@ -100,11 +102,20 @@ impl Hand {
         self.start.name_in_seat(seat)
     }
 
+    /// Tells what the player who is due faces. `None` exactly where nobody is due.
+    pub fn facing(&self) -> Option<Facing>
+        ensures facing { result ≡ option_map (facing_in (street_of self.now)) (due_in_hand self.now) }
+    {
+        let seat = self.due_seat()?;
+        Some(self.standing.round.facing(seat))
+    }
+
     /// Gives the seat of the player of this name, if he is dealt in. Who acts is mostly due, and then there is no
     /// search.
     fn seat_of_name(&self, name: Name) -> Option<u8>
         ensures seat { result ≡ seat_of_name self.now.start name }
         ensures played { IsLawfulPlay self.now }
+        ensures timed { IsTimed self.now }
     {
         if let Some(seat) = self.standing.round.due() {
             if self.start.has_in_seat(seat, name) {
@@ -136,12 +147,14 @@ impl Hand {
         act: Act,
         by_time: bool,
     ) -> Result<Done, ActFault>
-        requires { seat_of_name self.old.start name ≡ Some seat }
+        requires seat { seat_of_name self.old.start name ≡ Some seat }
+        requires timed { by_time ≡ true → record { name = name; act = act; by_time = by_time } ≡ time_act self.old }
         ensures answer { IsAnswer (refusal_in_seat self.old act seat) result }
         ensures state { OnOk result (self.new ≡ hand_after self.old name act by_time) }
         ensures done { IfOk result (λ done. done ≡ done_in_seat self.old act seat) }
         ensures err { OnErr result (self.new ≡ self.old) }
         ensures played { IsLawfulPlay self.new }
+        ensures timed { IsTimed self.new }
     {
         let done = self.standing.check(self.start.game, seat, act)?;
         self.acts.push(ActOf { name, act, by_time })?;
@@ -162,6 +175,7 @@ impl Hand {
         ensures done { IfOk result (λ done. done ≡ done_of_act self.old name act) }
         ensures err { OnErr result (self.new ≡ self.old) }
         ensures played { IsLawfulPlay self.new }
+        ensures timed { IsTimed self.new }
     {
         let Some(seat) = self.seat_of_name(name) else {
             return Err(ActFault::No(Refusal::NotDealt));
@@ -190,6 +204,7 @@ impl Hand {
         ensures done { IfOk result (λ done. done ≡ done_of_time self.old) }
         ensures err { OnErr result (self.new ≡ self.old) }
         ensures played { IsLawfulPlay self.new }
+        ensures timed { IsTimed self.new }
     {
         let Some(seat) = self.due_seat() else {
             return Err(ActFault::No(Refusal::HandOver));

@@ -3,15 +3,20 @@
 ghost use Rattle.std.specs.Prelude.{◌≡◌, ◌+◌, ◌%◌, ◌==◌, ◌<◌, ◌≤◌, ℕ, List, [], ◌∷◌, ◌++◌, Some, None, IsSome, false, true, map, nat_le, length, sum, sum_by};
 ghost use Rattle.std.specs.List.{list_all};
 ghost use Rattle.betting_round.specs.declared.act.Act.TheVariants as acts;
+ghost use Rattle.betting_round.specs.declared.act.Act.{Act};
+ghost use Rattle.card_set.specs.declared.card.Card.{Card};
 ghost use Rattle.pot_layers.specs.Layers.{is_contested, layers};
 ghost use Rattle.pot_layers.specs.PotTests.{total_of};
 ghost use Rattle.table_engine.specs.declared.record.ActOf.{ActOf};
 ghost use Rattle.table_engine.specs.declared.start.StartSeat.{StartSeat};
 ghost use Rattle.table_engine.specs.Starts.{IsLawfulStart, chips_of, have_playable_stacks};
 ghost use Rattle.table_engine.specs.Hands.{HandTerms, behind, due_in_hand, due_name, is_over, player_of, put_in_hand, street_of, streets_of};
-ghost use Rattle.table_engine.specs.Acts.{refusal_of_act};
+ghost use Rattle.floor_text.specs.Refusals.{refusal_number};
+ghost use Rattle.rulebook.specs.Pairs.{are_rising};
+ghost use Rattle.table_engine.specs.Acts.{act_checks, done_of_act, refusal_of_act, time_act};
 ghost use Rattle.table_engine.specs.Results.{award, is_won_by_folds, players_after, pot, puts_in_hand, stacks_after_hand, starting_stacks};
-ghost use Rattle.table_engine.specs.Plays.{IsLawfulPlay};
+ghost use Rattle.table_engine.specs.Plays.{IsLawfulPlay, are_lawful_after};
+ghost use Rattle.table_engine.specs.declared.start.HandStart.{HandStart};
 
 /// Says that the chips of a hand are kept. At each moment, all that the players have behind and all that they have put
 /// in sum to their starting stacks, and nobody has put in more than his stack. The pots of a hand that is over sum to
@@ -85,4 +90,27 @@ pub fn players_of_a_hand()
 pub fn showdown_of_a_hand()
     ensures { (hand : HandTerms) → IsLawfulStart hand.start → IsLawfulPlay hand → is_over hand ≡ true
         → is_won_by_folds hand ≡ false → is_contested (puts_in_hand hand) ≡ true }
+{}
+
+/// Says that betting does not depend on cards.
+pub fn cards_do_not_bet()
+    ensures due { (hand : HandTerms) (deck : List Card)
+        → due_name (record hand { start = record hand.start { deck = deck } }) ≡ due_name hand }
+    ensures play { (start : HandStart) (deck : List Card) (acts : List ActOf)
+        → are_lawful_after (record start { deck = deck }) [] acts ≡ are_lawful_after start [] acts }
+    ensures done { (hand : HandTerms) (deck : List Card) (name : List ℕ) (act : Act)
+        → done_of_act (record hand { start = record hand.start { deck = deck } }) name act ≡ done_of_act hand name act }
+    ensures time { (hand : HandTerms) (deck : List Card)
+        → time_act (record hand { start = record hand.start { deck = deck } }) ≡ time_act hand }
+    ensures refusal { (hand : HandTerms) (deck : List Card) (name : List ℕ) (act : Act)
+        → refusal_of_act (record hand { start = record hand.start { deck = deck } }) name act
+        ≡ refusal_of_act hand name act }
+{}
+
+/// Says that the checks of an act stand in rising number, so that the first that holds is the lowest.
+pub fn checks_of_an_act_rise()
+    ensures rise { (hand : HandTerms) (name : List ℕ) (act : Act)
+        → are_rising (map (λ check. refusal_number check.0) (act_checks hand name act)) ≡ true }
+    ensures whole { (hand : HandTerms) → is_over hand ≡ true → is_won_by_folds hand ≡ false
+        → (streets_of hand).left ≡ 0 }
 {}

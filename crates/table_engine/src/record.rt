@@ -2,7 +2,7 @@
 
 ghost use Rattle.std.specs.Prelude.{◌≡◌, length};
 ghost use Rattle.table_engine.specs.declared.record.ActFault.TheVariants.{No, NoMemory};
-ghost use Rattle.table_engine.specs.Plays.{IsCompletePlay, hand_of};
+ghost use Rattle.table_engine.specs.Plays.{IsCompletePlay, recorded_hand};
 ghost use Rattle.table_engine.specs.Results.{with_stacks, players_after};
 
 use crate::players::set_stacks;
@@ -38,7 +38,7 @@ impl HandRecord {
     pub fn into_players(self) -> List<StartSeat>
         requires { length self.stacks ≡ length self.start.seats }
         ensures same { result ≡ with_stacks self.start.seats self.stacks }
-        ensures after { IsCompletePlay self → result ≡ players_after (hand_of self) }
+        ensures after { IsCompletePlay self → result ≡ players_after (recorded_hand self) }
     {
         let HandRecord { start, stacks, .. } = self;
         let mut players = start.seats.into_vec();

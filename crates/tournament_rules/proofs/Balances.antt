@@ -75,20 +75,20 @@ balance_passed book from to none =
     none_of_three fullest shortest even = rw (fullest, shortest, even) refl
 
 -- Who moves by a balance, and where he sits then.
-pub record Mover (seating : Seating) (from to : ℕ) (order : Move) : Type 0 where
+pub record Mover (seating : Seating) (from to : ℕ) (move_ : Move) : Type 0 where
   pub seated : Seated
   pub seat : ℕ
   pub sits : player_at seating.players (record { table = from; seat = next_big_seat seating from }) ≡ Some seated
   pub worst : worst_empty_seat seating to ≡ Some seat
-  pub is : record { player = seated.player; from = seated.place; to = record { table = to; seat = seat } } ≡ order
+  pub is : record { player = seated.player; from = seated.place; to = record { table = to; seat = seat } } ≡ move_
 
 -- Where a balance has a move, there is a player who moves.
-pub mover : (seating : Seating) (from to : ℕ) (order : Move) → balance_move seating from to ≡ Some order
-    → Mover seating from to order
-mover seating from to order is = by_parts (next_big_player seating from) refl (worst_empty_seat seating to) refl is
+pub mover : (seating : Seating) (from to : ℕ) (move_ : Move) → balance_move seating from to ≡ Some move_
+    → Mover seating from to move_
+mover seating from to move_ is = by_parts (next_big_player seating from) refl (worst_empty_seat seating to) refl is
   where
     by_parts : (found : Option Seated) → next_big_player seating from ≡ found → (seat : Option ℕ)
-        → worst_empty_seat seating to ≡ seat → move_to to found seat ≡ Some order → Mover seating from to order
+        → worst_empty_seat seating to ≡ seat → move_to to found seat ≡ Some move_ → Mover seating from to move_
     by_parts None sits seat worst moves = absurd cc
     by_parts (Some seated) sits None worst moves = absurd cc
     by_parts (Some seated) sits (Some seat) worst moves =
@@ -116,9 +116,9 @@ valid_balanced book from to valid none = by_move (balance_move book.seating from
         valid_counted now (book.accepted + 1) now.stopped is (omega (arith, before, begun))
         (omega (arith, raised, group))
 
-    by_mover : (order : Move) → Mover book.seating from to order
-        → IsValid (record book { seating = after_move order book.seating; accepted = book.accepted + 1 })
-    by_mover order who =
+    by_mover : (move_ : Move) → Mover book.seating from to move_
+        → IsValid (record book { seating = after_move move_ book.seating; accepted = book.accepted + 1 })
+    by_mover move_ who =
         let players = book.seating.players in
         let tables = book.seating.tables in
         let lawful = valid.tables.lawful in
@@ -156,7 +156,7 @@ valid_balanced book from to valid none = by_move (balance_move book.seating from
         refl in
         let moves : reseated (record { player = who.seated.player; from = who.seated.place; to = place })
         (player_of players who.seated.player) players ≡ moved place who.seated players = rw number refl in
-        let same : reseated order (player_of players order.player) players ≡ moved place who.seated players =
+        let same : reseated move_ (player_of players move_.player) players ≡ moved place who.seated players =
         subst (λ (o : Move). reseated o (player_of players o.player) players ≡ moved place who.seated players) who.is
         moves in
         subst (λ (ps : List Seated). IsValid (record book {
@@ -166,8 +166,8 @@ valid_balanced book from to valid none = by_move (balance_move book.seating from
 
     by_move : (found : Option Move) → balance_move book.seating from to ≡ found
         → IsValid (record book {
-          seating = option_map_or (λ order. after_move order book.seating) found book.seating;
+          seating = option_map_or (λ move_. after_move move_ book.seating) found book.seating;
           accepted = book.accepted + 1;
         })
     by_move None is = counted book valid refl refl
-    by_move (Some order) is = by_mover order (mover book.seating from to order is)
+    by_move (Some move_) is = by_mover move_ (mover book.seating from to move_ is)

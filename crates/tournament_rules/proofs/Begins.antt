@@ -33,7 +33,7 @@ use Rattle.table_engine.specs.declared.start.HandStart.{HandStart}
 use Rattle.table_engine.specs.declared.start.StartSeat.{StartSeat}
 use Rattle.table_engine.specs.Starts.{chips_of, have_playable_stacks, IsLawfulStart}
 use Rattle.floor_events.specs.declared.event.Event.TheVariants.{Begin}
-use Rattle.tournament_rules.specs.Books.{BookState, has_table, start_at, players_out, blind_now}
+use Rattle.tournament_rules.specs.Books.{BookState, has_table, start_at, starters_of, blind_now}
 use Rattle.tournament_rules.specs.Players.{start_seat, is_dealt_in, dealt_seats, dealt_in}
 use Rattle.tournament_rules.specs.Checks.{book_checks, book_refusal, is_playing}
 use Rattle.tournament_rules.specs.Chips.{sold_by}
@@ -44,8 +44,8 @@ use Rattle.tournament_rules.proofs.Restacked.{count_changed, entered_changed}
 use Rattle.tournament_rules.proofs.Names.{seated_names}
 use Rattle.tournament_rules.proofs.Passed.{is_so}
 use Rattle.tournament_rules.proofs.Entries.{right_has}
-use Rattle.tournament_rules.proofs.Fitting.{table_range, each_status, fitting_changed, out_changed, play_changed, chips_out, due_more, marked_more}
-use Rattle.tournament_rules.proofs.KeptUnits.{keeps-set, out_kept, units_kept}
+use Rattle.tournament_rules.proofs.Fitting.{table_range, each_status, fitting_changed, starts_changed, play_changed, chips_of_start, due_more, marked_more}
+use Rattle.tournament_rules.proofs.KeptUnits.{keeps-set, starts_kept, units_kept}
 use Rattle.tournament_rules.proofs.NextMarks.{marks-within}
 use Rattle.tournament_rules.proofs.DealtIn.{as_dealt, dealt-stacks, rest-dealt_in, lent-dealt_in, lent_elsewhere-dealt_in, whole-dealt_in, playable-dealt}
 use Rattle.tournament_rules.proofs.TakenSeats.{taken_within}
@@ -89,10 +89,10 @@ may_begin book table row free =
     }
 
 -- No start is out at a table where no hand is played.
-pub none_out : (book : BookState) (table : ℕ) → IsValid book → is_playing book table ≡ false
-    → start_at book.out table ≡ None
-none_out book table valid rests =
-    none-by_test (start_at book.out table) (ap not (sym (valid.tables.playing table) ∙ rests))
+pub none_started : (book : BookState) (table : ℕ) → IsValid book → is_playing book table ≡ false
+    → start_at book.started table ≡ None
+none_started book table valid rests =
+    none-by_test (start_at book.started table) (ap not (sym (valid.tables.playing table) ∙ rests))
 
 no_items : {A B : Type 0} (f : A → B) (items : List A) → map f items ≡ [] → items ≡ []
 no_items f [] none = refl
@@ -103,8 +103,8 @@ pub all_rest : (book : BookState) (table : ℕ) → IsValid book → is_playing 
     → filter (is_lent table) book.seating.players ≡ []
 all_rest book table valid rests =
     no_items start_seat (filter (is_lent table) book.seating.players)
-    (valid.hands.lent table ∙ ap (λ (start : Option HandStart). map without_stack (players_out start))
-    (none_out book table valid rests))
+    (valid.hands.lent table ∙ ap (λ (start : Option HandStart). map without_stack (starters_of start))
+    (none_started book table valid rests))
 
 product_small : (entries stack : ℕ) → entries ≤ MOST_ENTRIES → stack ≤ 1000000000 → entries * stack ≤ 640000000000
 product_small entries stack few small = grind arith
@@ -236,7 +236,7 @@ valid_begun book table row valid free =
     let count = valid.tables.tables in
     let size = valid.tables.lawful.tables in
     let room = valid.tables.room in
-    let within : table < length book.out = omega (arith, range.1, room) in
+    let within : table < length book.started = omega (arith, range.1, room) in
     let stands = valid.tables.lawful.statuses table in
     let rest = all_rest book table valid may.rests in
     let marks = subst (λ (seats : ℕ). AreMarksOf seats next.marks) (sym valid.tables.seats) lawful.marks in
@@ -252,7 +252,7 @@ valid_begun book table row valid free =
       entries = entered_changed book.entries players book.busts (as_dealt table next.waiting)
           (dealt-stacks table next.waiting)
           valid.entries;
-      tables = fitting_changed book.plan book.seating book.out table
+      tables = fitting_changed book.plan book.seating book.started table
           status (Some start) (as_dealt table next.waiting)
           valid.tables may.there
           (record {
@@ -261,9 +261,9 @@ valid_begun book table row valid free =
             unit = stands.unit;
             race = stands.race;
           }) refl (dealt-stacks table next.waiting);
-      hands = out_kept book.plan tables (with_status tables table status) (dealt_in table next.waiting players)
-          (slice_set book.out table (Some start))
-          (out_changed book.plan tables players (dealt_in table next.waiting players) book.out table
+      hands = starts_kept book.plan tables (with_status tables table status) (dealt_in table next.waiting players)
+          (slice_set book.started table (Some start))
+          (starts_changed book.plan tables players (dealt_in table next.waiting players) book.started table
           (Some start) valid.hands within
           (λ found is. subst (IsStartAt book.plan tables table) (same_Some start found is)
           (record { here = refl; lawful = lawful; seats = refl; unit = unit_here book table valid may }))
@@ -272,8 +272,8 @@ valid_begun book table row valid free =
       chips =
           let kept = valid.chips in
           let gone = rest-dealt_in table next.waiting players in
-          let play = play_changed book.out table (Some start) within in
-          let none : chips_out (start_at book.out table) ≡ 0 = ap chips_out (none_out book table valid may.rests) in
+          let play = play_changed book.started table (Some start) within in
+          let none : chips_of_start (start_at book.started table) ≡ 0 = ap chips_of_start (none_started book table valid may.rests) in
           omega (arith, kept, gone, play, none);
       units = units_kept book.plan book.level book.added tables (with_status tables table status) players
           (dealt_in table next.waiting players) valid.units keeps

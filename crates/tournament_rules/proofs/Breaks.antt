@@ -43,7 +43,7 @@ use Rattle.tournament_rules.proofs.Passed.{is_so}
 use Rattle.tournament_rules.proofs.Ends.{valid_counted}
 use Rattle.tournament_rules.proofs.Begins.{all_rest}
 use Rattle.tournament_rules.proofs.Fitting.{table_range, status_here, each_status, length-with_status}
-use Rattle.tournament_rules.proofs.KeptUnits.{keeps-set, one_unit, out_kept, units_kept}
+use Rattle.tournament_rules.proofs.KeptUnits.{keeps-set, one_unit, starts_kept, units_kept}
 use Rattle.tournament_rules.proofs.Moved.{MayMove, moved, book_moved, valid_moved, all-moved, filter-moved}
 
 -- the right fill list of a break, and its places and names in some order
@@ -272,7 +272,7 @@ module _ (book : BookState) (table : ℕ) (name : List ℕ) (place : Place) (pla
           × MayTake (record book { seating = seating }) table places
 
       by_find : (found : Option Seated) → find (is_called name) (players_at book.seating.players table) ≡ found
-          → both (option_map_or (λ order. after_move order book.seating)
+          → both (option_map_or (λ move_. after_move move_ book.seating)
           (option_map (λ player. record { player = player.player; from = player.place; to = place }) found)
           book.seating)
       by_find None is =
@@ -297,8 +297,8 @@ module _ (book : BookState) (table : ℕ) (name : List ℕ) (place : Place) (pla
       by_find (Some player) is =
           let players = book.seating.players in
           let number = named-found players table name player valid.tables.lawful.apart is in
-          let order : Move = record { player = player.player; from = player.place; to = place } in
-          let same : reseated order (player_of players player.player) players ≡ moved place player players =
+          let move_ : Move = record { player = player.player; from = player.place; to = place } in
+          let same : reseated move_ (player_of players player.player) players ≡ moved place player players =
           rw number refl in
           subst (λ (ps : List Seated). both (record book.seating { players = ps })) (sym same) (by_player player is)
 
@@ -346,10 +346,10 @@ valid_forgotten book table valid there =
         seats = valid.tables.seats;
         room = valid.tables.room;
         nobody = valid.tables.nobody;
-        playing = λ other. each_status (λ number status. status.playing ≡ is_some (start_at book.out number)) tables
+        playing = λ other. each_status (λ number status. status.playing ≡ is_some (start_at book.started number)) tables
             table status range.0 last (valid.tables.playing table) other (valid.tables.playing other);
       };
-      hands = out_kept book.plan tables (with_status tables table status) book.seating.players book.out valid.hands
+      hands = starts_kept book.plan tables (with_status tables table status) book.seating.players book.started valid.hands
           keeps.unit;
       chips = valid.chips;
       units = units_kept book.plan book.level book.added tables (with_status tables table status) book.seating.players

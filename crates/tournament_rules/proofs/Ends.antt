@@ -18,17 +18,17 @@ use Rattle.table_engine.specs.Hands.{HandTerms, is_over}
 use Rattle.table_engine.specs.Results.{with_stack, stack_after_hand, players_after}
 use Rattle.table_engine.specs.Plays.{IsLawfulPlay}
 use Rattle.table_engine.proofs.ChipsAfter.{chips-players, stacks-whole}
-use Rattle.tournament_rules.specs.Books.{BookState, start_at, players_out}
+use Rattle.tournament_rules.specs.Books.{BookState, start_at, starters_of}
 use Rattle.tournament_rules.specs.Players.{start_seat, paid, put_back}
-use Rattle.tournament_rules.specs.Effects.{with_table, at_rest, ended, broke_by, bust_of, next_group, settled, void_at, void_first, stopped_book}
+use Rattle.tournament_rules.specs.Effects.{with_table, at_rest, ended, busted_by, bust_of, next_group, settled, void_at, void_first, stopped_book}
 use Rattle.tournament_rules.specs.Units.{is_whole_at}
 use Rattle.tournament_rules.specs.Valid.{IsValid, AreOnce, AreGrouped, is_lent, without_stack}
 use Rattle.tournament_rules.proofs.Restacked.{count_changed, entered_changed, apart_changed}
 use Rattle.tournament_rules.proofs.Paying.{numbers_of, paid-stacks, picked_numbers, ArePayees, rest-put_back, none_lent, lent_elsewhere, whole-put_back}
 use Rattle.tournament_rules.proofs.Remaining.{somebody_stays}
 use Rattle.tournament_rules.proofs.Stayed.{who_stay, all_stay, fitting_left, entered_left, none_lent-stay, lent_elsewhere-stay, count_elsewhere-stay, rest-stay, stayed-lent, with_nothing, lent_after, once_left, grouped_left}
-use Rattle.tournament_rules.proofs.Fitting.{table_range, each_status, fitting_changed, table_out, out_changed, play_changed, chips_out}
-use Rattle.tournament_rules.proofs.KeptUnits.{keeps-set, out_kept, units_kept}
+use Rattle.tournament_rules.proofs.Fitting.{table_range, each_status, fitting_changed, table_started, starts_changed, play_changed, chips_of_start}
+use Rattle.tournament_rules.proofs.KeptUnits.{keeps-set, starts_kept, units_kept}
 
 -- The payees are a start's players with other stacks, of the same sum, that are multiples of the unit.
 pub record GoBackTo (start : HandStart) (payees : List StartSeat) : Type 0 where
@@ -53,14 +53,14 @@ playable_parts unit (payee ∷ payees) playable =
 
 -- The players of the start that is out at a table are those who have nothing at rest there.
 payees_lent : (book : BookState) (table : ℕ) (start : HandStart) (payees : List StartSeat) → IsValid book
-    → start_at book.out table ≡ Some start → map without_stack payees ≡ map without_stack start.seats
+    → start_at book.started table ≡ Some start → map without_stack payees ≡ map without_stack start.seats
     → ArePayees (is_lent table) book.seating.players payees
 payees_lent book table start payees valid is back = record {
   numbers =
-      let out : map start_seat (filter (is_lent table) book.seating.players)
+      let started : map start_seat (filter (is_lent table) book.seating.players)
       ≡ map without_stack start.seats = valid.hands.lent table
-      ∙ ap (λ (start : Option HandStart). map without_stack (players_out start)) is in
-      sym (numbers_without payees) ∙ (ap numbers_of (back ∙ sym out) ∙ picked_numbers
+      ∙ ap (λ (start : Option HandStart). map without_stack (starters_of start)) is in
+      sym (numbers_without payees) ∙ (ap numbers_of (back ∙ sym started) ∙ picked_numbers
       (filter (is_lent table) book.seating.players));
 }
 
@@ -76,7 +76,7 @@ left_with book table payees = who_stay table (put_back payees book.seating.playe
 abbrev closed : BookState → ℕ → List Seated → List Bust → ℕ → ℕ → BookState
 closed book table players busts group accepted = record book {
   seating = record (with_table book.seating table at_rest) { players = players };
-  out = slice_set book.out table None;
+  started = slice_set book.started table None;
   busts = busts;
   group = group;
   accepted = accepted;
@@ -85,16 +85,16 @@ closed book table players busts group accepted = record book {
 -- A book is valid once the hand at a table has ended, stacks of its start's sum went back to its players, and those who
 -- have none have left.
 valid_closed : (book : BookState) (table : ℕ) (start : HandStart) (payees : List StartSeat) (busts : List Bust)
-    (group accepted : ℕ) → IsValid book → start_at book.out table ≡ Some start → GoBackTo start payees
+    (group accepted : ℕ) → IsValid book → start_at book.started table ≡ Some start → GoBackTo start payees
     → AreOnce book.entries (left_with book table payees) busts → AreGrouped busts group → book.begun ≤ accepted
     → group ≤ accepted → IsValid (closed book table (left_with book table payees) busts group accepted)
 valid_closed book table start payees busts group accepted valid is back once grouped counted raised =
-    let there = table_out book.plan book.seating book.out table start valid.tables is in
+    let there = table_started book.plan book.seating book.started table start valid.tables is in
     let range = table_range 1 book.plan.tables table there in
     let count = valid.tables.tables in
     let size = valid.tables.lawful.tables in
     let room = valid.tables.room in
-    let within : table < length book.out = omega (arith, range.1, room) in
+    let within : table < length book.started = omega (arith, range.1, room) in
     let those = payees_lent book table start payees valid is back.same in
     let apart = valid.tables.lawful.apart in
     let began = valid.hands.starts table start is in
@@ -115,12 +115,12 @@ valid_closed book table start payees busts group accepted valid is back once gro
       tables = fitting_left book.plan (record book.seating {
         players = players;
         tables = with_status book.seating.tables table status;
-      }) (slice_set book.out table None) (is_lent table)
-          (fitting_changed book.plan book.seating book.out table status None (paid payees) valid.tables there
+      }) (slice_set book.started table None) (is_lent table)
+          (fitting_changed book.plan book.seating book.started table status None (paid payees) valid.tables there
           (record { marks = stands.marks; unit = stands.unit; race = stands.race }) refl (paid-stacks payees));
-      hands = out_kept book.plan tables (with_status tables table status) (who_stay table players)
-          (slice_set book.out table None)
-          (out_changed book.plan tables book.seating.players (who_stay table players) book.out
+      hands = starts_kept book.plan tables (with_status tables table status) (who_stay table players)
+          (slice_set book.started table None)
+          (starts_changed book.plan tables book.seating.players (who_stay table players) book.started
           table None valid.hands within
           (λ start none. absurd cc)
           (ap (λ (found : List Seated). map start_seat found) (none_lent-stay table players))
@@ -131,8 +131,8 @@ valid_closed book table start payees busts group accepted valid is back once gro
           let kept = valid.chips in
           let rest = rest-put_back (is_lent table) book.seating.players payees apart those (lent_nothing table) in
           let stay = rest-stay table players in
-          let play = play_changed book.out table None within in
-          let his : chips_out (start_at book.out table) ≡ chips_of start.seats = ap chips_out is in
+          let play = play_changed book.started table None within in
+          let his : chips_of_start (start_at book.started table) ≡ chips_of start.seats = ap chips_of_start is in
           let same = back.kept in
           omega (arith, kept, rest, stay, play, his, same);
       units = units_kept book.plan book.level book.added tables (with_status tables table status) book.seating.players
@@ -164,7 +164,7 @@ valid_closed book table start payees busts group accepted valid is back once gro
 -- A book is valid once the hand at a table has ended and stacks that can be played with, of its start's sum, went back
 -- to its players.
 valid_ended : (book : BookState) (table : ℕ) (start : HandStart) (payees : List StartSeat) → IsValid book
-    → start_at book.out table ≡ Some start → GoBackTo start payees
+    → start_at book.started table ≡ Some start → GoBackTo start payees
     → list_all (λ payee. nat_lt 0 payee.stack) payees ≡ true → IsValid (ended book table payees)
 valid_ended book table start payees valid is back above =
     let those = payees_lent book table start payees valid is back.same in
@@ -230,7 +230,7 @@ next_or_same false group = (omega arith, omega arith)
 
 -- A book is valid once a hand that is over is settled.
 pub valid_settled : (book : BookState) (hand : HandTerms) → IsValid book
-    → start_at book.out hand.start.table ≡ Some hand.start → IsLawfulPlay hand → is_over hand ≡ true
+    → start_at book.started hand.start.table ≡ Some hand.start → IsLawfulPlay hand → is_over hand ≡ true
     → IsValid (settled book hand)
 valid_settled book hand valid is play over =
     let start = hand.start in
@@ -247,24 +247,24 @@ valid_settled book hand valid is play over =
     let same = broke_numbers hand start.seats ∙ lent_after start.table book.seating.players payees apart those in
     let entered = entered_changed book.entries book.seating.players book.busts (paid payees) (paid-stacks payees)
     valid.entries in
-    let once = once_left book.entries start.table book.group (broke_by hand) players book.busts entered.once same in
-    let stay = stayed-lent start.table (broke_by hand) players
+    let once = once_left book.entries start.table book.group (busted_by hand) players book.busts entered.once same in
+    let stay = stayed-lent start.table (busted_by hand) players
     (apart_changed (paid payees) (paid-stacks payees) book.seating.players ∙ apart) same in
     let counted = valid.counted in
     let raised = valid.raised in
-    let busts = book.busts ++ map (bust_of book.group) (broke_by hand) in
+    let busts = book.busts ++ map (bust_of book.group) (busted_by hand) in
     let next = next_or_same book.seating.hands book.group in
     subst (λ (players : List Seated). IsValid
     (closed book start.table players busts (next_group book) (book.accepted + 1))) (sym stay)
     (valid_closed book start.table start payees busts (next_group book) (book.accepted + 1) valid is back once
-    (grouped_left book.group (next_group book) (broke_by hand) book.busts next.0 valid.busts) (omega (arith, counted))
+    (grouped_left book.group (next_group book) (busted_by hand) book.busts next.0 valid.busts) (omega (arith, counted))
     (let most = next.1 in omega (arith, raised, most)))
 
 -- A book is valid once the hand at a table is void.
 pub valid_void_at : (book : BookState) (table : ℕ) → IsValid book → IsValid (void_at book table)
-valid_void_at book table valid = by_start (start_at book.out table) refl
+valid_void_at book table valid = by_start (start_at book.started table) refl
   where
-    by_start : (found : Option HandStart) → start_at book.out table ≡ found
+    by_start : (found : Option HandStart) → start_at book.started table ≡ found
         → IsValid (option_map_or (λ start. ended book table start.seats) found book)
     by_start None is = valid
     by_start (Some start) is =
@@ -287,7 +287,7 @@ pub record IsLeft {K : Type 0} (key : BookState → K) : Type 0 where
 pub left-void_first : {K : Type 0} (key : BookState → K) → IsLeft key → (book : BookState) (tables : ℕ)
     → key (void_first book tables) ≡ key book
 left-void_first key leaves book zero = refl
-left-void_first key leaves book (suc tables) = by_start (start_at (void_first book tables).out (suc tables))
+left-void_first key leaves book (suc tables) = by_start (start_at (void_first book tables).started (suc tables))
     ∙ left-void_first key leaves book tables
   where
     by_start : (found : Option HandStart)
@@ -296,43 +296,43 @@ left-void_first key leaves book (suc tables) = by_start (start_at (void_first bo
     by_start None = refl
     by_start (Some start) = leaves.same (void_first book tables) (suc tables) start.seats
 
-set_none-here : (out : List (Option HandStart)) (table : ℕ) → start_at (set out table None) table ≡ None
+set_none-here : (started : List (Option HandStart)) (table : ℕ) → start_at (set started table None) table ≡ None
 set_none-here [] table = refl
-set_none-here (start ∷ out) zero = refl
-set_none-here (start ∷ out) (suc table) = set_none-here out table
+set_none-here (start ∷ started) zero = refl
+set_none-here (start ∷ started) (suc table) = set_none-here started table
 
-set_none-kept : (out : List (Option HandStart)) (table other : ℕ) → start_at out other ≡ None
-    → start_at (set out table None) other ≡ None
+set_none-kept : (started : List (Option HandStart)) (table other : ℕ) → start_at started other ≡ None
+    → start_at (set started table None) other ≡ None
 set_none-kept [] table other none = none
-set_none-kept (start ∷ out) zero zero none = refl
-set_none-kept (start ∷ out) zero (suc other) none = none
-set_none-kept (start ∷ out) (suc table) zero none = none
-set_none-kept (start ∷ out) (suc table) (suc other) none = set_none-kept out table other none
+set_none-kept (start ∷ started) zero zero none = refl
+set_none-kept (start ∷ started) zero (suc other) none = none
+set_none-kept (start ∷ started) (suc table) zero none = none
+set_none-kept (start ∷ started) (suc table) (suc other) none = set_none-kept started table other none
 
 -- Once the hands at the first so many tables are void, no hand is out at any of them.
-pub none_out-void_first : (book : BookState) (tables table : ℕ) → 1 ≤ table → table ≤ tables
-    → start_at (void_first book tables).out table ≡ None
-none_out-void_first book zero table first last = absurd (omega arith)
-none_out-void_first book (suc tables) table first last = elim (cases_lt tables table) [
+pub none_started-void_first : (book : BookState) (tables table : ℕ) → 1 ≤ table → table ≤ tables
+    → start_at (void_first book tables).started table ≡ None
+none_started-void_first book zero table first last = absurd (omega arith)
+none_started-void_first book (suc tables) table first last = elim (cases_lt tables table) [
   | inl here ↦
       let is : suc tables ≡ table = omega arith in
-      subst (λ (number : ℕ). start_at (void_first book (suc tables)).out number ≡ None) is
-      (void_here (start_at (void_first book tables).out (suc tables)) refl)
-  | inr before ↦ void_kept (start_at (void_first book tables).out (suc tables))
-      (none_out-void_first book tables table first before)
+      subst (λ (number : ℕ). start_at (void_first book (suc tables)).started number ≡ None) is
+      (void_here (start_at (void_first book tables).started (suc tables)) refl)
+  | inr before ↦ void_kept (start_at (void_first book tables).started (suc tables))
+      (none_started-void_first book tables table first before)
 ]
   where
-    void_here : (found : Option HandStart) → start_at (void_first book tables).out (suc tables) ≡ found
+    void_here : (found : Option HandStart) → start_at (void_first book tables).started (suc tables) ≡ found
         → start_at (option_map_or (λ start. ended (void_first book tables) (suc tables) start.seats) found
-        (void_first book tables)).out (suc tables) ≡ None
+        (void_first book tables)).started (suc tables) ≡ None
     void_here None is = is
-    void_here (Some start) is = set_none-here (void_first book tables).out (suc tables)
+    void_here (Some start) is = set_none-here (void_first book tables).started (suc tables)
 
-    void_kept : (found : Option HandStart) → start_at (void_first book tables).out table ≡ None
+    void_kept : (found : Option HandStart) → start_at (void_first book tables).started table ≡ None
         → start_at (option_map_or (λ start. ended (void_first book tables) (suc tables) start.seats) found
-        (void_first book tables)).out table ≡ None
+        (void_first book tables)).started table ≡ None
     void_kept None none = none
-    void_kept (Some start) none = set_none-kept (void_first book tables).out (suc tables) table none
+    void_kept (Some start) none = set_none-kept (void_first book tables).started (suc tables) table none
 
 -- A book is valid once the tournament is stopped.
 pub valid_stopped : (book : BookState) → IsValid book → IsValid (stopped_book book)
@@ -347,13 +347,13 @@ valid_stopped book valid =
     (valid_void_first book book.plan.tables valid) (omega (arith, begun, counted)) (omega (arith, group, raised))
 
 -- Once the tournament is stopped, no hand is out at any table.
-pub none_out-stopped : (book : BookState) (table : ℕ) → IsValid book → start_at (stopped_book book).out table ≡ None
-none_out-stopped book zero valid = (valid_void_first book book.plan.tables valid).tables.nobody
-none_out-stopped book (suc below) valid = elim (cases_lt below book.plan.tables) [
-  | inl listed ↦ none_out-void_first book book.plan.tables (suc below) (omega arith) (omega arith)
+pub none_started-stopped : (book : BookState) (table : ℕ) → IsValid book → start_at (stopped_book book).started table ≡ None
+none_started-stopped book zero valid = (valid_void_first book book.plan.tables valid).tables.nobody
+none_started-stopped book (suc below) valid = elim (cases_lt below book.plan.tables) [
+  | inl listed ↦ none_started-void_first book book.plan.tables (suc below) (omega arith) (omega arith)
   | inr past ↦
       let tables = left-void_first (λ book. book.plan.tables) (record { same = λ book table payees. refl }) book
       book.plan.tables in
       let room = (valid_void_first book book.plan.tables valid).tables.room in
-      get_or_past (void_first book book.plan.tables).out (suc below) None (omega (arith, tables, room, past))
+      get_or_past (void_first book book.plan.tables).started (suc below) None (omega (arith, tables, room, past))
 ]

@@ -24,7 +24,7 @@ use Rattle.seat_book.specs.Places.{comes_before}
 use Rattle.seat_book.specs.Players.{sits_at, is_numbered, sit_down}
 use Rattle.seat_book.specs.Counts.{count_at}
 use Rattle.seat_book.specs.Tables.{status_at, fresh_status, IsStatusOf}
-use Rattle.tournament_rules.specs.Books.{BookState, start_at, players_out}
+use Rattle.tournament_rules.specs.Books.{BookState, start_at, starters_of}
 use Rattle.tournament_rules.specs.Checks.{book_refusal}
 use Rattle.tournament_rules.specs.Players.{start_seat}
 use Rattle.tournament_rules.specs.Effects.{first_book, first_status, newcomer, entered}
@@ -137,9 +137,9 @@ valid_first plan right =
       };
       hands = record {
         starts = λ table start is. let none = nobody table in absurd cc;
-        lent = λ table. sym (ap (λ found. map without_stack (players_out found)) (nobody table));
+        lent = λ table. sym (ap (λ found. map without_stack (starters_of found)) (nobody table));
       };
-      chips = omega (arith, none_out (plan.tables + 1));
+      chips = omega (arith, none_started (plan.tables + 1));
       units = record {
         units = λ table there. record {
           own = λ none. unit_of_many (first_status plan) plan.tables table there;
@@ -167,9 +167,9 @@ valid_first plan right =
     none_owed : (number : ℕ) → 0 ≡ rows_owed [] number
     none_owed number = grind (arith, nat_tests)
 
-    none_out : (count : ℕ)
-        → sum_by (λ start. sum_by (λ player. player.stack) (players_out start)) (replicate count None) ≡ 0
-    none_out count = rw (sum_by-replicate (λ start. sum_by (λ player. player.stack) (players_out start))) (omega arith)
+    none_started : (count : ℕ)
+        → sum_by (λ start. sum_by (λ player. player.stack) (starters_of start)) (replicate count None) ≡ 0
+    none_started count = rw (sum_by-replicate (λ start. sum_by (λ player. player.stack) (starters_of start))) (omega arith)
 
 -- An entry keeps its number when another follows.
 slice_get-more : {A : Type 0} (items : List A) (i : ℕ) (item new : A) → slice_get items i ≡ Some item

@@ -15,10 +15,10 @@ use Rattle.seat_book.specs.Tables.{fresh_status, status_at, with_status, IsStatu
 use Rattle.seat_book.specs.Seatings.{Seating, sits_within, is_entry, IsSeating}
 use Rattle.table_engine.specs.declared.start.HandStart.{HandStart}
 use Rattle.table_engine.specs.Starts.{chips_of}
-use Rattle.tournament_rules.specs.Books.{start_at, players_out}
+use Rattle.tournament_rules.specs.Books.{start_at, starters_of}
 use Rattle.tournament_rules.specs.Players.{start_seat}
 use Rattle.tournament_rules.specs.Units.{AreDue}
-use Rattle.tournament_rules.specs.Valid.{IsFitting, IsStartAt, AreOut, AreMarked, is_lent, without_stack}
+use Rattle.tournament_rules.specs.Valid.{IsFitting, IsStartAt, AreStarted, AreMarked, is_lent, without_stack}
 use Rattle.tournament_rules.proofs.Restacked.{ChangesStacks, all_changed, order_changed, apart_changed}
 
 -- The number of a table is from 1 to the number of tables.
@@ -63,17 +63,17 @@ each_status P tables table status first last here other there = elim (cases_Bool
 ]
 
 -- What holds of the start that is out at each table, or of none, holds once one is set of which it holds.
-pub each_start : (P : ℕ → Option HandStart → Type 0) (out : List (Option HandStart)) (table : ℕ)
+pub each_start : (P : ℕ → Option HandStart → Type 0) (started : List (Option HandStart)) (table : ℕ)
     (start : Option HandStart)
-    → table < length out → P table start → (other : ℕ) → ((table == other) ≡ false → P other (start_at out other))
-    → P other (start_at (slice_set out table start) other)
-each_start P out table start within here other there = elim (cases_Bool (table == other)) [
+    → table < length started → P table start → (other : ℕ) → ((table == other) ≡ false → P other (start_at started other))
+    → P other (start_at (slice_set started table start) other)
+each_start P started table start within here other there = elim (cases_Bool (table == other)) [
   | inl same ↦
       let is = eqb-true table other same in
-      subst (λ (number : ℕ). P number (start_at (slice_set out table start) number)) is
-      (subst (λ (s : Option HandStart). P table s) (sym (get_or-set_same out table start None within)) here)
+      subst (λ (number : ℕ). P number (start_at (slice_set started table start) number)) is
+      (subst (λ (s : Option HandStart). P table s) (sym (get_or-set_same started table start None within)) here)
   | inr differ ↦ subst (λ (s : Option HandStart). P other s) (sym
-      (get_or-set_other out table other start None (other_number table other differ))) (there differ)
+      (get_or-set_other started table other start None (other_number table other differ))) (there differ)
 ]
 
 -- Who sits where and how the tables stand, once one table stands otherwise and stacks changed.
@@ -103,30 +103,30 @@ seating_changed seating table status change lawful first last stands stacks = re
 
 -- The seating fits the plan once stacks changed and a table stands otherwise, which plays just where a start is out
 -- now.
-pub fitting_changed : (plan : PlanTerms) (seating : Seating) (out : List (Option HandStart)) (table : ℕ)
+pub fitting_changed : (plan : PlanTerms) (seating : Seating) (started : List (Option HandStart)) (table : ℕ)
     (status : TableStatus) (start : Option HandStart) (change : Seated → Seated)
-    → IsFitting plan seating out → is_between 1 plan.tables table ≡ true → IsStatusOf seating.seat_count status
+    → IsFitting plan seating started → is_between 1 plan.tables table ≡ true → IsStatusOf seating.seat_count status
     → status.playing ≡ is_some start → ChangesStacks change
     → IsFitting plan (record seating {
       players = map change seating.players;
       tables = with_status seating.tables
           table status;
-    }) (slice_set out table start)
-fitting_changed plan seating out table status start change fits there stands plays stacks =
+    }) (slice_set started table start)
+fitting_changed plan seating started table status start change fits there stands plays stacks =
     let range = table_range 1 plan.tables table there in
     let count = fits.tables in
     let size = fits.lawful.tables in
     let room = fits.room in
-    let within : table < length out = omega (arith, range.1, room) in
+    let within : table < length started = omega (arith, range.1, room) in
     record {
       lawful = seating_changed seating table status change fits.lawful range.0 (omega (arith, range.1, count)) stands
           stacks;
       tables = fits.tables;
       seats = fits.seats;
-      room = length-set out table start ∙ fits.room;
-      nobody = get_or-set_other out table 0 start None (λ same. omega (arith, range.0, same)) ∙ fits.nobody;
+      room = length-set started table start ∙ fits.room;
+      nobody = get_or-set_other started table 0 start None (λ same. omega (arith, range.0, same)) ∙ fits.nobody;
       playing = λ other. each_start (λ number start.
-          (status_at (with_status seating.tables table status) number).playing ≡ is_some start) out table start within
+          (status_at (with_status seating.tables table status) number).playing ≡ is_some start) started table start within
           (ap (λ (s : TableStatus). s.playing) (status_here seating.tables table status range.0
           (omega (arith, range.1, count, size))) ∙ plays)
           other
@@ -136,12 +136,12 @@ fitting_changed plan seating out table status start change fits there stands pla
 
 -- The seating fits the plan once tables stand otherwise, lawfully, and play just where they played, whether
 -- hand-for-hand is on or not.
-pub fitting_alike : (plan : PlanTerms) (seating : Seating) (out : List (Option HandStart)) (tables : List TableStatus)
-    (hands : Bool) → IsFitting plan seating out → length tables ≡ length seating.tables
+pub fitting_alike : (plan : PlanTerms) (seating : Seating) (started : List (Option HandStart)) (tables : List TableStatus)
+    (hands : Bool) → IsFitting plan seating started → length tables ≡ length seating.tables
     → ((table : ℕ) → IsStatusOf seating.seat_count (status_at tables table))
     → ((table : ℕ) → (status_at tables table).playing ≡ (status_at seating.tables table).playing)
-    → IsFitting plan (record seating { tables = tables; hands = hands }) out
-fitting_alike plan seating out tables hands fits size stands plays = record {
+    → IsFitting plan (record seating { tables = tables; hands = hands }) started
+fitting_alike plan seating started tables hands fits size stands plays = record {
   lawful = record {
     some_tables = fits.lawful.some_tables;
     most_tables = fits.lawful.most_tables;
@@ -162,15 +162,15 @@ fitting_alike plan seating out tables hands fits size stands plays = record {
 }
 
 -- A table at which a start is out is one of the plan's.
-pub table_out : (plan : PlanTerms) (seating : Seating) (out : List (Option HandStart)) (table : ℕ) (start : HandStart)
-    → IsFitting plan seating out → start_at out table ≡ Some start → is_between 1 plan.tables table ≡ true
-table_out plan seating out zero start fits is = let none = fits.nobody in absurd cc
-table_out plan seating out (suc below) start fits is = elim (cases_Bool (is_between 1 plan.tables (suc below))) [
+pub table_started : (plan : PlanTerms) (seating : Seating) (started : List (Option HandStart)) (table : ℕ) (start : HandStart)
+    → IsFitting plan seating started → start_at started table ≡ Some start → is_between 1 plan.tables table ≡ true
+table_started plan seating started zero start fits is = let none = fits.nobody in absurd cc
+table_started plan seating started (suc below) start fits is = elim (cases_Bool (is_between 1 plan.tables (suc below))) [
   | inl there ↦ there
   | inr past ↦
       let room = fits.room in
       let beyond = above plan.tables below past in
-      let none = get_or_past out (suc below) None (omega (arith, room, beyond)) in
+      let none = get_or_past started (suc below) None (omega (arith, room, beyond)) in
       absurd cc
 ]
   where
@@ -178,29 +178,29 @@ table_out plan seating out (suc below) start fits is = elim (cases_Bool (is_betw
     above high below past = grind (arith, nat_tests)
 
 -- The starts that are out are lawful, and their players are lent, once another start, or none, is out at a table.
-pub out_changed : (plan : PlanTerms) (tables : List TableStatus) (players after : List Seated)
-    (out : List (Option HandStart)) (table : ℕ) (start : Option HandStart)
-    → AreOut plan tables players out → table < length out → ForSome start (IsStartAt plan tables table)
-    → map start_seat (filter (is_lent table) after) ≡ map without_stack (players_out start)
+pub starts_changed : (plan : PlanTerms) (tables : List TableStatus) (players after : List Seated)
+    (started : List (Option HandStart)) (table : ℕ) (start : Option HandStart)
+    → AreStarted plan tables players started → table < length started → ForSome start (IsStartAt plan tables table)
+    → map start_seat (filter (is_lent table) after) ≡ map without_stack (starters_of start)
     → ((other : ℕ) → (table == other) ≡ false → filter (is_lent other) after ≡ filter (is_lent other) players)
-    → AreOut plan tables after (slice_set out table start)
-out_changed plan tables players after out table start hands within lawful here elsewhere = record {
-  starts = λ other. each_start (λ number start. ForSome start (IsStartAt plan tables number)) out table start
+    → AreStarted plan tables after (slice_set started table start)
+starts_changed plan tables players after started table start hands within lawful here elsewhere = record {
+  starts = λ other. each_start (λ number start. ForSome start (IsStartAt plan tables number)) started table start
       within lawful other (λ differ. hands.starts other);
   lent = λ other. each_start (λ number start. map start_seat (filter (is_lent number) after) ≡ map without_stack
-      (players_out start)) out table start within here other
+      (starters_of start)) started table start within here other
       (λ differ. ap (λ (found : List Seated). map start_seat found) (elsewhere other differ) ∙ hands.lent other);
 }
 
 -- the chips of the start that is out, if one is
-abbrev pub chips_out : Option HandStart → ℕ
-chips_out start = chips_of (players_out start)
+abbrev pub chips_of_start : Option HandStart → ℕ
+chips_of_start start = chips_of (starters_of start)
 
 -- The chips in play, once another start, or none, is out at a table.
-pub play_changed : (out : List (Option HandStart)) (table : ℕ) (start : Option HandStart) → table < length out
-    → sum_by chips_out (slice_set out table start) + chips_out (start_at out table)
-    ≡ sum_by chips_out out + chips_out start
-play_changed out table start within = sum_by-set chips_out out table start None within
+pub play_changed : (started : List (Option HandStart)) (table : ℕ) (start : Option HandStart) → table < length started
+    → sum_by chips_of_start (slice_set started table start) + chips_of_start (start_at started table)
+    ≡ sum_by chips_of_start started + chips_of_start start
+play_changed started table start within = sum_by-set chips_of_start started table start None within
 
 -- Pending races stay where somebody sits where no table has fewer players than before.
 pub due_more : (tables : List TableStatus) (before after : List Seated) → AreDue tables before

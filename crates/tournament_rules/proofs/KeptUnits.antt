@@ -15,7 +15,7 @@ use Rattle.seat_book.specs.Tables.{fresh_status, status_at, with_status}
 use Rattle.table_engine.specs.declared.start.HandStart.{HandStart}
 use Rattle.tournament_rules.specs.Books.{start_at}
 use Rattle.tournament_rules.specs.Units.{IsRaceTo, IsUnitOf, is_whole_at, AreWhole, AreDue, AreUnits, is_due}
-use Rattle.tournament_rules.specs.Valid.{IsStartAt, AreOut}
+use Rattle.tournament_rules.specs.Valid.{IsStartAt, AreStarted}
 use Rattle.tournament_rules.proofs.Fitting.{each_status}
 
 -- Each table has the unit that it had, and the race.
@@ -83,11 +83,11 @@ start_kept plan before after table start same lawful = λ found is.
     record { here = began.here; lawful = began.lawful; seats = began.seats; unit = began.unit ∙ sym same }
 
 -- The starts that are out are lawful where each table has the unit that it had.
-pub out_kept : (plan : PlanTerms) (before after : List TableStatus) (players : List Seated)
-    (out : List (Option HandStart)) → AreOut plan before players out
-    → ((table : ℕ) → (status_at after table).unit ≡ (status_at before table).unit) → AreOut plan after players out
-out_kept plan before after players out hands same = record {
-  starts = λ table. start_kept plan before after table (start_at out table) (same table) (hands.starts table);
+pub starts_kept : (plan : PlanTerms) (before after : List TableStatus) (players : List Seated)
+    (started : List (Option HandStart)) → AreStarted plan before players started
+    → ((table : ℕ) → (status_at after table).unit ≡ (status_at before table).unit) → AreStarted plan after players started
+starts_kept plan before after players started hands same = record {
+  starts = λ table. start_kept plan before after table (start_at started table) (same table) (hands.starts table);
   lent = hands.lent;
 }
 

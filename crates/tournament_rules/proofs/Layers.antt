@@ -8,11 +8,11 @@ use Rattle.std.proofs.lemmas.List.{map-set, length-map}
 use Rattle.table_engine.specs.Hands.{HandTerms}
 use Rattle.floor_events.specs.declared.event.Event.{Event}
 use Rattle.tournament_rules.specs.Books.{BookState, start_at}
-use Rattle.tournament_rules.specs.States.{acts_at, hand_at, hand_table, hand_of}
+use Rattle.tournament_rules.specs.States.{acts_at, hand_at, hand_table, hand_about}
 use Rattle.tournament_rules.specs.Apart.{hand_in, hand_for, start_of, acts_of, seen_of}
 
 -- The hand that the tournament has at a table is the hand at that table.
-pub hand_read : (book : BookState) (hands : List (Option HandTerms)) (table : ℕ) → map start_of hands ≡ book.out
+pub hand_read : (book : BookState) (hands : List (Option HandTerms)) (table : ℕ) → map start_of hands ≡ book.started
     → hand_at (seen_of (record { book = book; hands = hands })) table ≡ hand_in hands table
 hand_read book hands table tied =
     rw (← tied, get_or-map_all start_of hands table None, get_or-map_all acts_of hands table None)
@@ -24,8 +24,8 @@ hand_read book hands table tied =
     by_hand (Some hand) = refl
 
 -- The start that is out at a table is that of the hand there.
-pub start_read : (book : BookState) (hands : List (Option HandTerms)) (table : ℕ) → map start_of hands ≡ book.out
-    → start_at book.out table ≡ start_of (hand_in hands table)
+pub start_read : (book : BookState) (hands : List (Option HandTerms)) (table : ℕ) → map start_of hands ≡ book.started
+    → start_at book.started table ≡ start_of (hand_in hands table)
 start_read book hands table tied = rw (← tied) (get_or-map_all start_of hands table None)
 
 -- The acts that the tournament has at a table are those of the hand there.
@@ -34,8 +34,8 @@ pub acts_read : (hands : List (Option HandTerms)) (table : ℕ)
 acts_read hands table = get_or-map_all acts_of hands table None
 
 -- The hand that an event is about is the same.
-pub hand_for-read : (book : BookState) (hands : List (Option HandTerms)) (event : Event) → map start_of hands ≡ book.out
-    → hand_of (seen_of (record { book = book; hands = hands })) event ≡ hand_for hands event
+pub hand_for-read : (book : BookState) (hands : List (Option HandTerms)) (event : Event) → map start_of hands ≡ book.started
+    → hand_about (seen_of (record { book = book; hands = hands })) event ≡ hand_for hands event
 hand_for-read book hands event tied = by_table (hand_table event)
   where
     by_table : (table : Option ℕ)
@@ -58,8 +58,8 @@ all_empty (slot ∷ slots) none = let first : slot ≡ None =
     none 0 in rw (first, ← all_empty slots (λ table. none (suc table))) refl
 
 -- Each table has a place among the hands.
-pub hands_length : (book : BookState) (hands : List (Option HandTerms)) → map start_of hands ≡ book.out
-    → length hands ≡ length book.out
+pub hands_length : (book : BookState) (hands : List (Option HandTerms)) → map start_of hands ≡ book.started
+    → length hands ≡ length book.started
 hands_length book hands tied = sym (length-map hands start_of) ∙ ap length tied
 
 pub ruleset layers =

@@ -11,7 +11,7 @@ use Rattle.seat_book.specs.declared.seated.Seated.{Seated}
 use Rattle.seat_book.specs.Players.{is_numbered, lifted}
 use Rattle.table_engine.specs.declared.start.HandStart.{HandStart}
 use Rattle.table_engine.specs.declared.start.StartSeat.{StartSeat}
-use Rattle.tournament_rules.specs.Books.{BookState, start_at, players_out}
+use Rattle.tournament_rules.specs.Books.{BookState, start_at, starters_of}
 use Rattle.tournament_rules.specs.Players.{is_among, start_seat, paid, put_back, stayed}
 use Rattle.tournament_rules.specs.Valid.{IsValid, is_lent, without_stack}
 use Rattle.tournament_rules.proofs.Members.{has_number, any_without}
@@ -99,13 +99,13 @@ picked_sits number test (player ∷ players) picked =
 
 -- The players of a hand that is out sit.
 pub starter_sits : (book : BookState) (table number : ℕ) (start : HandStart) → IsValid book
-    → start_at book.out table ≡ Some start → is_among number start.seats ≡ true
+    → start_at book.started table ≡ Some start → is_among number start.seats ≡ true
     → list_any (is_numbered number) book.seating.players ≡ true
 starter_sits book table number start valid is among =
-    let out : map start_seat (filter (is_lent table) book.seating.players) ≡ map without_stack start.seats
-    = valid.hands.lent table ∙ ap (λ (start : Option HandStart). map without_stack (players_out start)) is in
+    let started : map start_seat (filter (is_lent table) book.seating.players) ≡ map without_stack start.seats
+    = valid.hands.lent table ∙ ap (λ (start : Option HandStart). map without_stack (starters_of start)) is in
     picked_sits number (is_lent table) book.seating.players
-    (ap (λ (starters : List StartSeat). list_any (has_number number) starters) out
+    (ap (λ (starters : List StartSeat). list_any (has_number number) starters) started
     ∙ (any_without number start.seats ∙ among))
 
 -- Who sits still does once stacks went back.

@@ -23,7 +23,7 @@ use Rattle.floor_events.specs.declared.event.Event.TheVariants.{Level}
 use Rattle.tournament_rules.specs.Books.{BookState}
 use Rattle.tournament_rules.specs.Checks.{book_checks, book_refusal}
 use Rattle.tournament_rules.specs.Effects.{leveled}
-use Rattle.tournament_rules.specs.Racing.{raised_table, raised}
+use Rattle.tournament_rules.specs.Racing.{announced_table, announced}
 use Rattle.tournament_rules.specs.Units.{IsRaceTo, IsUnitOf, is_whole_at, AreWhole, is_due}
 use Rattle.tournament_rules.specs.Valid.{IsValid, IsPlanned}
 use Rattle.tournament_rules.proofs.Entries.{right_has}
@@ -51,14 +51,14 @@ level_passed book none =
 
 -- the tables of a seating once a level with this greater unit is current
 abbrev pub raised_tables : ℕ → Seating → List TableStatus
-raised_tables unit seating = (raised unit seating).tables
+raised_tables unit seating = (announced unit seating).tables
 
 -- How each listed table stands then.
-raised-at : (unit : ℕ) (seating : Seating) (table : ℕ) → 1 ≤ table → table ≤ length seating.tables
+announced-at : (unit : ℕ) (seating : Seating) (table : ℕ) → 1 ≤ table → table ≤ length seating.tables
     → status_at (raised_tables unit seating) table
-    ≡ raised_table unit (is_open seating.players table) (status_at seating.tables table)
-raised-at unit seating zero first last = absurd (omega (arith, first))
-raised-at unit seating (suc below) first last =
+    ≡ announced_table unit (is_open seating.players table) (status_at seating.tables table)
+announced-at unit seating zero first last = absurd (omega (arith, first))
+announced-at unit seating (suc below) first last =
     let rows = enumerate_from 1 seating.tables in
     let within : below < length seating.tables = omega (arith, last) in
     let size = length-enumerate_from 1 seating.tables in
@@ -68,7 +68,7 @@ raised-at unit seating (suc below) first last =
     same ∙ (ap change row ∙ ap (λ (n : ℕ). change (n, get_or seating.tables below fresh_status)) number)
   where
     change : ℕ × TableStatus → TableStatus
-    change row = raised_table unit (is_open seating.players row.0) row.1
+    change row = announced_table unit (is_open seating.players row.0) row.1
 
 -- All others stand as before.
 raised_past : (unit : ℕ) (seating : Seating) (table : ℕ) → length seating.tables < table
@@ -77,25 +77,25 @@ raised_past unit seating zero beyond = absurd (omega (arith, beyond))
 raised_past unit seating (suc below) beyond =
     let rows = enumerate_from 1 seating.tables in
     let size = length-enumerate_from 1 seating.tables in
-    let change : ℕ × TableStatus → TableStatus = λ row. raised_table unit (is_open seating.players row.0) row.1 in
+    let change : ℕ × TableStatus → TableStatus = λ row. announced_table unit (is_open seating.players row.0) row.1 in
     let all = length-map rows change in
     get_or_past (map change rows) below fresh_status (omega (arith, size, all, beyond))
     ∙ sym (get_or_past seating.tables below fresh_status (omega (arith, beyond)))
 
 -- What is so of each table before, and of each listed one then, is so of each then.
 pub each_raised : (P : TableStatus → Type 0) (unit : ℕ) (seating : Seating) (table : ℕ)
-    → P (raised_table unit (is_open seating.players table) (status_at seating.tables table))
+    → P (announced_table unit (is_open seating.players table) (status_at seating.tables table))
     → P (status_at seating.tables table) → P (status_at (raised_tables unit seating) table)
 each_raised P unit seating zero here past = past
 each_raised P unit seating (suc below) here past = elim (cases_lt below (length seating.tables)) [
   | inl within ↦
-      subst P (sym (raised-at unit seating (suc below) (omega arith) (omega (arith, within)))) here
+      subst P (sym (announced-at unit seating (suc below) (omega arith) (omega (arith, within)))) here
   | inr beyond ↦ subst P (sym (raised_past unit seating (suc below) (omega (arith, beyond)))) past
 ]
 
 -- A table keeps its marks, and whether it plays.
 key_raised : {K : Type 0} (key : TableStatus → K) (unit : ℕ) (seating : Seating) (table : ℕ)
-    → ((opened : Bool) (status : TableStatus) → key (raised_table unit opened status) ≡ key status)
+    → ((opened : Bool) (status : TableStatus) → key (announced_table unit opened status) ≡ key status)
     → key (status_at (raised_tables unit seating) table) ≡ key (status_at seating.tables table)
 key_raised {K = K} key unit seating table same =
     let before : K = key (status_at seating.tables table) in
@@ -110,11 +110,11 @@ open-kept unit seating table some =
     (rw (lt-ltb 0 (count_at seating.players table) some) refl) refl
 
 -- So each stack is a multiple of its table's unit.
-whole-raised : (before after : List TableStatus) (all players : List Seated)
+whole-announced : (before after : List TableStatus) (all players : List Seated)
     → ((table : ℕ) → 1 ≤ count_at all table → (status_at after table).unit ≡ (status_at before table).unit)
     → ((table : ℕ) → count_at players table ≤ count_at all table) → AreWhole before players → AreWhole after players
-whole-raised before after all [] kept within whole = refl
-whole-raised before after all (player ∷ players) kept within whole =
+whole-announced before after all [] kept within whole = refl
+whole-announced before after all (player ∷ players) kept within whole =
     let test : ℕ → Bool = λ unit. player.stack % unit == 0 in
     let parts = and_parts (is_whole_at before player) (list_all (is_whole_at before) players) whole in
     let here = within player.place.table in
@@ -122,7 +122,7 @@ whole-raised before after all (player ∷ players) kept within whole =
     let his = itself player.place.table in
     let some : 1 ≤ count_at all player.place.table = omega (arith, here, one, his) in
     and_from _ _ (ap test (kept player.place.table some) ∙ parts.0)
-    (whole-raised before after all players kept (λ table.
+    (whole-announced before after all players kept (λ table.
     let most = within table in
     let more = count_by-cons (sits_at table) player players in
     omega (arith, most, more)) parts.1)
@@ -131,7 +131,7 @@ whole-raised before after all (player ∷ players) kept within whole =
     itself table = grind (arith, nat_tests)
 
 fresh_lawful : (seats unit : ℕ) (opened : Bool) (status : TableStatus) → 1 ≤ unit → IsStatusOf seats status
-    → IsStatusOf seats (raised_table unit opened status)
+    → IsStatusOf seats (announced_table unit opened status)
 fresh_lawful seats unit true status some is = record {
   marks = is.marks;
   unit = is.unit;
@@ -144,7 +144,7 @@ fresh_lawful seats unit false status some is = record {
 }
 
 unit_raised : (before unit : ℕ) (opened : Bool) (status : TableStatus) → status.unit ≡ before
-    → is_next_unit before unit ≡ true → before < unit → IsUnitOf unit (raised_table unit opened status)
+    → is_next_unit before unit ≡ true → before < unit → IsUnitOf unit (announced_table unit opened status)
 unit_raised before unit true status own next greater = record {
   own = λ none. absurd cc;
   new = λ new at. let same : unit ≡ new = cc in sym same;
@@ -160,7 +160,7 @@ unit_raised before unit false status own next greater = record {
 }
 
 due_raised : (unit count : ℕ) (opened : Bool) (status : TableStatus) → opened ≡ nat_lt 0 count
-    → ForSome (raised_table unit opened status).race (λ new. 1 ≤ count)
+    → ForSome (announced_table unit opened status).race (λ new. 1 ≤ count)
 due_raised unit count true status is = λ new at. ltb-true 0 count (sym is)
 due_raised unit count false status is = λ new at. absurd cc
 
@@ -205,7 +205,7 @@ valid_leveled book valid none = by_units (nat_lt before unit) refl
         no_less before unit (suc times) is some no_more = grind (arith, nat_tests)
 
     by_units : (greater : Bool) → nat_lt before unit ≡ greater
-        → IsValid (risen (if greater then raised unit book.seating else book.seating))
+        → IsValid (risen (if greater then announced unit book.seating else book.seating))
     by_units false no_more = record {
       plan = planned;
       entries = valid.entries;
@@ -222,7 +222,7 @@ valid_leveled book valid none = by_units (nat_lt before unit) refl
       };
       marked = valid.marked;
       counted = let counted = valid.counted in omega (arith, counted);
-      raised = let raised = valid.raised in omega (arith, raised);
+      announced = let announced = valid.announced in omega (arith, announced);
     }
     by_units true more =
         let seating = book.seating in
@@ -233,11 +233,11 @@ valid_leveled book valid none = by_units (nat_lt before unit) refl
         (right_has book.plan valid.plan.right).levels in
         let greater = ltb-true before unit more in
         let size : length after ≡ length tables = length-map (enumerate_from 1 tables)
-        (λ row. raised_table unit (is_open players row.0) row.1) ∙ length-enumerate_from 1 tables in
+        (λ row. announced_table unit (is_open players row.0) row.1) ∙ length-enumerate_from 1 tables in
         record {
           plan = planned;
           entries = valid.entries;
-          tables = fitting_alike book.plan seating book.out after seating.hands valid.tables size
+          tables = fitting_alike book.plan seating book.started after seating.hands valid.tables size
               (λ table. each_raised (IsStatusOf seating.seat_count) unit seating table
               (fresh_lawful seating.seat_count unit (is_open players table) (status_at tables table) some
               (valid.tables.lawful.statuses table)) (valid.tables.lawful.statuses table))
@@ -256,11 +256,11 @@ valid_leveled book valid none = by_units (nat_lt before unit) refl
                 let range = table_range 1 book.plan.tables table listed in
                 let count = valid.tables.tables in
                 let all = valid.tables.lawful.tables in
-                subst (IsUnitOf unit) (sym (raised-at unit seating table range.0 (omega (arith, range.1, count, all))))
+                subst (IsUnitOf unit) (sym (announced-at unit seating table range.0 (omega (arith, range.1, count, all))))
                 (unit_raised before unit (is_open players table) (status_at tables table)
                 (one_unit book.plan book.level book.added tables players valid.units may.no_race table listed) next
                 greater);
-            whole = whole-raised tables after players players (open-kept unit seating) (λ table. omega arith)
+            whole = whole-announced tables after players players (open-kept unit seating) (λ table. omega arith)
                 valid.units.whole;
             due = λ table. each_raised (λ status. ForSome status.race (λ new. 1 ≤ count_at players table)) unit seating
                 table (due_raised unit (count_at players table) (is_open players table)
@@ -276,13 +276,13 @@ valid_leveled book valid none = by_units (nat_lt before unit) refl
               (sym (key_raised (λ status. status.marks) unit seating table (λ opened status. marks_kept opened status))
               ∙ is);
           counted = let counted = valid.counted in omega (arith, counted);
-          raised = let raised = valid.raised in omega (arith, raised);
+          announced = let announced = valid.announced in omega (arith, announced);
         }
       where
-        plays : (opened : Bool) (status : TableStatus) → (raised_table unit opened status).playing ≡ status.playing
+        plays : (opened : Bool) (status : TableStatus) → (announced_table unit opened status).playing ≡ status.playing
         plays true status = refl
         plays false status = refl
 
-        marks_kept : (opened : Bool) (status : TableStatus) → (raised_table unit opened status).marks ≡ status.marks
+        marks_kept : (opened : Bool) (status : TableStatus) → (announced_table unit opened status).marks ≡ status.marks
         marks_kept true status = refl
         marks_kept false status = refl

@@ -8,7 +8,6 @@ pub mod BySeats
 pub mod Levels
 pub mod Races
 pub mod Rounds
-pub mod Left
 pub mod Outs
 pub mod Restacked
 pub mod Paying
@@ -32,17 +31,4 @@ pub mod DealtBelow
 pub mod Drafts
 pub mod Plays
 pub mod Steps
-pub mod Kept
-pub mod Holds
 pub mod Layers
-pub mod Apart
-pub mod Elsewhere
-pub mod WhoIsOut
-pub mod Growing
-pub mod TheLast
-pub mod MoveLaws
-pub mod TableLaws
-pub mod RaceLaws
-pub mod RoundLaws
-pub mod GroupLaws
-pub mod ChipLaws

@@ -10,7 +10,7 @@ use Rattle.rulebook.proofs.Tests.{eqb-swap, list_all-kept, list_any-made}
 use Rattle.seat_book.specs.declared.seated.Seated.{Seated}
 use Rattle.seat_book.specs.Players.{is_numbered, are_apart}
 use Rattle.table_engine.specs.declared.start.StartSeat.{StartSeat}
-use Rattle.tournament_rules.specs.Books.{BookState, start_at, players_out}
+use Rattle.tournament_rules.specs.Books.{BookState, start_at, starters_of}
 use Rattle.tournament_rules.specs.Players.{is_one_of, is_in_hand, start_seat}
 use Rattle.tournament_rules.specs.Valid.{IsValid, is_lent, without_stack}
 
@@ -63,7 +63,7 @@ any_without number starters = list_any-made (has_number number) without_stack st
 
 -- In a valid book those who are in a hand are those who have nothing at rest.
 pub in_hand-lent : (book : BookState) → IsValid book
-    → All (λ player. is_in_hand book.out player ≡ is_lent player.place.table player) book.seating.players
+    → All (λ player. is_in_hand book.started player ≡ is_lent player.place.table player) book.seating.players
 in_hand-lent book valid = λ k d within. here (get_or book.seating.players k d)
     (is_one_of-dealt (is_lent (get_or book.seating.players k d).place.table) book.seating.players
     valid.tables.lawful.apart k d within)
@@ -71,8 +71,8 @@ in_hand-lent book valid = λ k d within. here (get_or book.seating.players k d)
     here : (player : Seated)
         → is_one_of (map start_seat (filter (is_lent player.place.table) book.seating.players)) player
         ≡ is_lent player.place.table player
-        → is_in_hand book.out player ≡ is_lent player.place.table player
+        → is_in_hand book.started player ≡ is_lent player.place.table player
     here player is =
-        sym (any_without player.player (players_out (start_at book.out player.place.table)))
+        sym (any_without player.player (starters_of (start_at book.started player.place.table)))
         ∙ (ap (λ (starters : List StartSeat). list_any (has_number player.player) starters)
         (sym (valid.hands.lent player.place.table)) ∙ is)

@@ -17,7 +17,7 @@ use Rattle.floor_events.specs.declared.event.Event.{Event}
 use Rattle.floor_events.specs.declared.event.Event.TheVariants.{Plan, Go, Enter, Act as Acts, Time, Settle}
 use Rattle.tournament_rules.specs.Books.{BookState, has_table, has_seat_number}
 use Rattle.tournament_rules.specs.Checks.{book_checks, hand_checks, before_hand_checks, end_checks, book_refusal, is_not_fewest, is_late, is_playing}
-use Rattle.tournament_rules.specs.States.{PlayState, hand_of, refusal_of}
+use Rattle.tournament_rules.specs.States.{PlayState, hand_about, refusal_of}
 use Rattle.tournament_rules.specs.Apart.{hand_refusal}
 
 -- A test that does not fail holds.
@@ -68,12 +68,12 @@ none_of_two (Some found) other none = cc
 -- An event is refused by the book, or else by the hand that it is about, if there is one.
 pub refusal-parts : (play : PlayState) (event : Event)
     → refusal_of play event
-    ≡ option_or (book_refusal play.book event) (option_and_then (hand_refusal event) (hand_of play event))
+    ≡ option_or (book_refusal play.book event) (option_and_then (hand_refusal event) (hand_about play event))
 unfolding refusal_of book_refusal
 refusal-parts play event =
-    let later = option_map_or (λ hand. hand_checks hand event) (hand_of play event) [] in
+    let later = option_map_or (λ hand. hand_checks hand event) (hand_about play event) [] in
     first_that_holds-append (book_checks play.book event) later
-    ∙ ap (option_or (first_that_holds (book_checks play.book event))) (by_hand (hand_of play event))
+    ∙ ap (option_or (first_that_holds (book_checks play.book event))) (by_hand (hand_about play event))
   where
     by_hand : (hand : Option HandTerms)
         → first_that_holds (option_map_or (λ hand. hand_checks hand event) hand [])
@@ -83,7 +83,7 @@ refusal-parts play event =
 
 -- An event that is not refused is refused neither by the book nor by the hand that it is about.
 pub passed-parts : (play : PlayState) (event : Event) → refusal_of play event ≡ None
-    → (book_refusal play.book event ≡ None) × (option_and_then (hand_refusal event) (hand_of play event) ≡ None)
+    → (book_refusal play.book event ≡ None) × (option_and_then (hand_refusal event) (hand_about play event) ≡ None)
 passed-parts play event none = none_of_two _ _ (sym (refusal-parts play event) ∙ none)
 
 -- What is so of an event at a table that is played at.

@@ -26,8 +26,8 @@ use Rattle.tournament_rules.specs.Effects.{settled, stopped_book}
 use Rattle.tournament_rules.specs.States.{PlayState, first_play, acts_at, hand_at, refusal_of, play_effect}
 use Rattle.tournament_rules.specs.Valid.{IsValidPlay, IsStartAt}
 use Rattle.tournament_rules.specs.Apart.{hand_refusal}
-use Rattle.tournament_rules.proofs.Fitting.{table_range, other_number, table_out}
-use Rattle.tournament_rules.proofs.Ends.{left-void_first, valid_settled, valid_stopped, none_out-stopped}
+use Rattle.tournament_rules.proofs.Fitting.{table_range, other_number, table_started}
+use Rattle.tournament_rules.proofs.Ends.{left-void_first, valid_settled, valid_stopped, none_started-stopped}
 use Rattle.tournament_rules.proofs.Passed.{passed-parts, act_passed, time_passed, settle_passed, end_passed, plan_late, go_late}
 use Rattle.tournament_rules.proofs.Entries.{valid_first, valid_entered, start_none}
 use Rattle.tournament_rules.proofs.Begins.{may_begin, valid_begun}
@@ -43,7 +43,7 @@ hand_from start acts = option_map (λ start. record { start = start; acts = acts
 
 -- The hand that is out at a table, if one is, is a lawful play of its start.
 abbrev IsLawfulAt : List (Option HandStart) → List (List ActOf) → ℕ → Type 0
-IsLawfulAt out acts table = ForSome (hand_from (start_at out table) (acts_at acts table)) IsLawfulPlay
+IsLawfulAt started acts table = ForSome (hand_from (start_at started table) (acts_at acts table)) IsLawfulPlay
 
 -- What is so at a table, and at each other, is so at each.
 at_each : (P : ℕ → Type 0) (table : ℕ) → P table → ((other : ℕ) → (table == other) ≡ false → P other) → (other : ℕ)
@@ -54,25 +54,25 @@ at_each P table here elsewhere other = elim (cases_Bool (table == other)) [
 ]
 
 -- The hands that are out are lawful plays once the start and the acts at a table are others.
-plays_changed : (out : List (Option HandStart)) (acts : List (List ActOf)) (table : ℕ) (start : Option HandStart)
-    (new : List ActOf) → table < length out → table < length acts → ((other : ℕ) → IsLawfulAt out acts other)
+plays_changed : (started : List (Option HandStart)) (acts : List (List ActOf)) (table : ℕ) (start : Option HandStart)
+    (new : List ActOf) → table < length started → table < length acts → ((other : ℕ) → IsLawfulAt started acts other)
     → ForSome (hand_from start new) IsLawfulPlay
-    → (other : ℕ) → IsLawfulAt (slice_set out table start) (slice_set acts table new) other
-plays_changed out acts table start new within room plays here =
-    at_each (IsLawfulAt (slice_set out table start) (slice_set acts table new)) table
-    (rw (get_or-set_same out table start None within, get_or-set_same acts table new [] room) here)
+    → (other : ℕ) → IsLawfulAt (slice_set started table start) (slice_set acts table new) other
+plays_changed started acts table start new within room plays here =
+    at_each (IsLawfulAt (slice_set started table start) (slice_set acts table new)) table
+    (rw (get_or-set_same started table start None within, get_or-set_same acts table new [] room) here)
     (λ other differ.
     let apart = other_number table other differ in
-    rw (get_or-set_other out table other start None apart, get_or-set_other acts table other new [] apart)
+    rw (get_or-set_other started table other start None apart, get_or-set_other acts table other new [] apart)
     (plays other))
 
 -- The same where the acts alone are others.
-acts_changed : (out : List (Option HandStart)) (acts : List (List ActOf)) (table : ℕ) (new : List ActOf)
-    → table < length acts → ((other : ℕ) → IsLawfulAt out acts other)
-    → ForSome (hand_from (start_at out table) new) IsLawfulPlay
-    → (other : ℕ) → IsLawfulAt out (slice_set acts table new) other
-acts_changed out acts table new room plays here =
-    at_each (IsLawfulAt out (slice_set acts table new)) table
+acts_changed : (started : List (Option HandStart)) (acts : List (List ActOf)) (table : ℕ) (new : List ActOf)
+    → table < length acts → ((other : ℕ) → IsLawfulAt started acts other)
+    → ForSome (hand_from (start_at started table) new) IsLawfulPlay
+    → (other : ℕ) → IsLawfulAt started (slice_set acts table new) other
+acts_changed started acts table new room plays here =
+    at_each (IsLawfulAt started (slice_set acts table new)) table
     (rw (get_or-set_same acts table new [] room) here)
     (λ other differ. rw (get_or-set_other acts table other new [] (other_number table other differ)) (plays other))
 
@@ -85,13 +85,13 @@ play_begun : (play : PlayState) (table : ℕ) (row : CardRow) → IsValidPlay pl
     → book_refusal play.book (events.Begin table row) ≡ None → IsValidPlay (play_effect play (events.Begin table row))
 play_begun play table row valid none =
     let range = table_range 1 play.book.plan.tables table (may_begin play.book table row none).there in
-    let out = valid.book.tables.room in
+    let started = valid.book.tables.room in
     let room = valid.room in
     let start = next_start play.book table row.cards in
     record {
       book = valid_begun play.book table row valid.book none;
       room = length-set play.acts table [] ∙ valid.room;
-      plays = plays_changed play.book.out play.acts table (Some start) [] (omega (arith, range.1, out))
+      plays = plays_changed play.book.started play.acts table (Some start) [] (omega (arith, range.1, started))
           (omega (arith, range.1, room)) valid.plays
           (some_so IsLawfulPlay (record { start = start; acts = [] }) (lawful_play-none start));
     }
@@ -108,9 +108,9 @@ play_acted play table name act valid none free =
     record {
       book = valid.book;
       room = length-set play.acts table (acts_at play.acts table ++ new ∷ []) ∙ valid.room;
-      plays = acts_changed play.book.out play.acts table (acts_at play.acts table ++ new ∷ [])
+      plays = acts_changed play.book.started play.acts table (acts_at play.acts table ++ new ∷ [])
           (omega (arith, range.1, room)) valid.plays
-          (by_start (start_at play.book.out table) (acts_at play.acts table) free (valid.plays table));
+          (by_start (start_at play.book.started table) (acts_at play.acts table) free (valid.plays table));
     }
   where
     by_start : (start : Option HandStart) (acts : List ActOf)
@@ -137,9 +137,9 @@ play_timed play table valid none free =
     record {
       book = valid.book;
       room = length-set play.acts table (acts_in_time (hand_at play table)) ∙ valid.room;
-      plays = acts_changed play.book.out play.acts table (acts_in_time (hand_at play table))
+      plays = acts_changed play.book.started play.acts table (acts_in_time (hand_at play table))
           (omega (arith, range.1, room)) valid.plays
-          (by_start (start_at play.book.out table) (acts_at play.acts table) (valid.book.hands.starts table) free
+          (by_start (start_at play.book.started table) (acts_at play.acts table) (valid.book.hands.starts table) free
           (valid.plays table));
     }
   where
@@ -148,11 +148,11 @@ play_timed play table valid none free =
         → option_and_then (hand_refusal (events.Time table)) (hand_from start acts) ≡ None
         → ForSome (hand_from start acts) IsLawfulPlay
         → ForSome (hand_from start (acts_in_time (hand_from start acts))) IsLawfulPlay
-    by_start None acts out free lawful = λ hand is. absurd cc
-    by_start (Some start) acts out free lawful =
+    by_start None acts started free lawful = λ hand is. absurd cc
+    by_start (Some start) acts started free lawful =
         let hand : HandTerms = record { start = start; acts = acts } in
         some_so IsLawfulPlay (hand_after_time hand)
-        (lawful_play-time hand (out start refl).lawful (lawful hand refl) free)
+        (lawful_play-time hand (started start refl).lawful (lawful hand refl) free)
 
 -- the tournament once a hand at a table is settled
 abbrev settled_at : PlayState → ℕ → HandTerms → PlayState
@@ -160,25 +160,25 @@ settled_at play table hand = record { book = settled play.book hand; acts = slic
 
 -- After a settle of the hand with the start that is out.
 settled_from : (play : PlayState) (table : ℕ) (start : HandStart) → IsValidPlay play
-    → start_at play.book.out table ≡ Some start
+    → start_at play.book.started table ≡ Some start
     → is_over (record { start = start; acts = acts_at play.acts table }) ≡ true
     → IsValidPlay (settled_at play table (record { start = start; acts = acts_at play.acts table }))
 settled_from play table start valid is over =
     let hand : HandTerms = record { start = start; acts = acts_at play.acts table } in
     let here : start.table ≡ table = (valid.book.hands.starts table start is).here in
-    let there : start_at play.book.out start.table ≡ Some start = ap (start_at play.book.out) here ∙ is in
-    let listed = table_out play.book.plan play.book.seating play.book.out table start valid.book.tables is in
+    let there : start_at play.book.started start.table ≡ Some start = ap (start_at play.book.started) here ∙ is in
+    let listed = table_started play.book.plan play.book.seating play.book.started table start valid.book.tables is in
     let range = table_range 1 play.book.plan.tables table listed in
-    let out = valid.book.tables.room in
+    let started = valid.book.tables.room in
     let room = valid.room in
     let found = ap (λ (start : Option HandStart). hand_from start (acts_at play.acts table)) is in
-    let plays = plays_changed play.book.out play.acts table None [] (omega (arith, range.1, out))
+    let plays = plays_changed play.book.started play.acts table None [] (omega (arith, range.1, started))
     (omega (arith, range.1, room)) valid.plays (λ hand is. absurd cc) in
     record {
       book = valid_settled play.book hand valid.book there (valid.plays table hand found) over;
       room = length-set play.acts table [] ∙ valid.room;
       plays = λ other. subst
-          (λ (number : ℕ). IsLawfulAt (slice_set play.book.out number None) (slice_set play.acts table []) other)
+          (λ (number : ℕ). IsLawfulAt (slice_set play.book.started number None) (slice_set play.acts table []) other)
           (sym here) (plays other);
     }
 
@@ -188,7 +188,7 @@ play_settled : (play : PlayState) (table : ℕ) → IsValidPlay play → book_re
     → IsValidPlay (play_effect play (events.Settle table))
 play_settled play table valid none free =
     let playing = (settle_passed play.book table none).playing in
-    let found = some_there (start_at play.book.out table) (sym (valid.book.tables.playing table) ∙ playing) in
+    let found = some_there (start_at play.book.started table) (sym (valid.book.tables.playing table) ∙ playing) in
     let hand : HandTerms = record { start = found.0; acts = acts_at play.acts table } in
     let is : hand_at play table ≡ Some hand = ap
     (λ (start : Option HandStart). hand_from start (acts_at play.acts table)) found.1 in
@@ -206,8 +206,8 @@ play_stopped play valid = record {
       (valid.room ∙ ap (λ (tables : ℕ). tables + 1)
       (sym (left-void_first (λ book. book.plan.tables)
       (record { same = λ book table payees. refl }) play.book play.book.plan.tables)));
-  plays = λ table. nobody (start_at (stopped_book play.book).out table)
-      (acts_at (replicate (length play.acts) []) table) (none_out-stopped play.book table valid.book);
+  plays = λ table. nobody (start_at (stopped_book play.book).started table)
+      (acts_at (replicate (length play.acts) []) table) (none_started-stopped play.book table valid.book);
 }
   where
     nobody : (start : Option HandStart) (acts : List ActOf) → start ≡ None → ForSome (hand_from start acts) IsLawfulPlay

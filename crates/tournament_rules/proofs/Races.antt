@@ -42,7 +42,7 @@ use Rattle.tournament_rules.specs.Racing.{unit_after, raced_off, stack_in, stack
 use Rattle.tournament_rules.specs.Units.{IsUnitOf, is_whole_at, AreWhole, is_due}
 use Rattle.tournament_rules.specs.Valid.{IsValid, is_lent}
 use Rattle.tournament_rules.proofs.BySeats.{ten_seats, player_in, walk-sum, walk-alike, none_later, seats-sum, stacks-at, stacks-sum}
-use Rattle.tournament_rules.proofs.Begins.{none_out, all_rest, few_chips}
+use Rattle.tournament_rules.proofs.Begins.{none_started, all_rest, few_chips}
 use Rattle.tournament_rules.proofs.DealtIn.{none_first, nothing_whole}
 use Rattle.tournament_rules.proofs.Entries.{right_has}
 use Rattle.tournament_rules.proofs.Fitting.{table_range, status_here, status_elsewhere, each_status, seating_changed}
@@ -436,7 +436,7 @@ module _ (book : BookState) (table : ℕ) (cards : List Card) (valid : IsValid b
       let lawful = valid.tables.lawful in
       let stands = lawful.statuses table in
       let unit = unit_of_level book.plan.blinds book.level in
-      let none = none_out book table valid may.rests in
+      let none = none_started book table valid may.rests in
       record {
         plan = valid.plan;
         entries = entered_changed book.entries players book.busts (restacked table after) (raced-stacks table after)
@@ -450,14 +450,14 @@ module _ (book : BookState) (table : ℕ) (cards : List Card) (valid : IsValid b
           seats = valid.tables.seats;
           room = valid.tables.room;
           nobody = valid.tables.nobody;
-          playing = λ other. each_status (λ number status. status.playing ≡ is_some (start_at book.out number)) tables
+          playing = λ other. each_status (λ number status. status.playing ≡ is_some (start_at book.started number)) tables
               table (raced_off status) range.0 range.1 (valid.tables.playing table) other (valid.tables.playing other);
         };
         hands = record {
           starts = λ other start is.
               let began = valid.hands.starts other start is in
-              let unit = each_status (λ number status. start_at book.out number ≡ Some start → start.unit ≡ status.unit)
-              tables table (raced_off status) range.0 range.1 (λ out. absurd cc) other (λ out. began.unit) is in
+              let unit = each_status (λ number status. start_at book.started number ≡ Some start → start.unit ≡ status.unit)
+              tables table (raced_off status) range.0 range.1 (λ started. absurd cc) other (λ started. began.unit) is in
               record { here = began.here; lawful = began.lawful; seats = began.seats; unit = unit };
           lent = λ other. ap (λ (found : List Seated). map start_seat found) (keeps_lent other)
               ∙ valid.hands.lent other;
@@ -498,7 +498,7 @@ module _ (book : BookState) (table : ℕ) (cards : List Card) (valid : IsValid b
             other
             (λ marks is. let one = valid.marked other marks is in let same = counts other in omega (arith, one, same));
         counted = let counted = valid.counted in omega (arith, counted);
-        raised = let raised = valid.raised in omega (arith, raised);
+        announced = let announced = valid.announced in omega (arith, announced);
       }
 
 -- A book is valid once a race that is not refused is made.

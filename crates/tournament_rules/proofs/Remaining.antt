@@ -12,7 +12,7 @@ use Rattle.seat_book.specs.Counts.{count_at}
 use Rattle.table_engine.specs.declared.start.HandStart.{HandStart}
 use Rattle.table_engine.specs.declared.start.StartSeat.{StartSeat}
 use Rattle.table_engine.specs.Starts.{chips_of, have_playable_stacks, is_playable_stack}
-use Rattle.tournament_rules.specs.Books.{BookState, start_at, players_out}
+use Rattle.tournament_rules.specs.Books.{BookState, start_at, starters_of}
 use Rattle.tournament_rules.specs.Players.{start_seat, paid, put_back}
 use Rattle.tournament_rules.specs.Valid.{IsValid, is_lent, without_stack}
 use Rattle.tournament_rules.proofs.Restacked.{count_changed}
@@ -63,10 +63,10 @@ somebody_sits table players starters lent two =
 
 -- Somebody sits at a table where a hand is out.
 pub somebody_out : (book : BookState) (table : ℕ) (start : HandStart) → IsValid book
-    → start_at book.out table ≡ Some start → 1 ≤ count_at book.seating.players table
+    → start_at book.started table ≡ Some start → 1 ≤ count_at book.seating.players table
 somebody_out book table start valid is =
     somebody_sits table book.seating.players start.seats
-    (valid.hands.lent table ∙ ap (λ (start : Option HandStart). map without_stack (players_out start)) is)
+    (valid.hands.lent table ∙ ap (λ (start : Option HandStart). map without_stack (starters_of start)) is)
     (valid.hands.starts table start is).lawful.two
 
 -- Players who can play have chips.

@@ -13,7 +13,7 @@ use Rattle.tournament_rules.specs.Effects.{with_hands, round_ended}
 use Rattle.tournament_rules.specs.Units.{is_due}
 use Rattle.tournament_rules.specs.Valid.{IsValid}
 use Rattle.tournament_rules.proofs.Fitting.{fitting_alike}
-use Rattle.tournament_rules.proofs.KeptUnits.{KeepsUnits, out_kept, units_kept}
+use Rattle.tournament_rules.proofs.KeptUnits.{KeepsUnits, starts_kept, units_kept}
 use Rattle.tournament_rules.proofs.Stayed.{past_later}
 
 -- What is so of a table whether it has begun in the round or not is so of it when others have begun.
@@ -66,14 +66,14 @@ valid_switched book test hands group valid least most =
     record {
       plan = valid.plan;
       entries = valid.entries;
-      tables = fitting_alike book.plan book.seating book.out after hands valid.tables
+      tables = fitting_alike book.plan book.seating book.started after hands valid.tables
           (length-map tables (begun_by test))
           (λ table. each_begun (IsStatusOf book.seating.seat_count) test tables table
           (λ status is. record { marks = is.marks; unit = is.unit; race = is.race })
           (valid.tables.lawful.statuses table))
           (λ table. each_begun (λ status. status.playing ≡ (status_at tables table).playing) test tables table
           (λ status is. is) refl);
-      hands = out_kept book.plan tables after players book.out valid.hands keeps.unit;
+      hands = starts_kept book.plan tables after players book.started valid.hands keeps.unit;
       busts = record {
         groups = valid.busts.groups;
         past = past_later book.busts book.group group least valid.busts.past;

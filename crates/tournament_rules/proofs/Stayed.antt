@@ -79,9 +79,9 @@ seating_left seating gone lawful = record {
 }
 
 -- The seating fits the plan once some players have left.
-pub fitting_left : (plan : PlanTerms) (seating : Seating) (out : List (Option HandStart)) (gone : Seated → Bool)
-    → IsFitting plan seating out → IsFitting plan (record seating { players = without gone seating.players }) out
-fitting_left plan seating out gone fits = record {
+pub fitting_left : (plan : PlanTerms) (seating : Seating) (started : List (Option HandStart)) (gone : Seated → Bool)
+    → IsFitting plan seating started → IsFitting plan (record seating { players = without gone seating.players }) started
+fitting_left plan seating started gone fits = record {
   lawful = seating_left seating gone fits.lawful;
   tables = fits.tables;
   seats = fits.seats;
@@ -251,11 +251,11 @@ pub once_left : (entries : List (List ℕ)) (table group : ℕ) (leaving : List 
     → AreOnce entries (who_stay table players) (busts ++ map (bust_of group) leaving)
 once_left entries table group leaving players busts once same = λ number.
     let parts = count_apart (is_numbered number) (is_lent table) players in
-    let out = count_out number group leaving (filter (is_lent table) players) same in
+    let started = count_out number group leaving (filter (is_lent table) players) same in
     let rows = sum_by-append (λ (bust : Bust). cond {A = ℕ} (is_bust_of number bust) 1 0) busts
     (map (bust_of group) leaving) in
     let before = once number in
-    omega (arith, parts, out, rows, before)
+    omega (arith, parts, started, rows, before)
 
 -- A group of players who go out is not later than itself.
 pub same_group : (group : ℕ) → nat_le group group ≡ true

@@ -22,25 +22,13 @@ accepted_none (Some refusal) accepted = cc
 
 -- The book accepts at most one event more.
 accepted_more : (play : PlayState) (event : Event) → (play_effect play event).book.accepted ≤ play.book.accepted + 1
-accepted_more play (events.Plan line) = omega arith
-accepted_more play events.Go = omega arith
-accepted_more play (events.Enter name table seat) = omega arith
-accepted_more play (events.Begin table row) = omega arith
-accepted_more play (events.Act table name act) = omega arith
-accepted_more play (events.Time table) = omega arith
 accepted_more play (events.Settle table) = by_hand (hand_at play table)
   where
     by_hand : (hand : Option HandTerms)
         → (option_map_or (settled play.book) hand play.book).accepted ≤ play.book.accepted + 1
     by_hand None = omega arith
     by_hand (Some hand) = omega arith
-accepted_more play (events.Balance from to) = omega arith
-accepted_more play (events.Break table places names) = omega arith
-accepted_more play events.Level = omega arith
-accepted_more play (events.Race table row) = omega arith
-accepted_more play (events.Hands on) = omega arith
-accepted_more play events.Round = omega arith
-accepted_more play events.Stop = omega arith
+accepted_more play _ = omega arith
 
 -- An accepted line of a plan is not wrong.
 line_right : (wrong : Bool) (item : PlanItem) → is_accepted (if wrong then PlanWrong item else Ok) ≡ true
@@ -70,18 +58,7 @@ valid_accepted draft None count events.Go lawful valid counted accepted = record
       (valid_first_play (plan_of draft) (right_plan draft lawful (go_right (go_fault draft) accepted)));
   counted = some_so (λ play. play.book.accepted ≤ count + 1) (first_play (plan_of draft)) (omega arith);
 }
-valid_accepted draft None count (events.Enter name table seat) lawful valid counted accepted = absurd cc
-valid_accepted draft None count (events.Begin table row) lawful valid counted accepted = absurd cc
-valid_accepted draft None count (events.Act table name act) lawful valid counted accepted = absurd cc
-valid_accepted draft None count (events.Time table) lawful valid counted accepted = absurd cc
-valid_accepted draft None count (events.Settle table) lawful valid counted accepted = absurd cc
-valid_accepted draft None count (events.Balance from to) lawful valid counted accepted = absurd cc
-valid_accepted draft None count (events.Break table places names) lawful valid counted accepted = absurd cc
-valid_accepted draft None count events.Level lawful valid counted accepted = absurd cc
-valid_accepted draft None count (events.Race table row) lawful valid counted accepted = absurd cc
-valid_accepted draft None count (events.Hands on) lawful valid counted accepted = absurd cc
-valid_accepted draft None count events.Round lawful valid counted accepted = absurd cc
-valid_accepted draft None count events.Stop lawful valid counted accepted = absurd cc
+valid_accepted draft None count _ lawful valid counted accepted = absurd cc
 valid_accepted draft (Some play) count event lawful valid counted accepted = record {
   draft = lawful;
   play = some_so IsValidPlay (play_effect play event)

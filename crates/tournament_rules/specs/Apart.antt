@@ -58,9 +58,6 @@ refusal_apart apart event =
 
 -- what an accepted event makes of the hands: one begins, one takes an act, one is settled, or all are void
 abbrev pub hands_effect : Apart → Event → List (Option HandTerms)
-hands_effect apart (events.Plan line) = apart.hands
-hands_effect apart events.Go = apart.hands
-hands_effect apart (events.Enter name table seat) = apart.hands
 hands_effect apart (events.Begin table row) =
     slice_set apart.hands table (Some (record { start = next_start apart.book table row.cards; acts = [] }))
 hands_effect apart (events.Act table name act) =
@@ -68,13 +65,8 @@ hands_effect apart (events.Act table name act) =
 hands_effect apart (events.Time table) =
     slice_set apart.hands table (option_map hand_after_time (hand_in apart.hands table))
 hands_effect apart (events.Settle table) = slice_set apart.hands table None
-hands_effect apart (events.Balance from to) = apart.hands
-hands_effect apart (events.Break table places names) = apart.hands
-hands_effect apart events.Level = apart.hands
-hands_effect apart (events.Race table row) = apart.hands
-hands_effect apart (events.Hands on) = apart.hands
-hands_effect apart events.Round = apart.hands
 hands_effect apart events.Stop = replicate (length apart.hands) None
+hands_effect apart _ = apart.hands
 
 -- the book and the hands after an event
 abbrev pub after_apart : Apart → Event → Apart

@@ -17,7 +17,7 @@ pub record BookState : Type 0 where
   -- who sits where, and how the tables stand
   pub seating : Seating
   -- by table number, the start of the hand that is out; there is no table 0, and no hand
-  pub out : List (Option HandStart)
+  pub started : List (Option HandStart)
   -- the players who are out, in the order in which they went out
   pub busts : List Bust
   -- the number of the group of those who go out next, from 0
@@ -44,11 +44,11 @@ has_seat_number book seat = is_between 1 book.plan.seats seat
 
 -- the start of the hand that is out at a table, if one is
 abbrev pub start_at : List (Option HandStart) → ℕ → Option HandStart
-start_at out table = slice_index_or out table None
+start_at started table = slice_index_or started table None
 
 -- the players with whom a hand started, where one did
-abbrev pub players_out : Option HandStart → List StartSeat
-players_out start = option_map_or (λ start. start.seats) start []
+abbrev pub starters_of : Option HandStart → List StartSeat
+starters_of start = option_map_or (λ start. start.seats) start []
 
 -- the blinds and the unit of the current level
 abbrev pub blind_now : BookState → Blind

@@ -219,20 +219,10 @@ book_checks book events.Stop = going_checks book
 
 -- The checks that a hand makes of an event at its table, after those of the book.
 abbrev pub hand_checks : HandTerms → Event → List Check
-hand_checks hand (events.Plan line) = []
-hand_checks hand events.Go = []
-hand_checks hand (events.Enter name table seat) = []
-hand_checks hand (events.Begin table row) = []
 hand_checks hand (events.Act table name act) = act_checks hand name act
 hand_checks hand (events.Time table) = time_checks hand
 hand_checks hand (events.Settle table) = end_checks hand
-hand_checks hand (events.Balance from to) = []
-hand_checks hand (events.Break table places names) = []
-hand_checks hand events.Level = []
-hand_checks hand (events.Race table row) = []
-hand_checks hand (events.Hands on) = []
-hand_checks hand events.Round = []
-hand_checks hand events.Stop = []
+hand_checks hand _ = []
 
 -- why the book refuses an event, if it does
 unfoldable pub book_refusal : BookState → Event → Option Refusal

@@ -2,7 +2,7 @@
 use Rattle.std.specs.Prelude.{ℕ, ◌*◌, length, sum_by}
 use Rattle.std.specs.Option.{option_map_or}
 use Rattle.table_engine.specs.Starts.{chips_of}
-use Rattle.tournament_rules.specs.Books.{BookState, players_out}
+use Rattle.tournament_rules.specs.Books.{BookState, starters_of}
 use Rattle.tournament_rules.specs.States.{State}
 
 -- the chips sold by a book: a starting stack for each entry
@@ -15,7 +15,7 @@ rest_in book = sum_by (λ player. player.stack) book.seating.players
 
 -- the chips in play of a book: the stacks with which the players of started hands began
 abbrev pub play_of : BookState → ℕ
-play_of book = sum_by (λ start. chips_of (players_out start)) book.out
+play_of book = sum_by (λ start. chips_of (starters_of start)) book.started
 
 -- the chips sold, and 0 before there is a plan
 abbrev pub sold : State → ℕ

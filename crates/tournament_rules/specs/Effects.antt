@@ -22,7 +22,7 @@ use Rattle.tournament_rules.specs.Books.{BookState, start_at, no_hands}
 use Rattle.tournament_rules.specs.Players.{dealt_in, put_back, stayed}
 use Rattle.tournament_rules.specs.Dealing.{next_at, next_start}
 use Rattle.tournament_rules.specs.Moving.{after_all}
-use Rattle.tournament_rules.specs.Racing.{raised, race_at, restacked, raced_off}
+use Rattle.tournament_rules.specs.Racing.{announced, race_at, restacked, raced_off}
 
 -- a table before any hand, with the unit of the first level
 abbrev pub first_status : PlanTerms → TableStatus
@@ -39,7 +39,7 @@ first_book plan = record {
   plan = plan;
   entries = [];
   seating = first_seating plan;
-  out = no_hands plan.tables;
+  started = no_hands plan.tables;
   busts = [];
   group = 0;
   level = 1;
@@ -87,7 +87,7 @@ begun_book book table cards = record book {
   seating = record (with_table book.seating table (playing_from (next_at book table).marks book.seating.hands)) {
     players = dealt_in table (next_at book table).waiting book.seating.players;
   };
-  out = slice_set book.out table (Some (next_start book table cards));
+  started = slice_set book.started table (Some (next_start book table cards));
   begun = book.begun + 1;
   accepted = book.accepted + 1;
 }
@@ -96,12 +96,12 @@ begun_book book table cards = record book {
 abbrev pub ended : BookState → ℕ → List StartSeat → BookState
 ended book table payees = record book {
   seating = record (with_table book.seating table at_rest) { players = put_back payees book.seating.players };
-  out = slice_set book.out table None;
+  started = slice_set book.started table None;
 }
 
 -- those whom a hand leaves without chips, as they began it, in rising seat
-abbrev pub broke_by : HandTerms → List StartSeat
-broke_by hand = filter (λ player. stack_after_hand hand player == 0) hand.start.seats
+abbrev pub busted_by : HandTerms → List StartSeat
+busted_by hand = filter (λ player. stack_after_hand hand player == 0) hand.start.seats
 
 -- a player who goes out in a group, with the stack that he began his last hand with
 abbrev pub bust_of : ℕ → StartSeat → Bust
@@ -117,15 +117,15 @@ abbrev pub settled : BookState → HandTerms → BookState
 settled book hand =
     let after = ended book hand.start.table (players_after hand) in
     record after {
-      seating = record after.seating { players = stayed (broke_by hand) after.seating.players };
-      busts = book.busts ++ map (bust_of book.group) (broke_by hand);
+      seating = record after.seating { players = stayed (busted_by hand) after.seating.players };
+      busts = book.busts ++ map (bust_of book.group) (busted_by hand);
       group = next_group book;
       accepted = book.accepted + 1;
     }
 
 -- the book once the hand at a table is void, if one is out: its players have the stacks with which they began it
 abbrev pub void_at : BookState → ℕ → BookState
-void_at book table = option_map_or (λ start. ended book table start.seats) (start_at book.out table) book
+void_at book table = option_map_or (λ start. ended book table start.seats) (start_at book.started table) book
 
 -- the book once the hands at the first so many tables are void
 abbrev pub void_first : BookState → ℕ → BookState
@@ -139,7 +139,7 @@ stopped_book book = record (void_first book book.plan.tables) { stopped = true; 
 -- the book once two tables are balanced: the next big blind of the one moves to the other, with his stack
 abbrev pub balanced : BookState → ℕ → ℕ → BookState
 balanced book from to = record book {
-  seating = option_map_or (λ order. after_move order book.seating) (balance_move book.seating from to) book.seating;
+  seating = option_map_or (λ move_. after_move move_ book.seating) (balance_move book.seating from to) book.seating;
   accepted = book.accepted + 1;
 }
 
@@ -160,7 +160,7 @@ abbrev pub leveled : BookState → BookState
 leveled book =
     let unit = unit_of_level book.plan.blinds (book.level + 1) in
     record book {
-      seating = if nat_lt (unit_of_level book.plan.blinds book.level) unit then raised unit book.seating
+      seating = if nat_lt (unit_of_level book.plan.blinds book.level) unit then announced unit book.seating
           else book.seating;
       level = book.level + 1;
       accepted = book.accepted + 1;

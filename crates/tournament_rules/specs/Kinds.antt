@@ -1,8 +1,54 @@
--- Kinds of events, and whether a list has an accepted one of a kind. This project's own.
-use Rattle.std.specs.Prelude.{Bool, true, false, not, ◌&&◌, ◌||◌, List, [], ◌∷◌}
+-- What kind an event is of: each event is named once. This project's own.
+use Rattle.std.specs.Prelude.{Bool, true, false, not}
 use Rattle.floor_events.specs.declared.event.Event.{Event}
 use Rattle.floor_events.specs.declared.event.Event.TheVariants as events
-use Rattle.tournament_rules.specs.States.{State, answer_to, is_accepted, state_after}
+
+-- The kinds of events: the plan is given, the book alone is asked, a hand begins, is played or is settled, or the
+-- tournament is stopped.
+pub data Kind : Type 0 where
+  Planning : Kind
+  Order : Kind
+  Begin : Kind
+  Play : Kind
+  Settle : Kind
+  Stop : Kind
+
+-- the kind of an event
+abbrev pub kind_of : Event → Kind
+kind_of (events.Plan line) = Planning
+kind_of events.Go = Planning
+kind_of (events.Enter name table seat) = Order
+kind_of (events.Begin table row) = Begin
+kind_of (events.Act table name act) = Play
+kind_of (events.Time table) = Play
+kind_of (events.Settle table) = Settle
+kind_of (events.Balance from to) = Order
+kind_of (events.Break table places names) = Order
+kind_of events.Level = Order
+kind_of (events.Race table row) = Order
+kind_of (events.Hands on) = Order
+kind_of events.Round = Order
+kind_of events.Stop = Stop
+
+-- whether the book takes events of a kind by itself: its orders, and the stop
+abbrev pub is_book_alone : Kind → Bool
+is_book_alone Order = true
+is_book_alone Stop = true
+is_book_alone _ = false
+
+-- whether the book takes an event by itself: a player enters, two tables are balanced, a table breaks, a level, a race,
+-- a switch or an end of a round comes, or the tournament is stopped
+abbrev pub is_order : Event → Bool
+is_order event = is_book_alone (kind_of event)
+
+-- whether events of a kind leave the hands as they are
+abbrev pub is_beside_hands : Kind → Bool
+is_beside_hands Order = true
+is_beside_hands _ = false
+
+-- whether an event is an order that leaves the hands as they are: all but the stop
+abbrev pub leaves_hands : Event → Bool
+leaves_hands event = is_beside_hands (kind_of event)
 
 -- whether a player enters
 abbrev pub is_entry : Event → Bool
@@ -24,9 +70,3 @@ abbrev pub ends_round : Event → Bool
 ends_round events.Round = true
 ends_round (events.Hands on) = not on
 ends_round _ = false
-
--- whether some event of a list that passes a test is accepted where it stands
-abbrev pub is_any_accepted : (Event → Bool) → State → List Event → Bool
-is_any_accepted test state [] = false
-is_any_accepted test state (event ∷ events) =
-    test event && is_accepted (answer_to state event) || is_any_accepted test (state_after state event) events

@@ -22,7 +22,7 @@ move_of seating table name place =
 -- who sits where once the player of a name at a table took a place, with his stack
 abbrev pub after_taking : ℕ → List ℕ → Place → Seating → Seating
 after_taking table name place seating =
-    option_map_or (λ order. after_move order seating) (move_of seating table name place) seating
+    option_map_or (λ move_. after_move move_ seating) (move_of seating table name place) seating
 
 -- who sits where once the players of these names at a table took these places, each the one that stands with his name
 abbrev pub after_all : ℕ → List (List ℕ) → List Place → Seating → Seating

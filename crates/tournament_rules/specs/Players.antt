@@ -7,7 +7,7 @@ use Rattle.seat_book.specs.declared.seated.Seated.{Seated}
 use Rattle.seat_book.specs.Players.{sits_at, is_numbered}
 use Rattle.table_engine.specs.declared.start.HandStart.{HandStart}
 use Rattle.table_engine.specs.declared.start.StartSeat.{StartSeat}
-use Rattle.tournament_rules.specs.Books.{start_at, players_out}
+use Rattle.tournament_rules.specs.Books.{start_at, starters_of}
 
 -- whether the player of a number is among those with whom a hand started
 abbrev pub is_among : ℕ → List StartSeat → Bool
@@ -19,7 +19,7 @@ is_one_of starters player = is_among player.player starters
 
 -- whether a player is in the hand that is out at his table
 abbrev pub is_in_hand : List (Option HandStart) → Seated → Bool
-is_in_hand out player = is_one_of (players_out (start_at out player.place.table)) player
+is_in_hand started player = is_one_of (starters_of (start_at started player.place.table)) player
 
 -- whether a player is dealt in at a table: he sits there and does not wait
 abbrev pub is_dealt_in : ℕ → List Bool → Seated → Bool

@@ -19,14 +19,14 @@ use Rattle.tournament_rules.specs.Players.{with_rest}
 
 -- a table once a level with a greater unit is current: where it is open a race to that unit is pending, and else it has
 -- that unit at once and no race
-abbrev pub raised_table : ℕ → Bool → TableStatus → TableStatus
-raised_table unit opened status =
+abbrev pub announced_table : ℕ → Bool → TableStatus → TableStatus
+announced_table unit opened status =
     if opened then record status { race = Some unit } else record status { unit = unit; race = None }
 
 -- all tables then, by number
-abbrev pub raised : ℕ → Seating → Seating
-raised unit seating = record seating {
-  tables = map (λ row. raised_table unit (is_open seating.players row.0) row.1) (enumerate_from 1 seating.tables);
+abbrev pub announced : ℕ → Seating → Seating
+announced unit seating = record seating {
+  tables = map (λ row. announced_table unit (is_open seating.players row.0) row.1) (enumerate_from 1 seating.tables);
 }
 
 -- the unit that a table has after its race: the new one, where a race is pending, and else its own

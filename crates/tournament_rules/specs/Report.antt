@@ -12,10 +12,10 @@ use Rattle.tournament_rules.specs.Chips.{sold_by, rest_in, play_of}
 
 -- a player who is in, as he is reported: with his stack at rest, or in play
 abbrev pub reported : List (Option HandStart) → Seated → ReportSeat
-reported out player = record {
+reported started player = record {
   place = player.place;
   name = player.name;
-  stack = if is_in_hand out player then None else Some player.stack;
+  stack = if is_in_hand started player then None else Some player.stack;
 }
 
 -- The report of a book. Who is out is not reported yet.
@@ -27,7 +27,7 @@ book_report book = record {
   added = book.added;
   rest = rest_in book;
   play = play_of book;
-  seats = map (reported book.out) book.seating.players;
+  seats = map (reported book.started) book.seating.players;
   outs = [];
 }
 

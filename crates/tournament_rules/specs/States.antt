@@ -15,7 +15,7 @@ use Rattle.floor_events.specs.declared.answer.Answer.TheVariants.{Ok, No, PlanWr
 use Rattle.floor_events.specs.declared.event.Event.{Event}
 use Rattle.floor_events.specs.declared.event.Event.TheVariants as events
 use Rattle.tournament_rules.specs.Books.{BookState, start_at}
-use Rattle.tournament_rules.specs.Checks.{book_checks, hand_checks, is_over_for_all}
+use Rattle.tournament_rules.specs.Checks.{book_checks, book_refusal, hand_checks, is_over_for_all}
 use Rattle.tournament_rules.specs.Effects.{first_book, book_effect}
 
 -- a tournament whose plan is whole: its book, and the acts of the hands that are out
@@ -51,69 +51,37 @@ acts_at acts table = slice_index_or acts table []
 -- the hand that is out at a table, if one is: its start, and its acts
 abbrev pub hand_at : PlayState → ℕ → Option HandTerms
 hand_at play table =
-    option_map (λ start. record { start = start; acts = acts_at play.acts table }) (start_at play.book.out table)
+    option_map (λ start. record { start = start; acts = acts_at play.acts table }) (start_at play.book.started table)
 
 -- the table of the hand that an event is about, if it is about one
 abbrev pub hand_table : Event → Option ℕ
-hand_table (events.Plan line) = None
-hand_table events.Go = None
-hand_table (events.Enter name table seat) = None
-hand_table (events.Begin table row) = None
 hand_table (events.Act table name act) = Some table
 hand_table (events.Time table) = Some table
 hand_table (events.Settle table) = Some table
-hand_table (events.Balance from to) = None
-hand_table (events.Break table places names) = None
-hand_table events.Level = None
-hand_table (events.Race table row) = None
-hand_table (events.Hands on) = None
-hand_table events.Round = None
-hand_table events.Stop = None
+hand_table _ = None
 
 -- the hand that an event is about, if there is one
-abbrev pub hand_of : PlayState → Event → Option HandTerms
-hand_of play event = option_and_then (hand_at play) (hand_table event)
+abbrev pub hand_about : PlayState → Event → Option HandTerms
+hand_about play event = option_and_then (hand_at play) (hand_table event)
 
 -- the table of an event that is an act of a player or a called time, if it is one
 abbrev pub act_table : Event → Option ℕ
-act_table (events.Plan line) = None
-act_table events.Go = None
-act_table (events.Enter name table seat) = None
-act_table (events.Begin table row) = None
 act_table (events.Act table name act) = Some table
 act_table (events.Time table) = Some table
-act_table (events.Settle table) = None
-act_table (events.Balance from to) = None
-act_table (events.Break table places names) = None
-act_table events.Level = None
-act_table (events.Race table row) = None
-act_table (events.Hands on) = None
-act_table events.Round = None
-act_table events.Stop = None
+act_table _ = None
 
 -- why an event is refused once there is a plan, if it is: the checks of the book come first, and then those of the hand
 unfoldable pub refusal_of : PlayState → Event → Option Refusal
 refusal_of play event =
     first_that_holds
-    (book_checks play.book event ++ option_map_or (λ hand. hand_checks hand event) (hand_of play event) [])
+    (book_checks play.book event ++ option_map_or (λ hand. hand_checks hand event) (hand_about play event) [])
 
 -- the answer to an event before there is a plan: the plan's own are checked, and all others have no plan
 abbrev pub planning_answer : Draft → Event → Answer
 planning_answer draft (events.Plan line) =
     if is_wrong_line draft line then PlanWrong (item_of_line line) else Ok
 planning_answer draft events.Go = option_map_or PlanWrong (go_fault draft) Ok
-planning_answer draft (events.Enter name table seat) = No NoPlan
-planning_answer draft (events.Begin table row) = No NoPlan
-planning_answer draft (events.Act table name act) = No NoPlan
-planning_answer draft (events.Time table) = No NoPlan
-planning_answer draft (events.Settle table) = No NoPlan
-planning_answer draft (events.Balance from to) = No NoPlan
-planning_answer draft (events.Break table places names) = No NoPlan
-planning_answer draft events.Level = No NoPlan
-planning_answer draft (events.Race table row) = No NoPlan
-planning_answer draft (events.Hands on) = No NoPlan
-planning_answer draft events.Round = No NoPlan
-planning_answer draft events.Stop = No NoPlan
+planning_answer draft _ = No NoPlan
 
 -- the answer that tells this refusal, or that there is none
 abbrev pub answered : Option Refusal → Answer
@@ -127,45 +95,26 @@ answer_to state event =
 
 -- what an accepted event makes of the acts, with the hand that it is about, if there is one
 abbrev pub acts_effect : List (List ActOf) → Option HandTerms → Event → List (List ActOf)
-acts_effect acts hand (events.Plan line) = acts
-acts_effect acts hand events.Go = acts
-acts_effect acts hand (events.Enter name table seat) = acts
 acts_effect acts hand (events.Begin table row) = slice_set acts table []
 acts_effect acts hand (events.Act table name act) =
     slice_set acts table (acts_at acts table ++ (record { name = name; act = act; by_time = false }) ∷ [])
 acts_effect acts hand (events.Time table) =
     slice_set acts table (option_map_or (λ hand. (hand_after_time hand).acts) hand [])
 acts_effect acts hand (events.Settle table) = slice_set acts table []
-acts_effect acts hand (events.Balance from to) = acts
-acts_effect acts hand (events.Break table places names) = acts
-acts_effect acts hand events.Level = acts
-acts_effect acts hand (events.Race table row) = acts
-acts_effect acts hand (events.Hands on) = acts
-acts_effect acts hand events.Round = acts
 acts_effect acts hand events.Stop = replicate (length acts) []
+acts_effect acts hand _ = acts
 
 -- what an accepted event makes of a tournament whose plan is whole
 abbrev pub play_effect : PlayState → Event → PlayState
 play_effect play event =
-    let hand = hand_of play event in
+    let hand = hand_about play event in
     record { book = book_effect play.book hand event; acts = acts_effect play.acts hand event }
 
 -- what an accepted event makes of a plan's draft, and of the tournament at `go`
 abbrev pub planning_effect : State → Event → State
 planning_effect state (events.Plan line) = record state { draft = draft_after state.draft line }
 planning_effect state events.Go = record state { play = Some (first_play (plan_of state.draft)) }
-planning_effect state (events.Enter name table seat) = state
-planning_effect state (events.Begin table row) = state
-planning_effect state (events.Act table name act) = state
-planning_effect state (events.Time table) = state
-planning_effect state (events.Settle table) = state
-planning_effect state (events.Balance from to) = state
-planning_effect state (events.Break table places names) = state
-planning_effect state events.Level = state
-planning_effect state (events.Race table row) = state
-planning_effect state (events.Hands on) = state
-planning_effect state events.Round = state
-planning_effect state events.Stop = state
+planning_effect state _ = state
 
 -- what an accepted event makes of the state, but for the count of accepted events
 abbrev pub effect : State → Event → State
@@ -198,6 +147,10 @@ is_over_state state = option_map_or (λ play. is_over_for_all play.book) state.p
 -- the players who are in, and nobody before there is a plan
 abbrev pub players_of : State → List Seated
 players_of state = option_map_or (λ play. play.book.seating.players) state.play []
+
+-- the book after an order: one that is not refused has its effect, a refused one changes nothing
+abbrev pub book_after : BookState → Event → BookState
+book_after book event = if is_none (book_refusal book event) then book_effect book None event else book
 
 -- a tournament whose plan is whole after an event: an accepted one has its effect, a refused one changes nothing
 abbrev pub play_after : PlayState → Event → PlayState

@@ -18,7 +18,7 @@ use Rattle.table_engine.specs.declared.start.HandStart.{HandStart}
 use Rattle.table_engine.specs.declared.start.StartSeat.{StartSeat}
 use Rattle.table_engine.specs.Starts.{IsLawfulStart}
 use Rattle.table_engine.specs.Plays.{IsLawfulPlay}
-use Rattle.tournament_rules.specs.Books.{BookState, start_at, players_out}
+use Rattle.tournament_rules.specs.Books.{BookState, start_at, starters_of}
 use Rattle.tournament_rules.specs.Players.{start_seat}
 use Rattle.tournament_rules.specs.Chips.{sold_by, rest_in, play_of}
 use Rattle.tournament_rules.specs.States.{State, PlayState, hand_at}
@@ -55,14 +55,14 @@ pub record AreEntered (entries : List (List ℕ)) (players : List Seated) (busts
   pub named : All (λ player. slice_get entries player.player ≡ Some player.name) players
 
 -- The seating is that of the plan's tables, and a table is playing just where a start is out.
-pub record IsFitting (plan : PlanTerms) (seating : Seating) (out : List (Option HandStart)) : Type 0 where
+pub record IsFitting (plan : PlanTerms) (seating : Seating) (started : List (Option HandStart)) : Type 0 where
   pub lawful : IsSeating seating
   pub tables : seating.table_count ≡ plan.tables
   pub seats : seating.seat_count ≡ plan.seats
   -- there is room for a start at each table, and none at 0
-  pub room : length out ≡ plan.tables + 1
-  pub nobody : start_at out 0 ≡ None
-  pub playing : (table : ℕ) → (status_at seating.tables table).playing ≡ is_some (start_at out table)
+  pub room : length started ≡ plan.tables + 1
+  pub nobody : start_at started 0 ≡ None
+  pub playing : (table : ℕ) → (status_at seating.tables table).playing ≡ is_some (start_at started table)
 
 -- whether a player sits at a table with nothing at rest: his chips are in the hand there
 abbrev pub is_lent : ℕ → Seated → Bool
@@ -81,12 +81,12 @@ pub record IsStartAt (plan : PlanTerms) (tables : List TableStatus) (table : ℕ
   pub unit : start.unit ≡ (status_at tables table).unit
 
 -- The starts that are out are lawful, and their players sit at their tables.
-pub record AreOut (plan : PlanTerms) (tables : List TableStatus) (players : List Seated) (out : List (Option HandStart))
+pub record AreStarted (plan : PlanTerms) (tables : List TableStatus) (players : List Seated) (started : List (Option HandStart))
     : Type 0 where
-  pub starts : (table : ℕ) → ForSome (start_at out table) (IsStartAt plan tables table)
+  pub starts : (table : ℕ) → ForSome (start_at started table) (IsStartAt plan tables table)
   -- those who have nothing at rest are, in number, name and seat, the players of the start that is out at their table
   pub lent : (table : ℕ) → map start_seat (filter (is_lent table) players)
-      ≡ map without_stack (players_out (start_at out table))
+      ≡ map without_stack (starters_of (start_at started table))
 
 -- Who went out later is in the same group or in a later one, and nobody is in a later group than those who go out next.
 pub record AreGrouped (busts : List Bust) (group : ℕ) : Type 0 where
@@ -101,8 +101,8 @@ AreMarked tables players = (table : ℕ) → ForSome (status_at tables table).ma
 pub record IsValid (book : BookState) : Type 0 where
   pub plan : IsPlanned book.plan book.level
   pub entries : AreEntered book.entries book.seating.players book.busts
-  pub tables : IsFitting book.plan book.seating book.out
-  pub hands : AreOut book.plan book.seating.tables book.seating.players book.out
+  pub tables : IsFitting book.plan book.seating book.started
+  pub hands : AreStarted book.plan book.seating.tables book.seating.players book.started
   pub busts : AreGrouped book.busts book.group
   -- the chips at rest, those in play and those that races took away are those sold and those that races gave
   pub chips : rest_in book + play_of book + book.removed ≡ sold_by book + book.added

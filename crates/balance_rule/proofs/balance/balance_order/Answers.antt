@@ -20,8 +20,8 @@ unwrap-player-requires c =
     let mover = taken-player c.args.book.now.players c.args.from big c.next_big-big.ensures.first last taken in
     rw (c.at.ensures.player, mover.1) refl
 
-pub returns-clause-order : goal.returns-clause-order
-returns-clause-order c =
+pub returns-clause-move_ : goal.returns-clause-move_
+returns-clause-move_ c =
     let big = c.next_big-big.result in
     let last : big ≤ 10 = omega (
       arith,

@@ -2,4 +2,4 @@ use Rattle.balance_rule.proofs.Balances.{not-back}
 use Rattle.balance_rule.proofs.laws.a_balance_is_never_turned_round.Goals as goal
 
 pub returns : goal.returns
-returns c = λ seating from to order back valid lawful. not-back seating from to order valid lawful back
+returns c = λ seating from to move_ back valid lawful. not-back seating from to move_ valid lawful back

@@ -4,4 +4,4 @@ use Rattle.tournament_rules.specs.Report.{reported}
 use Rattle.floor_core.proofs.report.all_reported.Given as goal
 
 abbrev pub invariant-loop-slot : goal.invariant-loop-slot
-invariant-loop-slot l = l.lines ≡ map (reported l.out) (players_in (take l.slot-index l.slots))
+invariant-loop-slot l = l.lines ≡ map (reported l.started) (players_in (take l.slot-index l.slots))

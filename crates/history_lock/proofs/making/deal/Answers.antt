@@ -1,5 +1,8 @@
-use Rattle.std.proofs.Common.{rules, ◌≡◌, length, slice_get, ◌-◌, ◌<◌, List, refl, sym, ap, ◌∙◌, arith}
+use Rattle.std.proofs.Common.{rules, ◌≡◌, ℕ, length, slice_get, ◌-◌, ◌<◌, List, refl, sym, ap, ◌∙◌, subst, arith}
+use Rattle.history_lock.specs.declared.view.View.{View}
+use Rattle.history_lock.specs.Entries.{entries_by}
 use Rattle.history_lock.specs.Views.{first_share}
+use Rattle.history_lock.proofs.Prefixes.{none_own}
 use Rattle.history_lock.proofs.Dealing.{none_there, fresh_push, gives, left_over, given_one, last_one, giving, giving_rests, giving_is_fresh}
 use Rattle.history_lock.proofs.making.deal.Goals as goal
 
@@ -36,7 +39,30 @@ invariant_of-push_reserved g c =
       at_rest = giving_rests c.loop-number.number seen c.split_seat-given.result.me.0
           (ap (λ m. m.0) given ∙ given_one c.loop-number.number left.0 c.args.n seen c.loop-number.seat.me.0 left.2
           left.1 below);
+      mine = subst (λ (z : View g.row.V-Entry.Denot). entries_by g.V.Grows.caller_of c.loop-number.number
+          (first_share z.shares).seen ≡ (first_share z.shares).own)
+          (sym (ap (λ m. m.0) given ∙ given_one c.loop-number.number left.0 c.args.n seen c.loop-number.seat.me.0 left.2
+          left.1 below)) (none_own g.V.Grows.caller_of c.loop-number.number seen
+          (let most = c.requires.opener.0 in omega arith) c.requires.opener.1);
     }
+
+pub invariant_of-push_reserved-2-clause-mine : goal.invariant_of-push_reserved-2-clause-mine
+invariant_of-push_reserved-2-clause-mine g c =
+    let left = c.loop-number.invariant.2 in
+    let seen : List g.row.V-Entry.Denot = (first_share c.args.seat.me.0.shares).seen in
+    let some : 0 < c.args.n = c.requires.all.2 in
+    let below : c.loop-number.number < c.args.n = let le = c.loop-number.auto.number-end in omega arith in
+    let one : c.loop-number.seat.me.0 ≡ giving c.loop-number.number 1 seen =
+    last_one c.loop-number.number left.0 c.args.n seen c.loop-number.seat.me.0 left.2 left.1
+    c.loop-number-test.false below in
+    let last : c.args.n - 1 ≡ c.loop-number.number = let le = c.loop-number.auto.number-end in let ge =
+    c.loop-number-test.false in omega arith in
+    subst (λ (k : ℕ). entries_by g.V.Grows.caller_of k (first_share c.loop-number.seat.me.0.shares).seen
+    ≡ (first_share c.loop-number.seat.me.0.shares).own) (sym last)
+    (subst (λ (z : View g.row.V-Entry.Denot). entries_by g.V.Grows.caller_of c.loop-number.number
+    (first_share z.shares).seen ≡ (first_share z.shares).own) (sym one)
+    (none_own g.V.Grows.caller_of c.loop-number.number seen (let most = c.requires.opener.0 in omega arith)
+    c.requires.opener.1))
 
 pub loop-number-preserved : goal.loop-number-preserved
 loop-number-preserved g c =

@@ -1,4 +1,4 @@
-use Rattle.std.proofs.Common.{◌≡◌, ◌∷◌, ℕ, [], List, refl, sym, ap, ◌∙◌, subst, arith, Option}
+use Rattle.std.proofs.Common.{◌≡◌, ◌∷◌, ℕ, [], List, refl, sym, ap, ◌∙◌, subst, arith, Option, All}
 use Rattle.atomic_table.specs.Table.{opening}
 use Rattle.atomic_table.specs.Seated.{TableId}
 use Rattle.history_lock.specs.declared.grows.TheConstants.{OPENER}
@@ -37,3 +37,12 @@ returns-in-Ok-new-clause-fresh g c =
     ∙ (opening_seen c.args.n (H c.of.result.value) c.requires.passes.0 ∙ ap H c.of.ensures) in
     subst (λ (t : TableId × List g.row.V-Entry.Denot). AreFresh t.0 t.1 c.deal-passes.result.items)
     (λ i. (c.in-Ok-new.ensures.ok.2 i, seen i)) c.deal-passes.ensures.fresh
+
+pub deal-passes-requires-clause-opener : goal.deal-passes-requires-clause-opener
+deal-passes-requires-clause-opener g c =
+    let H = g.V.Grows.history in
+    let first = c.in-Ok-new.ensures.ok.4 in
+    let seen : (first_share c.in-Ok-new.seat.me.0.shares).seen ≡ H c.args.value =
+    ap (λ m. (first_share m.0.shares).seen) first
+    ∙ (opening_seen c.args.n (H c.of.result.value) c.requires.passes.0 ∙ ap H c.of.ensures) in
+    (c.requires.passes.1, subst (All (λ e. g.V.Grows.caller_of e ≡ OPENER)) (sym seen) c.requires.opener)

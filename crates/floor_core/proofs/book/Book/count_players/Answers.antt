@@ -9,14 +9,14 @@ overflow_sub-result c =
     let book = book_of c.self.inside in
     let all = all-counted book.entries book.seating.players book.busts c.self.invariant.entries.once in
     let entered = c.len.ensures.len in
-    let out = c.len-2.ensures.len in
-    omega (arith, all, entered, out)
+    let started = c.len-2.ensures.len in
+    omega (arith, all, entered, started)
 
 pub returns : goal.returns
 returns c =
     let book = book_of c.self.inside in
     let all = all-counted book.entries book.seating.players book.busts c.self.invariant.entries.once in
     let entered = c.len.ensures.len in
-    let out = c.len-2.ensures.len in
+    let started = c.len-2.ensures.len in
     let sit = ap (λ (book : BookState). length book.seating.players) c.self.view_is in
-    omega (arith, all, entered, out, sit)
+    omega (arith, all, entered, started, sit)

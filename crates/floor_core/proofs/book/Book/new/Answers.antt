@@ -9,8 +9,8 @@ use Rattle.floor_core.proofs.book.Book.new.Goals as goal
 pub invariant_of-result : goal.invariant_of-result
 invariant_of-result c =
     let right : is_right c.args.plan ≡ true = rw (sym c.plan.view_is) c.plan.invariant in
-    let out : c.in_ok-out.out.items ≡ no_hands c.args.plan.tables = c.in_ok-out.ensures
+    let started : c.in_ok-started.started.items ≡ no_hands c.args.plan.tables = c.in_ok-started.ensures
     ∙ ap (λ (plan : PlanTerms). no_hands plan.tables) c.plan.view_is in
-    subst IsValid (sym (first_state_of c.args.plan c.new-2.result c.in_ok-seats.seats c.in_ok-out.out.items
-    c.in_ok-busts.busts c.new-2.ensures c.in_ok-seats.ensures out c.in_ok-busts.ensures))
+    subst IsValid (sym (first_state_of c.args.plan c.new-2.result c.in_ok-seats.seats c.in_ok-started.started.items
+    c.in_ok-busts.busts c.new-2.ensures c.in_ok-seats.ensures started c.in_ok-busts.ensures))
     (valid_first c.args.plan right)

@@ -3,7 +3,7 @@ use Rattle.std.specs.Prelude.{slice_set, Option, Some, None}
 use Rattle.seat_book.specs.declared.seated.Seated.{Seated}
 use Rattle.seat_book.specs.Seatings.{Seating}
 use Rattle.table_engine.specs.declared.start.HandStart.{HandStart}
-use Rattle.table_engine.specs.Plays.{hand_of}
+use Rattle.table_engine.specs.Plays.{recorded_hand}
 use Rattle.table_engine.specs.Results.{with_stacks, players_after}
 use Rattle.table_engine.proofs.Stacks.{players-of_record}
 use Rattle.tournament_rules.specs.Books.{BookState, start_at}
@@ -17,13 +17,13 @@ use Rattle.floor_core.proofs.Begun.{settled_state}
 use Rattle.floor_core.proofs.GoingOut.{may_all}
 use Rattle.floor_core.proofs.book.Book.settle.Goals as goal
 
-pub bust_broke-requires-clause-may : goal.bust_broke-requires-clause-may
-bust_broke-requires-clause-may c =
+pub bust_players-requires-clause-may : goal.bust_players-requires-clause-may
+bust_players-requires-clause-may c =
     let book = book_of c.self.inside in
     let start = c.args.done.now.start in
     let payees = with_stacks c.items.result.now c.items-2.result.now in
-    let is : start_at book.out start.table ≡ Some start =
-    ap (λ (book : BookState). start_at book.out start.table) c.self.view_is ∙ c.requires.out in
+    let is : start_at book.started start.table ≡ Some start =
+    ap (λ (book : BookState). start_at book.started start.table) c.self.view_is ∙ c.requires.started in
     let same : c.rest_table.new.seats.players ≡ put_back payees book.seating.players =
     ap (λ (seats : Seating). seats.players) c.rest_table.ensures
     ∙ ap (λ (seats : Seating). seats.players) c.pay_stacks.ensures.paid in
@@ -33,37 +33,37 @@ bust_broke-requires-clause-may c =
 pub invariant_of-self : goal.invariant_of-self
 invariant_of-self c =
     let book = book_of c.self.inside in
-    let hand = hand_of c.args.done.now in
+    let hand = recorded_hand c.args.done.now in
     let payees : with_stacks c.items.result.now c.items-2.result.now
     ≡ players_after hand =
     rw (c.items.ensures, c.items-2.ensures) (players-of_record c.args.done.now c.requires.play) in
     let none : Option HandStart = None in
-    let out = ap (λ (index : ℕ). slice_set c.self.inside.out.items index none) c.from.ensures in
+    let started = ap (λ (index : ℕ). slice_set c.self.inside.started.items index none) c.from.ensures in
     let group : c.group_after-group.result ≡ next_group book = c.group_after-group.ensures
     ∙ ap (λ (hands : Bool). cond hands book.group (book.group + 1)) c.hands.ensures in
     let state = settled_state book hand (with_stacks c.items.result.now c.items-2.result.now) c.pay_stacks.new.seats
-    c.rest_table.new.seats c.bust_broke.new.seats c.bust_broke.new.busts
-    (slice_set c.self.inside.out.items c.from.result None) c.group_after-group.result payees c.pay_stacks.ensures.paid
+    c.rest_table.new.seats c.bust_players.new.seats c.bust_players.new.busts
+    (slice_set c.self.inside.started.items c.from.result None) c.group_after-group.result payees c.pay_stacks.ensures.paid
     c.rest_table.ensures
-    c.bust_broke.ensures.seats c.bust_broke.ensures.busts out group in
-    let is : start_at book.out hand.start.table ≡ Some hand.start =
-    ap (λ (book : BookState). start_at book.out hand.start.table) c.self.view_is ∙ c.requires.out in
+    c.bust_players.ensures.seats c.bust_players.ensures.busts started group in
+    let is : start_at book.started hand.start.table ≡ Some hand.start =
+    ap (λ (book : BookState). start_at book.started hand.start.table) c.self.view_is ∙ c.requires.started in
     subst IsValid (sym state) (valid_settled book hand c.self.invariant is c.requires.play.play c.requires.play.over)
 
 pub returns : goal.returns
 returns c =
     let book = book_of c.self.inside in
-    let hand = hand_of c.args.done.now in
+    let hand = recorded_hand c.args.done.now in
     let payees : with_stacks c.items.result.now c.items-2.result.now
     ≡ players_after hand =
     rw (c.items.ensures, c.items-2.ensures) (players-of_record c.args.done.now c.requires.play) in
     let none : Option HandStart = None in
-    let out = ap (λ (index : ℕ). slice_set c.self.inside.out.items index none) c.from.ensures in
+    let started = ap (λ (index : ℕ). slice_set c.self.inside.started.items index none) c.from.ensures in
     let group : c.group_after-group.result ≡ next_group book = c.group_after-group.ensures
     ∙ ap (λ (hands : Bool). cond hands book.group (book.group + 1)) c.hands.ensures in
     let state = settled_state book hand (with_stacks c.items.result.now c.items-2.result.now) c.pay_stacks.new.seats
-    c.rest_table.new.seats c.bust_broke.new.seats c.bust_broke.new.busts
-    (slice_set c.self.inside.out.items c.from.result None) c.group_after-group.result payees c.pay_stacks.ensures.paid
+    c.rest_table.new.seats c.bust_players.new.seats c.bust_players.new.busts
+    (slice_set c.self.inside.started.items c.from.result None) c.group_after-group.result payees c.pay_stacks.ensures.paid
     c.rest_table.ensures
-    c.bust_broke.ensures.seats c.bust_broke.ensures.busts out group in
+    c.bust_players.ensures.seats c.bust_players.ensures.busts started group in
     state ∙ ap (λ (book : BookState). settled book hand) c.self.view_is

@@ -13,9 +13,9 @@ pay_players-requires-clause-payees c =
     let book = book_of c.self.inside in
     let count : c.self.inside.seats.table_count ≡ c.args.self.now.seating.table_count =
     ap (λ (book : BookState). book.seating.table_count) c.self.view_is in
-    let within : c.from.result < length c.self.inside.out.items = omega
+    let within : c.from.result < length c.self.inside.started.items = omega
     (arith, count, c.from.ensures, c.requires.last, c.self.invariant.tables.tables, c.self.invariant.tables.room) in
-    let is = taken_out c.self.inside.out.items c.from.result c.args.table c.index_mut.result.now c.take.result
+    let is = taken_out c.self.inside.started.items c.from.result c.args.table c.index_mut.result.now c.take.result
     c.in-Some.start within c.from.ensures c.index_mut.ensures.value c.take.ensures.value c.in-Some.is in
     rw c.items.ensures (payees_of c.in-Some.start (c.self.invariant.hands.starts c.args.table c.in-Some.start
     is).lawful)
@@ -25,16 +25,16 @@ invariant_of-self c =
     let book = book_of c.self.inside in
     let count : c.self.inside.seats.table_count ≡ c.args.self.now.seating.table_count =
     ap (λ (book : BookState). book.seating.table_count) c.self.view_is in
-    let within : c.from.result < length c.self.inside.out.items = omega
+    let within : c.from.result < length c.self.inside.started.items = omega
     (arith, count, c.from.ensures, c.requires.last, c.self.invariant.tables.tables, c.self.invariant.tables.room) in
-    let is = taken_out c.self.inside.out.items c.from.result c.args.table c.index_mut.result.now c.take.result
+    let is = taken_out c.self.inside.started.items c.from.result c.args.table c.index_mut.result.now c.take.result
     c.in-Some.start within c.from.ensures c.index_mut.ensures.value c.take.ensures.value c.in-Some.is in
-    let out : slice_set c.self.inside.out.items c.from.result c.take.new.self
-    ≡ slice_set c.self.inside.out.items c.args.table None = rw (c.from.ensures, c.take.ensures.after) refl in
+    let started : slice_set c.self.inside.started.items c.from.result c.take.new.self
+    ≡ slice_set c.self.inside.started.items c.args.table None = rw (c.from.ensures, c.take.ensures.after) refl in
     let paid : c.pay_players.new.seats ≡ record c.self.inside.seats
     { players = put_back c.in-Some.start.seats c.self.inside.seats.players } =
     rw c.items.ensures at c.pay_players.ensures.paid in
     let state = ended_state book c.args.table c.in-Some.start.seats c.pay_players.new.seats c.rest_table.new.seats
-    (slice_set c.self.inside.out.items c.from.result c.take.new.self) paid c.rest_table.ensures out
+    (slice_set c.self.inside.started.items c.from.result c.take.new.self) paid c.rest_table.ensures started
     ∙ voided_state book c.args.table c.in-Some.start is in
     subst IsValid (sym state) (valid_void_at book c.args.table c.self.invariant)

@@ -22,7 +22,7 @@ pub invariant_of-self-2 : goal.invariant_of-self-2
 invariant_of-self-2 c =
     let none = stopped_hands c.self.inside.book c.self.inside.hands.items c.seats.ensures.lawful c.self.invariant in
     ap (map start_of) c.clear.ensures ∙ (none ∙ sym
-    (ap (λ (book : BookState). book.out) c.in_ok-carry_out.ensures.state))
+    (ap (λ (book : BookState). book.started) c.in_ok-carry_out.ensures.state))
 
 pub returns-clause-answer : goal.returns-clause-answer
 returns-clause-answer c =

@@ -3,7 +3,11 @@ use mathlib.Core.Option.{none}
 use Rattle.atomic_table.specs.Table.{Me, step, Allows}
 use Rattle.history_lock.specs.declared.view.View.{View}
 use Rattle.history_lock.specs.Views.{resting_view, first_share}
+use mathlib.Core.List.{IsPrefix}
+use Rattle.history_lock.specs.Entries.{entries_by, IsGrownByOthers}
+use Rattle.history_lock.specs.Passes.{seen, own}
 use Rattle.history_lock.specs.Rule.{IsKept}
+use Rattle.history_lock.proofs.Holds.{grown_by_others}
 use Rattle.history_lock.specs.Steps.{drew}
 use Rattle.history_lock.proofs.Moves.{draws}
 use Rattle.history_lock.proofs.lock.HistoryLock.enter.Goals as goal
@@ -24,3 +28,22 @@ fetch_add-ticket-requires g c =
           (λ (m : M). Allows (IsKept H C n) slots id m 0 (λ k. (k + 1) % 2 ^ 64) (drew (step slots 0 1 0 none) m))
           (sym is) (draws H C n slots id v [] share refl refl refl),
     )
+
+pub returns-clause-entered : goal.returns-clause-entered
+returns-clause-entered g c =
+    let H = g.V.Grows.history in let C = g.V.Grows.caller_of in let pass = c.args.pass in
+    let k : ℕ = pass.number in let x = c.wait_turn-value.result in
+    let M : Type 0 = Me (Option g.row.V.Denot) (View g.row.V-Entry.Denot) in
+    let begins : IsPrefix (seen pass) (H x) = search rules in
+    let mine : entries_by C k (H x) ≡ own pass = search rules in
+    let found_is : (first_share c.wait_turn-value.new.seat.me.0.shares).seen ≡ H x =
+    ap (λ (m : M). (first_share m.0.shares).seen) c.wait_turn-value.ensures.served in
+    record {
+      lock = search rules;
+      number = search rules;
+      own_before = search rules;
+      one_more = search rules;
+      known_before = search rules;
+      others = subst (IsGrownByOthers C k (seen pass)) (sym found_is)
+          (grown_by_others C k (seen pass) (H x) begins (mine ∙ sym pass.mine));
+    }

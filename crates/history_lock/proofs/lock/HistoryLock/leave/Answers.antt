@@ -2,6 +2,9 @@ use Rattle.std.proofs.Common.{rules, ◌≡◌, ◌+◌, ◌%◌, ◌^◌, ℕ, 
 use mathlib.Core.Option.{none}
 use Rattle.atomic_table.specs.Table.{Me, step, rest, Allows}
 use Rattle.history_lock.specs.declared.view.View.{View}
+use Rattle.history_lock.specs.declared.view.Share.{Share}
+use Rattle.history_lock.specs.Entries.{entries_by}
+use Rattle.history_lock.proofs.Prefixes.{own_left}
 use Rattle.history_lock.specs.Views.{first_share}
 use Rattle.history_lock.specs.Rule.{IsKept}
 use Rattle.history_lock.specs.Steps.{passed_on, share_left}
@@ -29,3 +32,22 @@ fetch_add-requires g c =
           (passes_on H C n slots id v share val refl
           (ap (λ (z : View g.row.V-Entry.Denot). z.served) c.args.inside.turn.let_in) refl),
     )
+
+pub invariant_of-result-clause-mine : goal.invariant_of-result-clause-mine
+invariant_of-result-clause-mine g c =
+    let H = g.V.Grows.history in let C = g.V.Grows.caller_of in
+    let M : Type 0 = Me (Option g.row.V.Denot) (View g.row.V-Entry.Denot) in
+    let before : M = c.args.inside.turn.seat.me in
+    let S : Type 0 = Share g.row.V-Entry.Denot in
+    let k : ℕ = c.args.inside.turn.number in
+    let told : g.row.V.Denot
+    → M = λ x. (record before.0 { shares = share_left (first_share before.0.shares) (H x) ∷ [] }, (0, None) ∷ []) in
+    let left : c.publish.new.seat.me ≡ told c.args.inside.value = c.publish.ensures.left ∙ ap told c.of-left.ensures in
+    let share : first_share c.fetch_add.new.seat.me.0.shares
+    ≡ share_left (first_share before.0.shares) (H c.args.inside.value) =
+    ap (λ (m : M). first_share m.0.shares) c.fetch_add.ensures.2
+    ∙ (ap (λ (m : M). first_share m.0.shares) c.exchange-taken.ensures.3
+    ∙ ap (λ (m : M). first_share m.0.shares) left) in
+    subst (λ (z : S). entries_by C k z.seen ≡ z.own) (sym share)
+    (own_left C k (first_share before.0.shares).seen (first_share before.0.shares).own (H c.args.inside.value)
+    c.args.inside.turn.mine c.requires.grown)

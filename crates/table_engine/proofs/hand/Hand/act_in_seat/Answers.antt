@@ -12,7 +12,7 @@ use Rattle.table_engine.specs.Acts.{refusal_in_seat, refusal_of_act}
 use Rattle.table_engine.specs.Hands.{seat_of_name, street_of, streets_of, with_act}
 use Rattle.table_engine.specs.Results.{puts_in_hand}
 use Rattle.table_engine.specs.Tellings.{told}
-use Rattle.table_engine.proofs.Plays.{lawful_play-more}
+use Rattle.table_engine.proofs.Plays.{lawful_play-more, timed-more}
 use Rattle.table_engine.proofs.Puts.{act-tells, puts-more}
 use Rattle.table_engine.proofs.Refusals.{refused-in_seat}
 use Rattle.table_engine.proofs.Standings.{streets-more}
@@ -61,7 +61,7 @@ invariant_of-self-2 c =
     let at = c.self.invariant.at in
     let acted = c.take.ensures.at streets at in
     let dealt = c.deal_on.ensures.at (with_act streets entry) acted in
-    let found : seat_of_name c.self.inside.start c.args.name ≡ Some c.args.seat = rw (← c.self.view_is) at c.requires in
+    let found : seat_of_name c.self.inside.start c.args.name ≡ Some c.args.seat = rw (← c.self.view_is) at c.requires.seat in
     let act : ActOf = record { name = c.args.name; act = c.args.act; by_time = c.args.by_time } in
     let more = streets-more c.self.inside.start c.self.inside.acts act c.args.seat found in
     let free : refusal_in_seat hand c.args.act c.args.seat ≡ None = rw (← at.round) c.in_ok-done.ensures.ok in
@@ -89,7 +89,11 @@ invariant_of-self-2 c =
       room = c.self.invariant.room;
       lawful = c.self.invariant.lawful;
       played = rw c.in_ok-push.ensures.ok (lawful_play-more hand act c.self.invariant.played refused);
+      timed = rw c.in_ok-push.ensures.ok (timed-more hand act c.self.invariant.timed (rw (← c.self.view_is) at c.requires.timed));
     }
 
 pub returns-clause-played : goal.returns-clause-played
 returns-clause-played c = (invariant_of-self-2 c).played
+
+pub returns-clause-timed : goal.returns-clause-timed
+returns-clause-timed c = (invariant_of-self-2 c).timed

@@ -19,8 +19,12 @@ pub act_in_seat-requires : goal.act_in_seat-requires
 act_in_seat-requires c =
     let named : name_in_seat c.args.self.now.start c.in-Some.seat ≡ Some c.in-Some-name_in_seat.name =
     rw (← c.self.view_is) (sym c.in-Some-name_in_seat.ensures) in
-    seat-of_named c.args.self.now.start c.in-Some.seat c.in-Some-name_in_seat.name
-    (rw (← c.self.view_is) c.self.invariant.lawful.names) named
+    let due : due_in_hand c.args.self.now ≡ Some c.in-Some.seat = sym c.in-Some.ensures in
+    record {
+      seat = seat-of_named c.args.self.now.start c.in-Some.seat c.in-Some-name_in_seat.name
+          (rw (← c.self.view_is) c.self.invariant.lawful.names) named;
+      timed = λ by_time. rw c.act_in_time-act.ensures (sym (time_act-is c.args.self.now c.in-Some.seat c.in-Some-name_in_seat.name due named));
+    }
 
 pub returns-clause-answer : goal.returns-clause-answer
 returns-clause-answer c =

@@ -1,0 +1,18 @@
+use Rattle.std.proofs.Common.{[]}
+use Rattle.table_engine.proofs.NoCards.{awards-deck, due-deck, refusal-deck, put-deck, done-deck, time-deck, lawful-deck, start-deck}
+use Rattle.table_engine.proofs.laws.cards_do_not_bet.Goals as goal
+
+pub returns-clause-due : goal.returns-clause-due
+returns-clause-due c = due-deck
+
+pub returns-clause-refusal : goal.returns-clause-refusal
+returns-clause-refusal c = refusal-deck
+
+pub returns-clause-done : goal.returns-clause-done
+returns-clause-done c = done-deck
+
+pub returns-clause-time : goal.returns-clause-time
+returns-clause-time c = time-deck
+
+pub returns-clause-play : goal.returns-clause-play
+returns-clause-play c = λ start deck acts. lawful-deck start deck [] acts
