@@ -498,7 +498,7 @@ module _ (book : BookState) (table : ℕ) (cards : List Card) (valid : IsValid b
             other
             (λ marks is. let one = valid.marked other marks is in let same = counts other in omega (arith, one, same));
         counted = let counted = valid.counted in omega (arith, counted);
-        announced = let announced = valid.announced in omega (arith, announced);
+        raised = let raised = valid.raised in omega (arith, raised);
       }
 
 -- A book is valid once a race that is not refused is made.
