@@ -18,3 +18,5 @@ pub mod Acting
 pub mod Exchanged
 pub mod InStates
 pub mod Orders
+pub mod Stopped
+pub mod Counting

@@ -1,6 +1,6 @@
 //! Laws of the hands that are played.
 
-ghost use Rattle.std.specs.Prelude.{ℕ, ◌≡◌, ◌≢◌, List, true, Some, map, filter};
+ghost use Rattle.std.specs.Prelude.{ℕ, ◌≡◌, ◌≢◌, List, true, Some, map, filter, is_some, ◌+◌, option_map};
 ghost use Rattle.std.specs.Option.{ForSome};
 ghost use Rattle.card_set.specs.declared.card.CardRow.{CardRow};
 ghost use Rattle.floor_events.specs.declared.event.Event.{Event};
@@ -12,9 +12,12 @@ ghost use Rattle.table_engine.specs.Plays.{IsLawfulPlay};
 ghost use Rattle.tournament_rules.specs.Books.{start_at, starters_of};
 ghost use Rattle.tournament_rules.specs.Players.{is_among, is_in_hand, start_seat};
 ghost use Rattle.tournament_rules.specs.Dealing.{next_start};
-ghost use Rattle.tournament_rules.specs.States.{PlayState, first_state, hand_at, act_table, play_after, answer_to, run};
+ghost use Rattle.tournament_rules.specs.States.{PlayState, first_state, hand_at, act_table, play_after, answer_to, run, state_after};
 ghost use Rattle.tournament_rules.specs.Chips.{play};
 ghost use Rattle.tournament_rules.specs.Valid.{without_stack};
+ghost use Rattle.tournament_rules.specs.Checks.{is_playing};
+ghost use Rattle.tournament_rules.specs.Kinds.{is_begin};
+ghost use Rattle.tournament_laws.specs.Accepted.{how_many_accepted};
 
 /// Says that after any list of events, a hand that begins starts lawfully.
 pub fn starts_are_lawful()
@@ -54,4 +57,22 @@ pub fn acts_stay_at_their_table()
         → (play_after play event).book ≡ play.book }
     ensures others { (play : PlayState) (event : Event) (table other : ℕ) → act_table event ≡ Some table
         → other ≢ table → hand_at (play_after play event) other ≡ hand_at play other }
+{}
+
+/// Says that after any list of events, a table is playing exactly where the start of a hand is out.
+pub fn a_table_plays_while_a_hand_is_out()
+    ensures { (events : List Event) (table : ℕ) → ForSome (run first_state events).play (λ play.
+        is_playing play.book table ≡ is_some (start_at play.book.started table)) }
+{}
+
+/// Says that hands are numbered 1, 2 and so on as they begin: after any list of events as many hands have begun as
+/// begins were accepted, and the next that is accepted has the next number.
+pub fn hands_are_numbered_as_they_begin()
+    ensures begun { (events : List Event) → ForSome (run first_state events).play (λ play.
+        play.book.begun ≡ how_many_accepted is_begin first_state events) }
+    ensures number { (before : List Event) (table : ℕ) (row : CardRow)
+        → answer_to (run first_state before) (Begin table row) ≡ Ok
+        → ForSome (state_after (run first_state before) (Begin table row)).play (λ play.
+        option_map (λ start. start.serial) (start_at play.book.started table)
+        ≡ Some (how_many_accepted is_begin first_state before + 1)) }
 {}

@@ -1,6 +1,6 @@
 //! Laws of levels, units and chip races.
 
-ghost use Rattle.std.specs.Prelude.{ℕ, ◌≡◌, ◌≢◌, List, true, false, None};
+ghost use Rattle.std.specs.Prelude.{ℕ, ◌≡◌, ◌≢◌, List, true, false, None, ◌≤◌, length};
 ghost use Rattle.std.specs.Option.{ForSome};
 ghost use Rattle.level_plan.specs.Plans.{unit_of_level};
 ghost use Rattle.card_set.specs.declared.card.CardRow.{CardRow};
@@ -15,6 +15,7 @@ ghost use Rattle.tournament_rules.specs.Chips.{play};
 ghost use Rattle.tournament_rules.specs.Kinds.{is_level};
 ghost use Rattle.tournament_laws.specs.Accepted.{is_any_accepted};
 ghost use Rattle.tournament_rules.specs.Units.{IsRaceTo};
+ghost use Rattle.level_plan.specs.Items.{is_between};
 
 /// Says that after any list of events, a table where no race is pending has the unit of the current level. A race that
 /// is pending goes to that unit, from a smaller one after which it may come next.
@@ -56,4 +57,14 @@ pub fn a_table_races_once_between_levels()
         → answer_to (run first_state before) (Race table row) ≡ Ok
         → is_any_accepted is_level (state_after (run first_state before) (Race table row)) between ≡ false
         → answer_to (run (state_after (run first_state before) (Race table row)) between) (Race table other) ≢ Ok }
+{}
+
+/// Says that the level never falls, that it is one of the plan, and that the plan stays as it is.
+pub fn levels_follow_the_plan()
+    ensures never_falls { (before after : List Event) → ForSome (run first_state before).play (λ earlier.
+        ForSome (run (run first_state before) after).play (λ later. earlier.book.level ≤ later.book.level)) }
+    ensures listed { (events : List Event) → ForSome (run first_state events).play (λ play.
+        is_between 1 (length play.book.plan.blinds) play.book.level ≡ true) }
+    ensures same_plan { (before after : List Event) → ForSome (run first_state before).play (λ earlier.
+        ForSome (run (run first_state before) after).play (λ later. later.book.plan ≡ earlier.book.plan)) }
 {}

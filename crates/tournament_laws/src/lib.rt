@@ -16,19 +16,21 @@ pub use chips::{
     the_last_player_has_all_chips,
 };
 pub use hands::{
-    acts_stay_at_their_table, hands_are_lawful_plays, hands_have_their_players,
-    nobody_is_dealt_in_at_two_tables, starts_are_lawful,
+    a_table_plays_while_a_hand_is_out, acts_stay_at_their_table, hands_are_lawful_plays,
+    hands_are_numbered_as_they_begin, hands_have_their_players, nobody_is_dealt_in_at_two_tables,
+    starts_are_lawful,
 };
 pub use levels::{
     a_level_changes_no_hand, a_race_changes_no_other_table, a_table_races_once_between_levels,
-    units_follow_the_level,
+    levels_follow_the_plan, units_follow_the_level,
 };
 pub use players::{
-    a_group_is_of_one_round, each_entry_is_in_or_bust, groups_never_fall, players_are_in_order,
-    who_is_bust_stays_bust,
+    a_group_is_of_one_round, each_entry_is_in_or_bust, groups_never_fall,
+    no_two_entered_under_one_name, players_are_in_order, who_is_bust_stays_bust,
 };
 pub use runs::{
-    a_book_and_its_hands_answer_alike, neighbors_may_change_places, one_order_has_one_end,
+    a_book_and_its_hands_answer_alike, neighbors_may_change_places, nothing_follows_a_stop,
+    one_order_has_one_end,
 };
 pub use tables::{
     a_broken_table_is_left, a_table_begins_once_in_a_round, a_table_that_is_not_open_is_bare,

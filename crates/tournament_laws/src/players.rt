@@ -3,7 +3,7 @@
 ghost use Rattle.std.specs.Prelude.{ℕ, ◌≡◌, ◌≢◌, ◌+◌, ◌<◌, nat_le, List, true, false, Some, length, take, drop, count_by, slice_get};
 ghost use Rattle.std.specs.List.{All};
 ghost use Rattle.std.specs.Option.{ForSome};
-ghost use Rattle.rulebook.specs.Pairs.{is_pairwise};
+ghost use Rattle.rulebook.specs.Pairs.{is_pairwise, are_distinct};
 ghost use Rattle.card_set.specs.declared.card.Card.{Card};
 ghost use Rattle.betting_round.specs.declared.act.Act.{Act};
 ghost use Rattle.floor_events.specs.declared.event.Event.{Event};
@@ -18,6 +18,7 @@ ghost use Rattle.tournament_rules.specs.Chips.{play};
 ghost use Rattle.tournament_rules.specs.Kinds.{ends_round};
 ghost use Rattle.tournament_laws.specs.Accepted.{is_any_accepted};
 ghost use Rattle.tournament_rules.specs.Valid.{is_bust_of};
+ghost use Rattle.std.specs.Str.{bytes_eq};
 
 /// Says that after any list of events, lawful or not, the players are listed by table, at one table in rising seat, and
 /// no two of them sit in one seat.
@@ -26,11 +27,14 @@ pub fn players_are_in_order()
 {}
 
 /// Says that after any list of events, each entered player has exactly one seat or exactly one row of those who are
-/// out, and never both. Who has a seat sits there under the name with which they entered.
+/// out, and never both; nobody else has any, so those who are in and those who are out are as many as entered. Who has a
+/// seat sits there under the name with which they entered.
 pub fn each_entry_is_in_or_bust()
     ensures one { (events : List Event) → ForSome (run first_state events).play (λ play. (number : ℕ)
         → number < length play.book.entries → count_by (is_numbered number) play.book.seating.players
         + count_by (is_bust_of number) play.book.busts ≡ 1) }
+    ensures all { (events : List Event) → ForSome (run first_state events).play (λ play.
+        length play.book.seating.players + length play.book.busts ≡ length play.book.entries) }
     ensures named { (events : List Event) → ForSome (run first_state events).play (λ play.
         All (λ player. slice_get play.book.entries player.player ≡ Some player.name) play.book.seating.players) }
 {}
@@ -83,4 +87,10 @@ pub fn a_group_is_of_one_round()
         ForSome (run (state_after (run first_state before) (Settle table)) after).play (λ later.
         All (λ one. All (λ other. one.group < other.group) (drop (length earlier.book.busts) later.book.busts))
         earlier.book.busts))) }
+{}
+
+/// Says that after any list of events, the names of those who entered differ.
+pub fn no_two_entered_under_one_name()
+    ensures { (events : List Event) → ForSome (run first_state events).play (λ play.
+        are_distinct bytes_eq play.book.entries ≡ true) }
 {}

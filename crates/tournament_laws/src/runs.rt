@@ -1,12 +1,12 @@
 //! Laws of whole lists of events: other forms and orders of them come to the same.
 
-ghost use Rattle.std.specs.Prelude.{ℕ, ◌≡◌, List, [], ◌∷◌, true, false, Some, None};
+ghost use Rattle.std.specs.Prelude.{ℕ, ◌≡◌, List, [], ◌∷◌, true, false, Some, None, ◌≢◌};
 ghost use Rattle.level_plan.specs.Plans.{PlanTerms, is_right};
 ghost use Rattle.level_plan.specs.Drafts.{plan_of};
 ghost use Rattle.floor_events.specs.declared.event.Event.{Event};
-ghost use Rattle.floor_events.specs.declared.event.Event.TheVariants.{Go};
+ghost use Rattle.floor_events.specs.declared.event.Event.TheVariants.{Go, Stop};
 ghost use Rattle.floor_events.specs.declared.answer.Answer.TheVariants.{Ok};
-ghost use Rattle.tournament_rules.specs.States.{first_state, first_play, act_table, answer_to, answers, answers_in_play, state_after, run};
+ghost use Rattle.tournament_rules.specs.States.{first_state, first_play, act_table, answer_to, answers, answers_in_play, state_after, run, State};
 ghost use Rattle.tournament_rules.specs.Chips.{play};
 ghost use Rattle.tournament_rules.specs.Report.{report_of};
 ghost use Rattle.tournament_rules.specs.Apart.{first_apart, answers_apart};
@@ -47,4 +47,12 @@ pub fn one_order_has_one_end()
     ensures report { (one other : List Event) → HaveOneOrder one other
         → are_accepted first_state one ≡ true
         → report_of (run first_state one) ≡ report_of (run first_state other) }
+{}
+
+/// Says that after an accepted `stop` no event is accepted, and none changes the state.
+pub fn nothing_follows_a_stop()
+    ensures refused { (state : State) (after : List Event) (event : Event) → answer_to state Stop ≡ Ok
+        → answer_to (run (state_after state Stop) after) event ≢ Ok }
+    ensures unchanged { (state : State) (after : List Event) → answer_to state Stop ≡ Ok
+        → run (state_after state Stop) after ≡ state_after state Stop }
 {}
