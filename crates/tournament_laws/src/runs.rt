@@ -6,22 +6,33 @@ ghost use Rattle.level_plan.specs.Drafts.{plan_of};
 ghost use Rattle.floor_events.specs.declared.event.Event.{Event};
 ghost use Rattle.floor_events.specs.declared.event.Event.TheVariants.{Go, Stop};
 ghost use Rattle.floor_events.specs.declared.answer.Answer.TheVariants.{Ok};
-ghost use Rattle.tournament_rules.specs.States.{first_state, first_play, act_table, answer_to, answers, answers_in_play, state_after, run, State};
+ghost use Rattle.tournament_rules.specs.States.{first_state, first_play, act_table, answer_to, answers, answers_in_play, run_in_play, state_after, run, State};
 ghost use Rattle.tournament_rules.specs.Chips.{play};
-ghost use Rattle.tournament_rules.specs.Report.{report_of};
-ghost use Rattle.tournament_rules.specs.Apart.{first_apart, answers_apart};
+ghost use Rattle.tournament_rules.specs.Report.{book_report, report_of};
+ghost use Rattle.tournament_rules.specs.Apart.{first_apart, answers_apart, run_apart, seen_of};
 ghost use Rattle.tournament_laws.specs.Orders.{is_of_hands, HaveOneOrder};
 ghost use Rattle.tournament_laws.specs.Accepted.{are_accepted};
 
 /// Says that a book and the hands that are out, each by itself, run over any list of events, answer as the tournament
-/// does: as one that begins with the plan, and as any whose plan an accepted `go` has just made whole.
+/// does, come to the state that it comes to, and report what it reports: as one that begins with the plan, and as any
+/// whose plan an accepted `go` has just made whole.
 pub fn a_book_and_its_hands_answer_alike()
     ensures plan { (plan : PlanTerms) (events : List Event) → is_right plan ≡ true
         → answers_apart (first_apart plan) events ≡ answers_in_play (first_play plan) events }
+    ensures plan_state { (plan : PlanTerms) (events : List Event) → is_right plan ≡ true
+        → seen_of (run_apart (first_apart plan) events) ≡ run_in_play (first_play plan) events }
     ensures tournament { (before events : List Event) → (run first_state before).play ≡ None
         → answer_to (run first_state before) Go ≡ Ok
         → answers_apart (first_apart (plan_of (run first_state before).draft)) events
         ≡ answers (state_after (run first_state before) Go) events }
+    ensures state { (before events : List Event) → (run first_state before).play ≡ None
+        → answer_to (run first_state before) Go ≡ Ok
+        → (run (state_after (run first_state before) Go) events).play
+        ≡ Some (seen_of (run_apart (first_apart (plan_of (run first_state before).draft)) events)) }
+    ensures report { (before events : List Event) → (run first_state before).play ≡ None
+        → answer_to (run first_state before) Go ≡ Ok
+        → report_of (run (state_after (run first_state before) Go) events)
+        ≡ book_report (run_apart (first_apart (plan_of (run first_state before).draft)) events).book }
 {}
 
 /// Says that an act or a called time and a neighbor that is not of the hands at its table may change places, whichever
