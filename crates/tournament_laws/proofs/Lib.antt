@@ -20,3 +20,4 @@ pub mod InStates
 pub mod Orders
 pub mod Stopped
 pub mod Counting
+pub mod RaceChips

@@ -1,6 +1,6 @@
 //! Laws of the chips: they are kept, and who has them.
 
-ghost use Rattle.std.specs.Prelude.{◌≡◌, ◌≢◌, ◌+◌, ◌<◌, ◌%◌, List, [], ◌∷◌, true, false, map};
+ghost use Rattle.std.specs.Prelude.{◌≡◌, ◌≢◌, ◌+◌, ◌<◌, ◌%◌, List, [], ◌∷◌, true, false, map, ℕ};
 ghost use Rattle.std.specs.List.{All};
 ghost use Rattle.std.specs.Option.{ForSome};
 ghost use Rattle.floor_events.specs.declared.event.Event.{Event};
@@ -9,8 +9,11 @@ ghost use Rattle.seat_book.specs.Tables.{status_at};
 ghost use Rattle.tournament_rules.specs.Players.{is_in_hand};
 ghost use Rattle.tournament_rules.specs.Checks.{is_over_for_all};
 ghost use Rattle.tournament_rules.specs.States.{State, first_state, answer_to, state_after, run};
-ghost use Rattle.tournament_rules.specs.Chips.{sold, removed, added, rest, play, sold_by};
+ghost use Rattle.tournament_rules.specs.Chips.{sold, removed, added, rest, play, sold_by, rest_in, rest_at};
 ghost use Rattle.tournament_rules.specs.Kinds.{is_entry, is_race};
+ghost use Rattle.floor_events.specs.declared.event.Event.TheVariants.{Race};
+ghost use Rattle.card_set.specs.declared.card.CardRow.{CardRow};
+ghost use Rattle.tournament_rules.specs.Racing.{race_at};
 
 /// Says that after any list of events, lawful or not, the chips at rest, those in play and those that races took away
 /// are those sold and those that races gave.
@@ -48,4 +51,27 @@ pub fn the_last_player_has_all_chips()
     ensures { (events : List Event) → ForSome (run first_state events).play (λ play.
         is_over_for_all play.book ≡ true → map (λ player. player.stack + play.book.removed) play.book.seating.players
         ≡ (sold_by play.book + play.book.added) ∷ []) }
+{}
+
+/// Says that after any list of events, a race that is accepted changes the chips at rest, at its table and in all, by
+/// just what it takes away and gives, and that this is recorded.
+pub fn a_race_changes_the_chips_by_what_it_records()
+    ensures table { (before : List Event) (table : ℕ) (row : CardRow) → ForSome (run first_state before).play (λ earlier.
+        answer_to (run first_state before) (Race table row) ≡ Ok
+        → ForSome (state_after (run first_state before) (Race table row)).play (λ later.
+        rest_at later.book table + (race_at earlier.book.seating table row.cards).removed
+        ≡ rest_at earlier.book table + (race_at earlier.book.seating table row.cards).added)) }
+    ensures all { (before : List Event) (table : ℕ) (row : CardRow) → ForSome (run first_state before).play (λ earlier.
+        answer_to (run first_state before) (Race table row) ≡ Ok
+        → ForSome (state_after (run first_state before) (Race table row)).play (λ later.
+        rest_in later.book + (race_at earlier.book.seating table row.cards).removed
+        ≡ rest_in earlier.book + (race_at earlier.book.seating table row.cards).added)) }
+    ensures removed { (before : List Event) (table : ℕ) (row : CardRow)
+        → ForSome (run first_state before).play (λ earlier. answer_to (run first_state before) (Race table row) ≡ Ok
+        → ForSome (state_after (run first_state before) (Race table row)).play (λ later.
+        later.book.removed ≡ earlier.book.removed + (race_at earlier.book.seating table row.cards).removed)) }
+    ensures added { (before : List Event) (table : ℕ) (row : CardRow)
+        → ForSome (run first_state before).play (λ earlier. answer_to (run first_state before) (Race table row) ≡ Ok
+        → ForSome (state_after (run first_state before) (Race table row)).play (λ later.
+        later.book.added ≡ earlier.book.added + (race_at earlier.book.seating table row.cards).added)) }
 {}
