@@ -49,3 +49,15 @@ IsOfWriting faults.Read = ⊥
 IsOfWriting faults.Write = Unit {0}
 IsOfWriting faults.NoMemory = Unit {0}
 IsOfWriting faults.InputTooLong = ⊥
+
+-- the faults of reading: the source failed, or it has too many bytes
+abbrev pub IsOfReading : Fault → Type 0
+IsOfReading faults.Usage = ⊥
+IsOfReading faults.Read = Unit {0}
+IsOfReading faults.Write = ⊥
+IsOfReading faults.NoMemory = ⊥
+IsOfReading faults.InputTooLong = Unit {0}
+
+-- A sink holds back nothing of what a run put: nothing at all, or the run left it as it was.
+abbrev pub LetsGo : {S : Type 0} → (S → List ℕ) → S → S → Type 0
+LetsGo held before now = (held now ≡ []) ⊎ (now ≡ before)

@@ -1,14 +1,19 @@
 -- What a run in its midst will have written. This project's own.
-use Rattle.std.specs.Prelude.{◌≡◌, ℕ, ◌+◌, ◌<◌, List, ◌++◌, length, Option, Some, option_and_then, IfSome, IsSomeAnd}
+use Rattle.std.specs.Prelude.{◌≡◌, ℕ, ◌+◌, ◌<◌, List, ◌++◌, length, map, Option, Some, option_and_then, IfSome, IsSomeAnd}
 use Rattle.std.specs.Option.{option_map}
+use Rattle.floor_text.specs.Lines.{lines_of_bytes}
 use Rattle.tournament_rules.specs.States.{State}
-use Rattle.floor_offline.specs.Replay.{items_of_bytes, text_from}
+use Rattle.floor_offline.specs.Replay.{item_of_cut, text_from}
 
--- the whole text of a run: what is written, and then what the bytes that are held and left will be answered
-unfoldable pub whole_text : State → List ℕ → Option (List ℕ) → Option (List ℕ) → Option (List ℕ)
-whole_text state held left written =
+-- the whole text of a run: what is written, and then what the lines that are handed out and the bytes that are held and
+-- left will be answered
+unfoldable pub whole_text : State → List (Option (List ℕ)) → List ℕ → Option (List ℕ) → Option (List ℕ)
+    → Option (List ℕ)
+whole_text state handed held left written =
     option_and_then
-    (λ bytes. option_map (λ text. text ++ text_from state (items_of_bytes (held ++ bytes))) written)
+    (λ bytes. option_map
+    (λ text. text ++ text_from state (map item_of_cut (handed ++ lines_of_bytes (held ++ bytes))))
+    written)
     left
 
 -- what was told is told still, and is the same

@@ -1,6 +1,8 @@
 -- What a stream of bytes is answered. This project's own.
 use Rattle.std.specs.Prelude.{ℕ, List, [], ◌∷◌, ◌++◌, map, Option, Some, None, option_and_then}
 use Rattle.std.specs.List.{flat_map}
+use Rattle.floor_text.specs.declared.line_reader.Next.{Next}
+use Rattle.floor_text.specs.declared.line_reader.Next.TheVariants.{Line, TooLong, End}
 use Rattle.floor_text.specs.declared.refusal.Refusal.TheVariants.{Syntax}
 use Rattle.floor_text.specs.Lines.{lines_of_bytes}
 use Rattle.floor_events.specs.declared.answer.Answer.{Answer}
@@ -16,7 +18,13 @@ use Rattle.tournament_rules.specs.Report.{report_of}
 
 -- the item of a line, where the line is not too long and in the grammar
 abbrev pub item_of_cut : Option (List ℕ) → Option Item
-item_of_cut line = option_and_then item_of_bytes line
+item_of_cut cut = option_and_then item_of_bytes cut
+
+-- the item of what a reader handed out: of a line, and none of one that is too long or of the end
+abbrev pub item_of_next : Next → List ℕ → Option Item
+item_of_next Line bytes = item_of_bytes bytes
+item_of_next TooLong bytes = None
+item_of_next End bytes = None
 
 -- an item is answered by the step; a line that holds none is refused as no line of the grammar
 abbrev pub answer_to_item : State → Option Item → Answer

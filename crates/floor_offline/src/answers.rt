@@ -1,6 +1,6 @@
 //! Answers are put, each by one put.
 
-ghost use Rattle.std.specs.Prelude.{◌≡◌, ◌≤◌, ◌++◌, Some, None, IfSome, OnOk, OnErr, IfErr, IsErrOf};
+ghost use Rattle.std.specs.Prelude.{◌≡◌, ◌≤◌, ◌++◌, [], false, Some, None, IfSome, OnOk, OnErr, IfErr, IsErrOf};
 ghost use Rattle.floor_text.specs.Outside.{Rose};
 ghost use Rattle.floor_events.specs.Spelling.{answer_text};
 ghost use Rattle.floor_offline.specs.Endings.{IsOfWriting};
@@ -65,28 +65,39 @@ impl AnswerText {
     }
 }
 
-/// Puts a text, by one put.
-pub fn put_text<O: Sink>(text: &[u8], out: &mut O) -> Result<(), Fault>
+/// Puts a text, by one put. Where it may wait, `out` may hold it back.
+pub fn put_text<O: Sink>(text: &[u8], may_wait: bool, out: &mut O) -> Result<(), Fault>
     ensures ok { OnOk result (IfSome (O.written out.old) (λ before. O.written out.new ≡ Some (before ++ text.now))) }
+    ensures let_go { may_wait ≡ false → OnOk result (O.held out.new ≡ []) }
     ensures later { O.faults out.old ≤ O.faults out.new }
     ensures write { OnErr result (Rose (O.faults out.old) (O.faults out.new)) }
     ensures others { IfErr result IsOfWriting }
 {
-    out.put(text)?;
+    if may_wait {
+        out.put_later(text)?;
+    } else {
+        out.put(text)?;
+    }
     Ok(())
 }
 
 /// Puts an answer, by one put. The text of an accepted line is there, and that of the last refusal is kept.
-pub fn put_answer<O: Sink>(kept: &mut AnswerText, answer: &Answer, out: &mut O) -> Result<(), Fault>
+pub fn put_answer<O: Sink>(
+    kept: &mut AnswerText,
+    answer: &Answer,
+    may_wait: bool,
+    out: &mut O,
+) -> Result<(), Fault>
     ensures ok { OnOk result (IfSome (O.written out.old)
         (λ before. O.written out.new ≡ Some (before ++ answer_text answer.now))) }
+    ensures let_go { may_wait ≡ false → OnOk result (O.held out.new ≡ []) }
     ensures later { O.faults out.old ≤ O.faults out.new }
     ensures write { IsErrOf result Fault.Write → Rose (O.faults out.old) (O.faults out.new) }
     ensures others { IfErr result IsOfWriting }
 {
     if let Answer::Ok = answer {
-        return put_text(b"ok\n", out);
+        return put_text(b"ok\n", may_wait, out);
     }
     kept.keep(answer)?;
-    put_text(kept.text(), out)
+    put_text(kept.text(), may_wait, out)
 }

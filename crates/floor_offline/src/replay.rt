@@ -5,8 +5,8 @@ ghost use Rattle.floor_text.specs.Outside.{Rose};
 ghost use Rattle.floor_text.specs.LineReader.{Reads, lines_of_next};
 ghost use Rattle.floor_text.specs.Reading.{bytes_ahead};
 ghost use Rattle.floor_events.specs.Grammar.{item_of_bytes};
-ghost use Rattle.floor_offline.specs.Endings.{IsOfWriting};
-ghost use Rattle.floor_offline.specs.Replay.{answer_to_item, state_after_item, final_text, replay_text};
+ghost use Rattle.floor_offline.specs.Endings.{IsOfWriting, IsOfReading, LetsGo};
+ghost use Rattle.floor_offline.specs.Replay.{item_of_next, answer_to_item, state_after_item, final_text, replay_text};
 ghost use Rattle.floor_offline.specs.Promise.{whole_text, Keeps, Counts, GivesMore};
 
 use crate::answers::{AnswerText, put_answer, put_text};
@@ -37,36 +37,50 @@ fn answer_line(
     }
 }
 
-/// Puts the report, by one put.
+/// Answers what was handed out: a line, or one that is too long, which is none of the grammar.
+fn answer_handed(
+    alloc: Global,
+    tournament: &mut Tournament,
+    handed: Next,
+    line: &[u8],
+) -> Result<Answer, AllocError>
+    requires { tournament.old.accepted < 2 ^ 60 }
+    ensures answer { IfOk result (λ answer. answer ≡ answer_to_item tournament.old (item_of_next handed line.now)) }
+    ensures state { OnOk result (tournament.new ≡ state_after_item tournament.old (item_of_next handed line.now)) }
+    ensures counted { OnOk result (tournament.new.accepted ≤ tournament.old.accepted + 1) }
+{
+    match handed {
+        Next::Line => answer_line(alloc, tournament, line),
+        Next::TooLong | Next::End => Ok(Answer::No(Refusal::Syntax)),
+    }
+}
+
+/// Puts the report, by one put. Nothing is held back behind it.
 #[tactic(auto, unfolding(crate::specs::Replay::final_text))]
 fn put_report<O: Sink>(alloc: Global, tournament: &Tournament, out: &mut O) -> Result<(), Fault>
     ensures ok { OnOk result (IfSome (O.written out.old)
         (λ before. O.written out.new ≡ Some (before ++ final_text tournament.now))) }
+    ensures let_go { OnOk result (O.held out.new ≡ []) }
     ensures later { O.faults out.old ≤ O.faults out.new }
     ensures write { IsErrOf result Fault.Write → Rose (O.faults out.old) (O.faults out.new) }
     ensures others { IfErr result IsOfWriting }
 {
     let mut text = Vec::new(alloc);
     write_report(&tournament.report()?, &mut text)?;
-    put_text(&text, out)
+    put_text(&text, false, out)
 }
 
-/// Hands out the next line. Before the input is asked for more, `out` lets go of the answers that it holds back:
-/// whoever sends lines has the answer to each before the program waits.
-fn next_line<I: Source, O: Sink>(
-    reader: &mut LineReader,
-    input: &mut I,
-    out: &mut O,
-) -> Result<Next, Fault>
+/// Hands out the next line of the input.
+fn next_line<I: Source>(reader: &mut LineReader, input: &mut I) -> Result<Next, Fault>
     ensures reads { IfOk result (λ next. IfSome (I.left input.old)
         (λ bytes. Reads reader.old reader.new bytes (I.left input.new) (lines_of_next (Ok next) reader.new.line))) }
-    ensures kept { OnOk result (Keeps (O.written out.old) (O.written out.new)) }
-    ensures shorter { IfOk result (λ next. next ≢ Next.End → bytes_ahead reader.new < bytes_ahead reader.old) }
+    ensures ahead { IfOk result (λ next.
+        bytes_ahead reader.new + length (lines_of_next (Ok next) reader.new.line) ≤ bytes_ahead reader.old) }
 
     // At the end nothing is held or left, and no more was taken than the limit allows.
     ensures end { result ≡ Ok Next.End → reader.new.held ≡ [] }
     ensures source_end { result ≡ Ok Next.End → IfSome (I.left input.old) (λ _. I.left input.new ≡ Some []) }
-    ensures within { IfOk result (λ _. reader.new.limit < reader.new.taken → 0 < length reader.new.held) }
+    ensures within { result ≡ Ok Next.End → reader.new.taken ≤ reader.new.limit }
 
     // The bytes taken are counted, whatever comes.
     ensures counts { (first : Option (List ℕ)) → Counts first (I.left input.old) reader.old.taken
@@ -74,48 +88,52 @@ fn next_line<I: Source, O: Sink>(
     ensures limit { reader.new.limit ≡ reader.old.limit }
     ensures too_long { IsErrOf result Fault.InputTooLong → reader.new.limit < reader.new.taken }
 
-    // The other faults have their causes.
+    // The other fault has its cause.
     ensures input_later { I.faults input.old ≤ I.faults input.new }
-    ensures out_later { O.faults out.old ≤ O.faults out.new }
     ensures read { IsErrOf result Fault.Read → Rose (I.faults input.old) (I.faults input.new) }
-    ensures write { IsErrOf result Fault.Write → Rose (O.faults out.old) (O.faults out.new) }
-    ensures others { IsErrOf result Fault.Usage → ⊥ }
+    ensures others { IfErr result IsOfReading }
 {
-    if let Some(next) = reader.next_held() {
-        return Ok(next);
-    }
-    out.flush()?;
     Ok(reader.next_line(input)?)
 }
 
-/// Answers the next line, and tells whether there was one.
+/// Answers a line that was handed out, and hands out the next one. `out` may hold the answer back only where the next
+/// line is at hand: whoever sends lines has the answer to each before the program waits.
 fn answer_next<I: Source, O: Sink>(
     alloc: Global,
     reader: &mut LineReader,
     tournament: &mut Tournament,
     kept: &mut AnswerText,
+    line: Next,
     input: &mut I,
     out: &mut O,
-) -> Result<bool, Fault>
-    requires { tournament.old.accepted < 2 ^ 60 }
+) -> Result<Next, Fault>
+    requires few { tournament.old.accepted < 2 ^ 60 }
+    requires some { line ≢ Next.End }
 
     // What is written and what is to come make the same text.
-    ensures keeps { OnOk result (Keeps
-        (whole_text tournament.old reader.old.held (I.left input.old) (O.written out.old))
-        (whole_text tournament.new reader.new.held (I.left input.new) (O.written out.new))) }
-    ensures shorter { result ≡ Ok true → bytes_ahead reader.new < bytes_ahead reader.old }
+    ensures keeps { IfOk result (λ next. Keeps
+        (whole_text tournament.old (lines_of_next (Ok line) reader.old.line) reader.old.held (I.left input.old)
+        (O.written out.old))
+        (whole_text tournament.new (lines_of_next (Ok next) reader.new.line) reader.new.held (I.left input.new)
+        (O.written out.new))) }
+    ensures ahead { IfOk result (λ next.
+        bytes_ahead reader.new + length (lines_of_next (Ok next) reader.new.line) ≤ bytes_ahead reader.old) }
     ensures counted { OnOk result (tournament.new.accepted ≤ tournament.old.accepted + 1) }
 
     // At the end nothing is held or left, and no more was taken than the limit allows.
-    ensures end { result ≡ Ok false → reader.new.held ≡ [] }
-    ensures source_end { result ≡ Ok false → IfSome (I.left input.old) (λ _. I.left input.new ≡ Some []) }
-    ensures within { result ≡ Ok false → reader.new.taken ≤ reader.new.limit }
+    ensures end { result ≡ Ok Next.End → reader.new.held ≡ [] }
+    ensures source_end { result ≡ Ok Next.End → IfSome (I.left input.old) (λ _. I.left input.new ≡ Some []) }
+    ensures within { result ≡ Ok Next.End → reader.new.taken ≤ reader.new.limit }
 
     // The bytes taken are counted, whatever comes.
     ensures counts { (first : Option (List ℕ)) → Counts first (I.left input.old) reader.old.taken
         → Counts first (I.left input.new) reader.new.taken }
     ensures limit { reader.new.limit ≡ reader.old.limit }
     ensures too_long { IsErrOf result Fault.InputTooLong → reader.new.limit < reader.new.taken }
+
+    // Where the input was asked for more, nothing is held back.
+    ensures asks { (input.new ≡ input.old) ⊎ (O.held out.new ≡ []) }
+    ensures let_go { IfErr result (λ fault. IsOfReading fault → O.held out.new ≡ []) }
 
     // The other faults have their causes.
     ensures input_later { I.faults input.old ≤ I.faults input.new }
@@ -124,13 +142,13 @@ fn answer_next<I: Source, O: Sink>(
     ensures write { IsErrOf result Fault.Write → Rose (O.faults out.old) (O.faults out.new) }
     ensures words { IsErrOf result Fault.Usage → ⊥ }
 {
-    let answer = match next_line(reader, input, out)? {
-        Next::End => return Ok(false),
-        Next::TooLong => Answer::No(Refusal::Syntax),
-        Next::Line => answer_line(alloc, tournament, reader.line())?,
-    };
-    put_answer(kept, &answer, out)?;
-    Ok(true)
+    let answer = answer_handed(alloc, tournament, line, reader.line())?;
+    let at_hand = reader.next_held();
+    put_answer(kept, &answer, at_hand.is_some(), out)?;
+    match at_hand {
+        Some(next) => Ok(next),
+        None => next_line(reader, input),
+    }
 }
 
 /// Makes a reader of an input, which takes no more than the limit.
@@ -146,6 +164,11 @@ pub fn replay<I: Source, O: Sink>(alloc: Global, input: &mut I, out: &mut O) -> 
     ensures text { OnOk result (IfSome (I.left input.old)
         (λ bytes. IfSome (O.written out.old) (λ before. O.written out.new ≡ Some (before ++ replay_text bytes)))) }
     ensures within { OnOk result (IfSome (I.left input.old) (λ bytes. length bytes ≤ INPUT_LIMIT)) }
+
+    // Nothing is held back but where out failed or memory ran out.
+    ensures let_go { OnOk result (O.held out.new ≡ []) }
+    ensures read_let_go { IfErr result (λ fault. IsOfReading fault → LetsGo O.held out.old out.new) }
+
     ensures too_long { IsErrOf result Fault.InputTooLong → GivesMore INPUT_LIMIT (I.left input.old) (I.left input.new) }
     ensures read { IsErrOf result Fault.Read → Rose (I.faults input.old) (I.faults input.new) }
     ensures out_later { O.faults out.old ≤ O.faults out.new }
@@ -155,18 +178,32 @@ pub fn replay<I: Source, O: Sink>(alloc: Global, input: &mut I, out: &mut O) -> 
     let mut reader = input_reader(alloc)?;
     let mut tournament = Tournament::new(alloc)?;
     let mut kept = AnswerText::new(alloc);
-    'lines: while answer_next(alloc, &mut reader, &mut tournament, &mut kept, input, out)? {}
+    let mut line = next_line(&mut reader, input)?;
+    'lines: while line != Next::End {
+        line = answer_next(
+            alloc,
+            &mut reader,
+            &mut tournament,
+            &mut kept,
+            line,
+            input,
+            out,
+        )?;
+    }
     put_report(alloc, &tournament, out)
 }
 
-/// Has `out` let go of all that was put, whatever came of the run. A failure of that is a failure of `out`.
+/// Has `out` let go of the answers before it, where memory ran out in the midst. A failure of that is a failure of
+/// `out`.
 pub fn close<O: Sink>(ran: Result<(), Fault>, out: &mut O) -> Result<(), Fault>
     ensures kept { Keeps (O.written out.old) (O.written out.new) }
-    ensures let_go { OnOk result (O.held out.new ≡ []) }
+    ensures let_go { result ≡ Err Fault.NoMemory → O.held out.new ≡ [] }
+    ensures same { ran ≢ Err Fault.NoMemory → out.new ≡ out.old }
     ensures later { O.faults out.old ≤ O.faults out.new }
     ensures ran { (result ≡ ran) ⊎ ((result ≡ Err Fault.Write) × Rose (O.faults out.old) (O.faults out.new)) }
 {
-    let flushed = out.flush();
-    flushed?;
+    if ran == Err(Fault::NoMemory) {
+        out.put(b"")?;
+    }
     ran
 }

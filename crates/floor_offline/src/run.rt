@@ -3,7 +3,7 @@
 ghost use Rattle.std.specs.Prelude.{◌⊎◌, ◌≡◌, ◌≢◌, ◌↔◌, ◌≤◌, ◌∷◌, [], ◌++◌, ℕ, length, map, codes, string_bytes, Some, IfSome, IsTrue, Contains};
 ghost use Rattle.floor_text.specs.Outside.{Rose};
 ghost use Rattle.floor_offline.specs.declared.replay.TheConstants.{INPUT_LIMIT};
-ghost use Rattle.floor_offline.specs.Endings.{status_line, PutsLine};
+ghost use Rattle.floor_offline.specs.Endings.{status_line, PutsLine, LetsGo};
 ghost use Rattle.floor_offline.specs.Replay.{replay_text};
 ghost use Rattle.floor_offline.specs.Promise.{GivesMore};
 
@@ -24,7 +24,9 @@ fn is_replay(words: &[String]) -> bool
 
 /// Runs a command over a source and two sinks, and answers the exit status.
 ///
-/// `replay` answers each line of the input by a line on `out`, and at the end of the input puts the report there.
+/// `replay` answers each line of the input by a line on `out`, and at the end of the input puts the report there, each by
+/// one put. Answers may be held back by `out` while further lines are at hand. Where memory runs out in the midst, `out`
+/// lets go of them by a put of no bytes.
 ///
 /// | status | comes | err |
 /// |---|---|---|
@@ -45,12 +47,17 @@ pub fn run_offline<I: Source, O: Sink, E: Sink>(
 ) -> u8
     ensures statuses { Contains (0 ∷ 2 ∷ 3 ∷ 4 ∷ 5 ∷ 8 ∷ []) result }
 
-    // Status 0: the input was read to its end, and what was put is its replay, of which out holds nothing back.
+    // Status 0: the input was read to its end, and what was put is its replay.
     ensures read_to_end { result ≡ 0 → IfSome (I.left input.old) (λ _. I.left input.new ≡ Some []) }
     ensures replayed { result ≡ 0 → IfSome (I.left input.old)
         (λ bytes. IfSome (O.written out.old) (λ before. O.written out.new ≡ Some (before ++ replay_text bytes))) }
-    ensures let_go { result ≡ 0 → O.held out.new ≡ [] }
     ensures within_limit { result ≡ 0 → IfSome (I.left input.old) (λ bytes. length bytes ≤ INPUT_LIMIT) }
+
+    // At every status but that of a write fault, out holds nothing back of what was put; and at none err does, unless it
+    // failed.
+    ensures let_go { result ≢ 4 → LetsGo O.held out.old out.new }
+    ensures all_let_go { result ≡ 0 → O.held out.new ≡ [] }
+    ensures err_let_go { LetsGo E.held err.old err.new ⊎ Rose (E.faults err.old) (E.faults err.new) }
 
     // Status 2: exactly where the words are no written command, and then nothing is touched but err.
     ensures usage { (result ≡ 2) ↔ (map string_bytes words.now.items ≢ codes "replay" ∷ []) }

@@ -1,7 +1,7 @@
-use Rattle.std.proofs.Common.{◌≡◌, ◌∙◌, ap, sym, inl, inr}
+use Rattle.std.proofs.Common.{◌≡◌, ◌∙◌, refl, ap, sym, inl, inr}
 use Rattle.std.specs.Prelude.{Err, IsTrue}
 use Rattle.floor_text.specs.Outside.{Rose}
-use Rattle.floor_offline.proofs.Running.{status_of_fault, memory_alone, closed_by, rose_by, rose_since}
+use Rattle.floor_offline.proofs.Running.{status_of_fault, memory_alone, closed_by, rose_by, rose_since, lets_go}
 use Rattle.floor_offline.proofs.run.run_offline.Goals as goal
 use Rattle.floor_offline.proofs.run.run_offline.Goals.{then-is_replay, else-is_replay}
 
@@ -33,4 +33,15 @@ returns-in-Err-clause-complete g c = λ words no_read no_write. elim c.if-is_rep
   | else-is_replay w ↦
       let replay : IsTrue c.is_replay.result = c.is_replay.ensures.1 (rw c.deref.ensures.value words) in
       absurd (cc (replay, w.if-is_replay.false))
+]
+
+pub returns-in-Err-clause-let_go : goal.returns-in-Err-clause-let_go
+returns-in-Err-clause-let_go g c = λ no_write. elim c.if-is_replay.branch [
+  | then-is_replay w ↦
+      rw w.out-is
+      (lets_go g.O.Sink.held c.args.out.now w.replay.new.out w.close-ran.new.out w.replay.result w.close-ran.result
+      c.in-Err.fault (Rose (g.O.Sink.faults w.replay.new.out) (g.O.Sink.faults w.close-ran.new.out))
+      (sym w.ran-is ∙ c.in-Err.is) w.close-ran.ensures.ran w.replay.ensures.words w.replay.ensures.read_let_go
+      w.close-ran.ensures.let_go w.close-ran.ensures.same (λ four. no_write (c.status.ensures ∙ four)))
+  | else-is_replay w ↦ rw w.out-is (inr refl)
 ]
