@@ -94,9 +94,9 @@ lawful-checked seating from to move_ lawful =
     let own = lawful.lawful in
     let at : (other : ℕ) → is_among other open_tables ≡ true → (is_open players other ≡ true) × IsTableOf tables other
     = λ other among.
-        let parts = among-passes (is_open players) other (table_numbers tables) among in
-        let bounds = among-bounds tables 0 other parts.1 in
-        (parts.0, record { first = omega (arith, bounds.0); last = omega (arith, bounds.1) }) in
+    let parts = among-passes (is_open players) other (table_numbers tables) among in
+    let bounds = among-bounds tables 0 other parts.1 in
+    (parts.0, record { first = omega (arith, bounds.0); last = omega (arith, bounds.1) }) in
     let there = among-filter (is_open players) to (table_numbers tables) own.opened (among-tables tables to own.number) in
     none_hold (count_at players from) (count_at players to) (greatest_count tables players) (least_count tables players)
     (max-most (count_at players) (count_at players from) 0 open_tables (omega arith)

@@ -16,5 +16,6 @@ pub use balance::{Move, balance_order};
 pub use empty_seats::{empty_seat_after, worst_seat};
 pub use halting::halted;
 pub use laws::{
-    a_balance_is_never_turned_round, a_balance_narrows_the_gap, a_checked_balance_is_lawful, a_lawful_balance_is_checked,
+    a_balance_is_never_turned_round, a_balance_narrows_the_gap, a_checked_balance_is_lawful,
+    a_lawful_balance_is_checked,
 };

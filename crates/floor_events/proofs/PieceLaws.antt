@@ -10,7 +10,7 @@ use Rattle.std.proofs.lemmas.Option.{same_Some}
 use Rattle.floor_text.specs.Names.{is_name}
 use Rattle.floor_text.specs.Numbers.{IsLineNumber, number_of}
 use Rattle.card_set.proofs.Steps.{bind_found}
-use Rattle.level_plan.specs.declared.bounds.TheConstants.{MOST_TABLES, MOST_SEATS, MOST_SHARES}
+use Rattle.level_plan.specs.Limits.{most_tables, most_seats, most_shares}
 use Rattle.seat_book.specs.declared.place.Place.{Place}
 use Rattle.seat_book.specs.Places.{IsPlaceOf, is_place_of}
 use Rattle.floor_events.specs.Words.{pieces_of}
@@ -67,8 +67,8 @@ module _ {A : Type 0} {read : List ℕ → Option A} {write : A → List ℕ} {F
 pub shares_rest : IsRest shares_of (map decimal) AreLineShares
 unfolding shares_of
 shares_rest = record {
-  found = few_found number_field MOST_SHARES;
-  again = few_again number_field MOST_SHARES;
+  found = few_found number_field most_shares;
+  again = few_again number_field most_shares;
   words = λ shares fits. each_word number_field shares fits.2;
 }
 
@@ -95,13 +95,13 @@ record IsMember {A : Type 0} (read : List ℕ → Option A) (write : A → List 
 name_member : IsMember name_of (λ name. name) (λ name. IsTrue (is_name name))
 name_member = record { field = name_field; commaless = name_lacks 44 (omega arith) }
 
-table_number : (n : ℕ) → n ≤ MOST_TABLES → IsLineNumber n
+table_number : (n : ℕ) → n ≤ most_tables → IsLineNumber n
 table_number n few = omega (arith, few)
 
-seat_number : (n : ℕ) → n ≤ MOST_SEATS → IsLineNumber n
+seat_number : (n : ℕ) → n ≤ most_seats → IsLineNumber n
 seat_number n few = omega (arith, few)
 
-place_lacks : (byte : ℕ) → byte < 46 → (place : Place) → IsPlaceOf MOST_TABLES MOST_SEATS place
+place_lacks : (byte : ℕ) → byte < 46 → (place : Place) → IsPlaceOf most_tables most_seats place
     → lacks byte (place_text place) ≡ true
 place_lacks byte low place fits =
     joined_lacks byte 46 low (decimal place.table) (decimal place.seat ∷ []) (rw (
@@ -109,7 +109,7 @@ place_lacks byte low place fits =
       decimal_lacks byte (omega (arith, low)) place.seat (seat_number place.seat fits.last),
     ) refl)
 
-place_word : (place : Place) → IsPlaceOf MOST_TABLES MOST_SEATS place → is_word (place_text place) ≡ true
+place_word : (place : Place) → IsPlaceOf most_tables most_seats place → is_word (place_text place) ≡ true
 place_word place fits =
     joined_word 46 (omega arith) (decimal place.table ∷ decimal place.seat ∷ []) (rw (
       number_word place.table (table_number place.table fits.table.last),
@@ -117,12 +117,12 @@ place_word place fits =
     ) refl)
 
 -- the test of a place, and what it tells
-fits_there : (place : Place) → is_place_of MOST_TABLES MOST_SEATS place ≡ true → IsPlaceOf MOST_TABLES MOST_SEATS place
+fits_there : (place : Place) → is_place_of most_tables most_seats place ≡ true → IsPlaceOf most_tables most_seats place
 fits_there place h =
-    let both = and_parts (leb 1 place.table && leb place.table MOST_TABLES)
-    (leb 1 place.seat && leb place.seat MOST_SEATS) h in
-    let table = and_parts (leb 1 place.table) (leb place.table MOST_TABLES) both.0 in
-    let seat = and_parts (leb 1 place.seat) (leb place.seat MOST_SEATS) both.1 in
+    let both = and_parts (leb 1 place.table && leb place.table most_tables)
+    (leb 1 place.seat && leb place.seat most_seats) h in
+    let table = and_parts (leb 1 place.table) (leb place.table most_tables) both.0 in
+    let seat = and_parts (leb 1 place.seat) (leb place.seat most_seats) both.1 in
     record {
       table = record { first = grind (arith, nat_tests, table.0); last = grind (arith, nat_tests, table.1) };
       first = grind (arith, nat_tests, seat.0);
@@ -130,26 +130,26 @@ fits_there place h =
     }
 
 place_found : (word : List ℕ) (place : Place) → place_of word ≡ Some place → (word ≡ place_text place)
-    × IsPlaceOf MOST_TABLES MOST_SEATS place
+    × IsPlaceOf most_tables most_seats place
 unfolding place_of
 place_found word place h =
     let first = bind_found (next_by number_of (pieces_of 46 word)) (λ t. last_by number_of t.1 >>= λ seat. place_at t.0
     seat) place h in
     let second = bind_found (last_by number_of first.0.1) (λ seat. place_at first.0.0 seat) place first.2 in
     let here : Place = record { table = first.0.0; seat = second.0 } in
-    let test = test_found (is_place_of MOST_TABLES MOST_SEATS here) (Some here) place second.2 in
+    let test = test_found (is_place_of most_tables most_seats here) (Some here) place second.2 in
     let table = next_found number_of decimal IsLineNumber number_field (pieces_of 46 word) first.0 first.1 in
     let seat = (last number_field).found first.0.1 second.0 second.1 in
     let pieces : pieces_of 46 word ≡ decimal first.0.0 ∷ decimal second.0 ∷ [] = table.spelling
     ∙ ap (λ (ws : List (List ℕ)). decimal first.0.0 ∷ ws) seat.0 in
     let text : word ≡ place_text here = sym (join_with_byte-slice_split 46 word) ∙ ap (join_with_byte 46) pieces in
-    subst (λ (p : Place). (word ≡ place_text p) × IsPlaceOf MOST_TABLES MOST_SEATS p) (same_Some here place test.1)
+    subst (λ (p : Place). (word ≡ place_text p) × IsPlaceOf most_tables most_seats p) (same_Some here place test.1)
     (text, fits_there here test.0)
 
-place_test : (place : Place) → IsPlaceOf MOST_TABLES MOST_SEATS place → is_place_of MOST_TABLES MOST_SEATS place ≡ true
+place_test : (place : Place) → IsPlaceOf most_tables most_seats place → is_place_of most_tables most_seats place ≡ true
 place_test place fits = grind (arith, nat_tests, fits.table.first, fits.table.last, fits.first, fits.last)
 
-place_again : (place : Place) → IsPlaceOf MOST_TABLES MOST_SEATS place → place_of (place_text place) ≡ Some place
+place_again : (place : Place) → IsPlaceOf most_tables most_seats place → place_of (place_text place) ≡ Some place
 unfolding place_of
 place_again place fits =
     let table = table_number place.table fits.table.last in
@@ -164,7 +164,7 @@ place_again place fits =
       place_test place fits,
     ) refl
 
-place_member : IsMember place_of place_text (IsPlaceOf MOST_TABLES MOST_SEATS)
+place_member : IsMember place_of place_text (IsPlaceOf most_tables most_seats)
 place_member = record {
   field = record { found = place_found; again = place_again; word = place_word };
   commaless = place_lacks 44 (omega arith);
@@ -173,31 +173,31 @@ place_member = record {
 module _ {A : Type 0} {read : List ℕ → Option A} {write : A → List ℕ} {Fits : A → Type 0}
     (member : IsMember read write Fits) where
   members_found : (word : List ℕ) (items : List A) → members_of read word ≡ Some items → (word ≡ list_text write items)
-      × AreFew MOST_SEATS Fits items
+      × AreFew most_seats Fits items
   unfolding members_of
   members_found word items h =
-      let found = few_found member.field MOST_SEATS (pieces_of 44 word) items h in
+      let found = few_found member.field most_seats (pieces_of 44 word) items h in
       (sym (join_with_byte-slice_split 44 word) ∙ ap (join_with_byte 44) found.0, found.1)
 
   each_commaless : (items : List A) → AllByRecursion Fits items → list_all (lacks 44) (map write items) ≡ true
   each_commaless [] fits = refl
   each_commaless (item ∷ items) fits = rw (member.commaless item fits.0, each_commaless items fits.1) refl
 
-  cut_again : (items : List A) → AreFew MOST_SEATS Fits items → pieces_of 44 (list_text write items) ≡ map write items
+  cut_again : (items : List A) → AreFew most_seats Fits items → pieces_of 44 (list_text write items) ≡ map write items
   cut_again [] fits = absurd (omega (arith, fits.0))
   cut_again (item ∷ items) fits =
       pieces_again 44 (write item) (map write items) (each_commaless (item ∷ items) fits.2)
 
-  members_again : (items : List A) → AreFew MOST_SEATS Fits items → members_of read (list_text write items)
+  members_again : (items : List A) → AreFew most_seats Fits items → members_of read (list_text write items)
       ≡ Some items
   unfolding members_of
   members_again items fits =
-      ap (few_of MOST_SEATS read) (cut_again items fits) ∙ few_again member.field MOST_SEATS items fits
+      ap (few_of most_seats read) (cut_again items fits) ∙ few_again member.field most_seats items fits
 
-  members_word : (items : List A) → AreFew MOST_SEATS Fits items → is_word (list_text write items) ≡ true
+  members_word : (items : List A) → AreFew most_seats Fits items → is_word (list_text write items) ≡ true
   members_word items fits = joined_word 44 (omega arith) (map write items) (each_word member.field items fits.2)
 
-  members_field : IsField (members_of read) (list_text write) (AreFew MOST_SEATS Fits)
+  members_field : IsField (members_of read) (list_text write) (AreFew most_seats Fits)
   members_field = record { found = members_found; again = members_again; word = members_word }
 
 -- the places of a list

@@ -6,7 +6,7 @@ use Rattle.floor_text.specs.Names.{is_name}
 use Rattle.floor_text.specs.Numbers.{number_of}
 use Rattle.card_set.specs.declared.game.Game.{Game}
 use Rattle.card_set.specs.declared.game.Game.TheVariants.{Holdem, Omaha, Hilo}
-use Rattle.level_plan.specs.declared.bounds.TheConstants.{MOST_TABLES, MOST_SEATS, MOST_SHARES}
+use Rattle.level_plan.specs.Limits.{most_tables, most_seats, most_shares}
 use Rattle.betting_round.specs.declared.act.Act.{Act}
 use Rattle.betting_round.specs.declared.act.Act.TheVariants.{Fold, Check, Call, AllIn, Bet, Raise}
 use Rattle.seat_book.specs.declared.place.Place.{Place}
@@ -85,13 +85,13 @@ few_of most read words = do
 
 -- the shares that the words left are: 1 to 64 numbers
 unfoldable pub shares_of : List (List ℕ) → Option (List ℕ)
-shares_of words = few_of MOST_SHARES number_of words
+shares_of words = few_of most_shares number_of words
 
 -- the place of these numbers, where there is one
 abbrev pub place_at : ℕ → ℕ → Option Place
 place_at table seat =
     let place : Place = record { table = table; seat = seat } in
-    if is_place_of MOST_TABLES MOST_SEATS place then Some place else None
+    if is_place_of most_tables most_seats place then Some place else None
 
 -- the place that a word is: the number of a table and that of a seat, with a point between them
 unfoldable pub place_of : List ℕ → Option Place
@@ -102,4 +102,4 @@ place_of word = do
 
 -- the members of the list that a word is, with a comma between each two: 1 to 10
 unfoldable pub members_of : {A : Type 0} → (List ℕ → Option A) → List ℕ → Option (List A)
-members_of read word = few_of MOST_SEATS read (pieces_of 44 word)
+members_of read word = few_of most_seats read (pieces_of 44 word)

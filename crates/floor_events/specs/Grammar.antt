@@ -2,7 +2,7 @@
 use Rattle.std.specs.Prelude.{ℕ, nat_le, List, [], ◌∷◌, ◌++◌, length, codes, Option, None, option_map, option_and_then, if◌then◌else◌}
 use Rattle.std.specs.Bool.{then_some}
 use Rattle.std.specs.Str.{bytes_eq}
-use Rattle.floor_text.specs.declared.limits.TheConstants.{LONGEST_LINE}
+use Rattle.floor_text.specs.Limits.{longest_line}
 use Rattle.floor_text.specs.Numbers.{number_of}
 use Rattle.card_set.specs.Cards.{row_of}
 use Rattle.level_plan.specs.declared.line.PlanLine.TheVariants as lines
@@ -95,4 +95,4 @@ item_of_words words = option_map found.Event (event_of_words words)
 
 -- the item of a line of at most 400 bytes, or None where the line is not in the grammar
 unfoldable pub item_of_bytes : List ℕ → Option Item
-item_of_bytes line = if nat_le (length line) LONGEST_LINE then item_of_words (words_of_line line) else None
+item_of_bytes line = if nat_le (length line) longest_line then item_of_words (words_of_line line) else None

@@ -79,14 +79,26 @@ pub lawful-deck : (start : HandStart) (deck : List Card) (before acts : List Act
     → are_lawful_after (with_deck start deck) before acts ≡ are_lawful_after start before acts
 lawful-deck start deck before [] = refl
 lawful-deck start deck before (act ∷ acts) =
-    rw (refusal-deck (record { start = start; acts = before }) deck act.name act.act,
-    lawful-deck start deck (before ++ act ∷ []) acts)
+    rw (
+      refusal-deck (record { start = start; acts = before }) deck act.name act.act,
+      lawful-deck start deck (before ++ act ∷ []) acts,
+    )
 
 pub start-deck : (start : HandStart) (deck : List Card) → IsLawfulStart start → IsLawfulStart (with_deck start deck)
 start-deck start deck lawful = record {
-  two = lawful.two; some_seats = lawful.some_seats; most_seats = lawful.most_seats; rising = lawful.rising;
-  within = lawful.within; numbers = lawful.numbers; entries = lawful.entries; names = lawful.names;
-  stacks = lawful.stacks; chips = lawful.chips; marks = lawful.marks; big = lawful.big; small = lawful.small;
+  two = lawful.two;
+  some_seats = lawful.some_seats;
+  most_seats = lawful.most_seats;
+  rising = lawful.rising;
+  within = lawful.within;
+  numbers = lawful.numbers;
+  entries = lawful.entries;
+  names = lawful.names;
+  stacks = lawful.stacks;
+  chips = lawful.chips;
+  marks = lawful.marks;
+  big = lawful.big;
+  small = lawful.small;
   blinds = lawful.blinds;
 }
 
