@@ -1,7 +1,8 @@
-# What the measurements share; source it at the top of the repository. It leaves the built program in `program`,
-# and an empty folder in `work`, which goes away at the end.
+# What the measurements share; source it at the top of the repository. It leaves the program in `program`, proved and
+# built by `./floor` where it was not there or older than its sources, and an empty folder in `work`, which goes away at
+# the end.
 program=$PWD/crates/floor_replay/out/floor_replay
-[ -x "$program" ] || { ./floor replay < /dev/null > /dev/null; }
+./floor replay < /dev/null > /dev/null
 work=$(mktemp -d)
 trap 'rm -rf "$work"' EXIT
 

@@ -1,9 +1,9 @@
 -- The greatest and the least count of the open tables bound the count of each.
-use Rattle.std.proofs.Common.{◌≡◌, ap, ℕ, zero, suc, ◌+◌, ◌<◌, ◌≤◌, true, ◌==◌, List, [], ◌∷◌, max, min, map, inl, inr, arith}
+use Rattle.std.proofs.Common.{◌≡◌, ap, ℕ, zero, suc, ◌+◌, ◌<◌, ◌≤◌, Bool, true, ◌==◌, List, [], ◌∷◌, max, min, map, inl, inr, arith}
 use Rattle.std.specs.Prelude.{filter, fold}
 use Rattle.std.proofs.lemmas.Bool.{cases_eq, eq-eqb, eqb-true, or_left, or_right, or_cases}
 use Rattle.rulebook.specs.Seats.{walk}
-use Rattle.rulebook.proofs.Among.{is_among, among-filter}
+use Rattle.rulebook.proofs.Among.{is_among, among-filter, among-passes}
 use Rattle.seat_book.specs.declared.seated.Seated.{Seated}
 use Rattle.seat_book.specs.Places.{IsTableOf}
 use Rattle.seat_book.specs.Counts.{count_at, is_open, table_numbers, greatest_count, least_count, least_of}
@@ -21,6 +21,28 @@ among-walk (suc steps) from number above within = elim (cases_eq (suc from) numb
 -- The number of a table is among those of all tables.
 pub among-tables : (tables table : ℕ) → IsTableOf tables table → is_among table (table_numbers tables) ≡ true
 among-tables tables table at = among-walk tables 0 table (omega (arith, at.first)) (omega (arith, at.last))
+
+among-bounds : (steps from number : ℕ) → is_among number (walk suc steps from) ≡ true
+    → (from < number) × (number ≤ from + steps)
+among-bounds zero from number among = absurd cc
+among-bounds (suc steps) from number among =
+    elim (or_cases (suc from == number) (is_among number (walk suc steps (suc from))) among) [
+      | inl here ↦ let same : suc from ≡ number = eqb-true (suc from) number here in
+          (omega (arith, same), omega (arith, same))
+      | inr later ↦ let rest = among-bounds steps (suc from) number later in
+          (omega (arith, rest.0), omega (arith, rest.1))
+    ]
+
+-- A number among those of all tables that pass a test passes it, and is that of a table.
+pub tables-among : (test : ℕ → Bool) (tables table : ℕ) → is_among table (filter test (table_numbers tables)) ≡ true
+    → (test table ≡ true) × IsTableOf tables table
+tables-among test tables table among =
+    let parts = among-passes test table (table_numbers tables) among in
+    let bounds = among-bounds tables 0 table parts.1 in
+    (parts.0, table_of (omega (arith, bounds.0)) (omega (arith, bounds.1)))
+  where
+    table_of : 1 ≤ table → table ≤ tables → IsTableOf tables table
+    table_of first last = record { first = first; last = last }
 
 max-start : (start : ℕ) (numbers : List ℕ) → start ≤ fold max start numbers
 max-start start [] = omega arith

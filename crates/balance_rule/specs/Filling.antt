@@ -1,8 +1,9 @@
 -- Which seats are filled when a table breaks. This project's own.
-use Rattle.std.specs.Prelude.{ℕ, zero, suc, ◌+◌, ◌-◌, Bool, not, ◌==◌, ◌&&◌, nat_lt, if◌then◌else◌, List, [], ◌∷◌, ◌++◌, map, filter, fold, count_by, sum, Option, Some, None}
+use Rattle.std.specs.Prelude.{◌≡◌, ◌<◌, ◌≤◌, ℕ, zero, suc, ◌+◌, ◌-◌, Bool, true, false, not, ◌==◌, ◌&&◌, nat_lt, if◌then◌else◌, List, [], ◌∷◌, ◌++◌, map, filter, fold, count_by, sum, Option, Some, None}
 use Rattle.std.specs.List.{list_any}
 use Rattle.seat_book.specs.declared.place.Place.{Place}
 use Rattle.seat_book.specs.declared.seated.Seated.{Seated}
+use Rattle.seat_book.specs.Places.{IsTableOf, IsPlaceOf}
 use Rattle.seat_book.specs.Players.{players_at}
 use Rattle.seat_book.specs.Counts.{count_at, is_open, table_numbers}
 use Rattle.seat_book.specs.Seatings.{Seating}
@@ -69,6 +70,23 @@ abbrev pub next_to_fill : Seating → ℕ → List Place → Option Place
 next_to_fill seating table chosen =
     seat_there seating chosen
     (lowest_table (count_with seating.players chosen) (other_open_tables seating table))
+
+-- The seat that is filled next, by what tells it from all others.
+pub record IsNextSeat (seating : Seating) (table : ℕ) (chosen : List Place) (place : Place) : Type 0 where
+  -- it is one of the tables' places, at another open table
+  pub within : IsPlaceOf seating.table_count seating.seat_count place
+  pub elsewhere : is_other_open seating table place.table ≡ true
+  -- it is empty and not chosen
+  pub free : is_free seating.players chosen place.table place.seat ≡ true
+  -- no other open table has fewer players, counting the seats that are chosen so far
+  pub fewest : (other : ℕ) → IsTableOf seating.table_count other → is_other_open seating table other ≡ true
+      → count_with seating.players chosen place.table ≤ count_with seating.players chosen other
+  -- each of them with a lower number has more
+  pub first : (other : ℕ) → IsTableOf seating.table_count other → is_other_open seating table other ≡ true
+      → other < place.table
+      → count_with seating.players chosen place.table < count_with seating.players chosen other
+  -- and each lower seat of its table is taken or chosen
+  pub lowest : (seat : ℕ) → 1 ≤ seat → seat < place.seat → is_free seating.players chosen place.table seat ≡ false
 
 -- The chosen seats with one more, where there is one.
 abbrev pub with_one : List Place → Option Place → Option (List Place)

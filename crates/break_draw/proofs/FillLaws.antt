@@ -18,9 +18,9 @@ use Rattle.seat_book.specs.Seatings.{Seating}
 use Rattle.seat_book.proofs.Numbers.{list_all-joined}
 use Rattle.balance_rule.specs.EmptySeats.{is_empty_seat}
 use Rattle.balance_rule.specs.Filling.{is_other_open, other_open_tables, is_at, is_same_place, count_with, is_free, next_to_fill, filled}
-use Rattle.balance_rule.proofs.Extremes.{among-tables}
+use Rattle.balance_rule.proofs.Extremes.{among-tables, tables-among}
 use Rattle.break_draw.proofs.Room.{lowest-among, lowest-least, filled-last, count_with-more}
-use Rattle.break_draw.proofs.Chosen.{other-table, next-parts}
+use Rattle.break_draw.proofs.Chosen.{next-parts}
 
 -- Each chosen seat is at another open table.
 pub chosen-elsewhere : (seating : Seating) (table n : ℕ) (chosen : List Place) → filled seating table n ≡ Some chosen
@@ -31,8 +31,8 @@ chosen-elsewhere seating table (suc n) chosen is =
     let last = filled-last seating table n chosen is in
     let before = chosen-elsewhere seating table n last.0 last.1.1.0 in
     let next = next-parts seating table last.0 last.1.0 last.1.1.1 in
-    let at = other-table seating table last.1.0.table (lowest-among (count_with seating.players last.0)
-    (other_open_tables seating table) last.1.0.table next.0) in
+    let at = tables-among (is_other_open seating table) seating.table_count last.1.0.table
+    (lowest-among (count_with seating.players last.0) (other_open_tables seating table) last.1.0.table next.0) in
     ap (list_all (λ (place : Place). is_other_open seating table place.table)) last.1.1.2
     ∙ list_all-joined (λ (place : Place). is_other_open seating table place.table) last.0 (last.1.0 ∷ []) before
     (and_from (is_other_open seating table last.1.0.table) true at.0 refl)

@@ -6,5 +6,7 @@ pub mod Chosen
 pub mod Reorders
 pub mod Names
 pub mod FillLaws
+pub mod NextSeats
+pub mod FillRoom
 pub mod Words
 pub mod Shuffles

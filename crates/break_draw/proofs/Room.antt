@@ -182,8 +182,8 @@ count_with-more players chosen place table =
     let one = count_by-cons (is_at table) place [] in
     omega (arith, parts, one)
 
--- the room that is left
-abbrev room_left : Seating → ℕ → List Place → ℕ
+-- The room that is left: how many seats of other open tables are neither taken nor chosen.
+abbrev pub room_left : Seating → ℕ → List Place → ℕ
 room_left seating table chosen = sum (map (λ other. seating.seat_count - count_with seating.players chosen other)
     (other_open_tables seating table))
 

@@ -2,6 +2,7 @@
 use Rattle.std.proofs.Common.{◌≡◌, ◌⊎◌, ℕ, zero, suc, ◌-◌, ◌≤◌, List, [], ◌∷◌, Bool, true, false, length, refl, ap, inl, inr, arith}
 use Rattle.std.specs.Prelude.{IsTrue, slice_index_or, slice_set}
 use Rattle.std.proofs.lemmas.List.{length-set}
+use Rattle.rulebook.proofs.Tests.{at_most_one, count_by-cons}
 use Rattle.rulebook.proofs.Repeats.{get_or-repeated}
 use Rattle.button_blinds.specs.SeatSets.{no_seats, has_seat, with_seat, without_seat, seat_count, AreSeatsOf}
 
@@ -87,3 +88,31 @@ some-test (false ∷ more) some = let later = some-test more some in (suc later.
 -- A set that is not empty has a seat.
 pub some-seat : (set : List Bool) → 1 ≤ seat_count set → (seat : ℕ) × (1 ≤ seat) × IsTrue (has_seat set seat)
 some-seat set some = let test = some-test set some in (suc test.0, omega arith, test.1)
+
+few_seats : (set : List Bool) (seats : ℕ) → ((seat : ℕ) → has_seat set seat ≡ true → seat ≤ seats)
+    → seat_count set ≤ seats
+few_seats [] seats within = omega arith
+few_seats (true ∷ set) zero within = let one = within 1 refl in absurd (omega (arith, one))
+few_seats (false ∷ set) zero within =
+    let counted = count_by-cons (λ is_in. is_in) false set in
+    let rest = few_seats set 0 (later set within) in
+    omega (arith, counted, rest)
+  where
+    later : (set : List Bool) → ((seat : ℕ) → has_seat (false ∷ set) seat ≡ true → seat ≤ 0) → (seat : ℕ)
+        → has_seat set seat ≡ true → seat ≤ 0
+    later set within zero is = absurd cc
+    later set within (suc below) is = let most = within (suc (suc below)) is in omega (arith, most)
+few_seats (first ∷ set) (suc seats) within =
+    let counted = count_by-cons (λ is_in. is_in) first set in
+    let one = at_most_one first in
+    let rest = few_seats set seats (later set within) in
+    omega (arith, counted, one, rest)
+  where
+    later : (set : List Bool) → ((seat : ℕ) → has_seat (first ∷ set) seat ≡ true → seat ≤ suc seats) → (seat : ℕ)
+        → has_seat set seat ≡ true → seat ≤ seats
+    later set within zero is = absurd cc
+    later set within (suc below) is = let most = within (suc (suc below)) is in omega (arith, most)
+
+-- A set of seats of a table has no more than the table.
+pub seat_count-most : (set : List Bool) (seats : ℕ) → AreSeatsOf seats set → seat_count set ≤ seats
+seat_count-most set seats table = few_seats set seats table.within

@@ -5,8 +5,9 @@ use Rattle.std.specs.List.{list_all}
 use Rattle.std.proofs.lemmas.Bool.Decides.{nat_tests}
 use Rattle.rulebook.specs.Pairs.{are_rising}
 use Rattle.button_blinds.specs.SeatSets.{AreSeatsOf, seat_count}
+use Rattle.button_blinds.proofs.SeatSetLaws.{seat_count-most}
 use Rattle.deal_order.specs.DealOrder.{board_places, count_up, deal_places, dealt_in_order, hole_places, round_places}
-use Rattle.deal_order.proofs.Orders.{count_up-append, dealt-count, dealt-distinct, dealt-most, places-count_up}
+use Rattle.deal_order.proofs.Orders.{count_up-append, dealt-count, dealt-distinct, places-count_up}
 
 -- A round of hole cards takes the next cards, one for each player.
 round-count_up : (dealt : List Bool) (button seats card : ℕ) → AreSeatsOf seats dealt → seats ≤ 10 → button ≤ seats
@@ -88,7 +89,7 @@ pub deal-within : (dealt : List Bool) (button seats holes : ℕ) → AreSeatsOf 
     → holes ≤ 4
     → list_all (λ place. nat_lt place 52) (deal_places dealt button seats holes) ≡ true
 deal-within dealt button seats holes table most at few =
-    let players = dealt-most dealt seats table in
+    let players = seat_count-most dealt seats table in
     let cards = forty holes (seat_count dealt) few (omega arith) in
     ap (list_all (λ place. nat_lt place 52)) (deal-count_up dealt button seats holes table most at)
     ∙ count_up-within 0 (holes * seat_count dealt + 8) 52 (omega arith)

@@ -186,14 +186,3 @@ pub dealt-distinct : (dealt : List Bool) (button seats : ℕ) → seats ≤ 10 �
 dealt-distinct dealt button seats most at = is_pairwise-kept (λ one other. not (one == other)) (has_seat dealt)
     (clockwise_after seats button)
     (clockwise-distinct seats button most at)
-
--- No more are dealt in than the table has seats.
-pub dealt-most : (dealt : List Bool) (seats : ℕ) → AreSeatsOf seats dealt → seat_count dealt ≤ seats
-dealt-most dealt seats table = let counted = table-count dealt seats table in let most =
-    kept-most (has_seat dealt) 1 seats in omega arith
-  where
-    kept-most : (kept : ℕ → Bool) (from steps : ℕ) → length (filter kept (count_up from steps)) ≤ steps
-    kept-most kept from zero = omega arith
-    kept-most kept from (suc steps) =
-        let later = kept-most kept (from + 1) steps in
-        elim (cases_Bool (kept from)) [ inl is ↦ rw is (omega arith) | inr empty ↦ rw empty (omega arith) ]

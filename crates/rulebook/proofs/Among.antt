@@ -36,3 +36,24 @@ among-filter test number (first ∷ numbers) passes among =
     by_test false is later (inl here) =
         let same : test number ≡ false = ap test (sym (eqb-true first number here)) ∙ is in absurd cc
     by_test false is later (inr among) = later among
+
+-- What is among those of a list that pass a test passes it, and is in the list.
+pub among-passes : (test : ℕ → Bool) (number : ℕ) (numbers : List ℕ) → is_among number (filter test numbers) ≡ true
+    → (test number ≡ true) × (is_among number numbers ≡ true)
+among-passes test number [] among = absurd cc
+among-passes test number (first ∷ numbers) among =
+    by_test (test first) refl (among-passes test number numbers) among
+  where
+    by_test : (b : Bool) → test first ≡ b
+        → (is_among number (filter test numbers) ≡ true → (test number ≡ true) × (is_among number numbers ≡ true))
+        → is_among number (cond b (first ∷ filter test numbers) (filter test numbers)) ≡ true
+        → (test number ≡ true) × (is_among number (first ∷ numbers) ≡ true)
+    by_test true passes later among = elim (or_cases (first == number) (is_among number (filter test numbers)) among) [
+      | inl here ↦ (
+        ap test (sym (eqb-true first number here)) ∙ passes,
+        or_left (first == number) (is_among number numbers) here,
+      )
+      | inr rest ↦ let parts = later rest in (parts.0, or_right (first == number) (is_among number numbers) parts.1)
+    ]
+    by_test false fails later among =
+        let parts = later among in (parts.0, or_right (first == number) (is_among number numbers) parts.1)

@@ -9,8 +9,8 @@ use Rattle.std.proofs.lemmas.List.Elements.{filter_map-append}
 use Rattle.std.proofs.lemmas.List.Sums.{sum_by-set, length-filter}
 use Rattle.rulebook.specs.Pairs.{are_rising}
 use Rattle.rulebook.proofs.Tests.{list_all-both, list_all-follows}
-use Rattle.button_blinds.specs.SeatSets.{no_seats, has_seat, with_seat, with_seats, seat_count}
-use Rattle.button_blinds.proofs.SeatSetLaws.{with_seat-size, has_seat-with_seat, no_seats-none}
+use Rattle.button_blinds.specs.SeatSets.{no_seats, has_seat, with_seat, with_seats, seat_count, AreSeatsOf}
+use Rattle.button_blinds.proofs.SeatSetLaws.{with_seat-size, has_seat-with_seat, no_seats-none, AreSeatsOf-no_seats, AreSeatsOf-with_seat}
 use Rattle.seat_book.specs.declared.seated.Seated.{Seated}
 use Rattle.seat_book.specs.Places.{is_place_of, comes_before, IsPlaceOf}
 use Rattle.seat_book.specs.Players.{players_in, sits_at, players_at, taken_seats, places_of, are_in_order}
@@ -19,7 +19,7 @@ use Rattle.seat_book.specs.Seatings.{Seating, sits_within, IsSeating}
 use Rattle.seat_book.proofs.Slots.{IsPlaceOf-test}
 
 -- whether a number is that of one of so many seats
-abbrev is_seat_to : ℕ → ℕ → Bool
+abbrev pub is_seat_to : ℕ → ℕ → Bool
 is_seat_to seats seat = nat_le 1 seat && nat_le seat seats
 
 -- whether a player sits in one of so many seats
@@ -37,10 +37,11 @@ seats_of_places tables seats most players fewer within = list_all-follows (sits_
     one table seat within = grind (arith, nat_tests)
 
 -- a seat that may still be put into a set
-abbrev may_come : List Bool → ℕ → Bool
+abbrev pub may_come : List Bool → ℕ → Bool
 may_come set seat = is_seat_to 10 seat && not (has_seat set seat)
 
-one_more : (set : List Bool) (seat : ℕ) → length set ≡ 10 → may_come set seat ≡ true
+-- A set with one more seat, which was not in it, has one seat more.
+pub one_more : (set : List Bool) (seat : ℕ) → length set ≡ 10 → may_come set seat ≡ true
     → seat_count (with_seat set seat) ≡ seat_count set + 1
 one_more set zero size comes = cc
 one_more set (suc below) size comes =
@@ -144,6 +145,31 @@ seats_come table [] within = refl
 seats_come table (player ∷ players) within =
     let parts = and_parts (sits_in_seats 10 player) (list_all (sits_in_seats 10) players) within in
     come_step table player players (sits_at table player) parts.0 (seats_come table players parts.1)
+
+-- The taken seats of a table are seats of the table.
+pub taken_within : (seats table : ℕ) (players : List Seated) → list_all (sits_in_seats seats) players ≡ true
+    → AreSeatsOf seats (taken_seats players table)
+taken_within seats table players within = by_list players no_seats (AreSeatsOf-no_seats seats) within
+  where
+    in_seats : (seat : ℕ) → is_seat_to seats seat ≡ true → seat ≤ seats
+    in_seats seat between = grind (arith, nat_tests)
+
+    by_test : (player : Seated) (players : List Seated) (set : List Bool) (s : Bool) → AreSeatsOf seats set
+        → sits_in_seats seats player ≡ true
+        → ((set : List Bool) → AreSeatsOf seats set → AreSeatsOf seats (with_seats set (seats_at table players)))
+        → AreSeatsOf seats (with_seats set (map (λ player. player.place.seat)
+        (cond s (player ∷ filter (sits_at table) players) (filter (sits_at table) players))))
+    by_test player players set true before sits others = others (with_seat set player.place.seat)
+        (AreSeatsOf-with_seat set player.place.seat seats before (in_seats player.place.seat sits))
+    by_test player players set false before sits others = others set before
+
+    by_list : (players : List Seated) (set : List Bool) → AreSeatsOf seats set
+        → list_all (sits_in_seats seats) players ≡ true → AreSeatsOf seats (with_seats set (seats_at table players))
+    by_list [] set before within = before
+    by_list (player ∷ players) set before within =
+        let parts = and_parts (sits_in_seats seats player) (list_all (sits_in_seats seats) players) within in
+        by_test player players set (sits_at table player) before parts.0
+        (λ set before. by_list players set before parts.1)
 
 -- As many seats of a table are taken as players sit there.
 pub taken_count : (table : ℕ) (players : List Seated) → are_in_order players ≡ true

@@ -9,18 +9,18 @@ use Rattle.rulebook.proofs.Among.{all-among}
 use Rattle.rulebook.proofs.Found.{some-found}
 use Rattle.rulebook.proofs.Passing.{not-any}
 use Rattle.rulebook.proofs.Sides.{first_fails}
-use Rattle.rulebook.proofs.Tests.{at_most_one, count_by-cons}
 use Rattle.button_blinds.specs.Marks.{AreMarksOf, is_heads_up, leaves_fewer_than_three, waiting_between, marks_after, big_after}
 use Rattle.button_blinds.specs.SeatSets.{has_seat, with_seat, seat_count, AreSeatsOf}
 use Rattle.button_blinds.proofs.Distances.{seat_low}
 use Rattle.button_blinds.proofs.NextMarksLaws.{marks-fit}
+use Rattle.button_blinds.proofs.SeatSetLaws.{seat_count-most}
 use Rattle.seat_book.specs.declared.place.Place.{Place}
 use Rattle.seat_book.specs.Places.{IsTableOf}
 use Rattle.seat_book.specs.Players.{taken_seats}
 use Rattle.seat_book.specs.Counts.{count_at, is_open, table_numbers}
 use Rattle.seat_book.specs.Tables.{status_at}
 use Rattle.seat_book.specs.Seatings.{Seating, IsSeating}
-use Rattle.seat_book.proofs.TakenSeats.{seats_of_places, taken_count-seating}
+use Rattle.seat_book.proofs.TakenSeats.{seats_of_places, taken_count-seating, taken_within}
 use Rattle.seat_book.proofs.TakenPlaces.{seat_count-one_more}
 use Rattle.balance_rule.specs.declared.balance.Move.{Move}
 use Rattle.balance_rule.specs.EmptySeats.{is_empty_seat, worst_of, worst_empty_seat}
@@ -40,7 +40,6 @@ use Rattle.tournament_rules.proofs.Balances.{MayBalance}
 use Rattle.tournament_rules.proofs.Breaks.{MayBreak}
 use Rattle.tournament_rules.proofs.Fitting.{table_range}
 use Rattle.tournament_rules.proofs.Steps.{accepted_none}
-use Rattle.tournament_rules.proofs.TakenSeats.{taken_within}
 
 -- An event that is accepted is not refused.
 pub not_refused : (state : State) (play : PlayState) (event : Event) → state.play ≡ Some play
@@ -83,31 +82,6 @@ big-same (Some old) occupied seats = by_tests (is_heads_up occupied) refl
     by_tests false is true few_is = rw (is, few_is) refl
     by_tests false is false few_is = rw (is, few_is) refl
 
--- A set of seats of a table has no more than the table.
-few_seats : (set : List Bool) (seats : ℕ) → ((seat : ℕ) → has_seat set seat ≡ true → seat ≤ seats)
-    → seat_count set ≤ seats
-few_seats [] seats within = omega arith
-few_seats (true ∷ set) zero within = let one = within 1 refl in absurd (omega (arith, one))
-few_seats (false ∷ set) zero within =
-    let counted = count_by-cons (λ is_in. is_in) false set in
-    let rest = few_seats set 0 (later set within) in
-    omega (arith, counted, rest)
-  where
-    later : (set : List Bool) → ((seat : ℕ) → has_seat (false ∷ set) seat ≡ true → seat ≤ 0) → (seat : ℕ)
-        → has_seat set seat ≡ true → seat ≤ 0
-    later set within zero is = absurd cc
-    later set within (suc below) is = let most = within (suc (suc below)) is in omega (arith, most)
-few_seats (first ∷ set) (suc seats) within =
-    let counted = count_by-cons (λ is_in. is_in) first set in
-    let one = at_most_one first in
-    let rest = few_seats set seats (later set within) in
-    omega (arith, counted, one, rest)
-  where
-    later : (set : List Bool) → ((seat : ℕ) → has_seat (first ∷ set) seat ≡ true → seat ≤ suc seats) → (seat : ℕ)
-        → has_seat set seat ≡ true → seat ≤ seats
-    later set within zero is = absurd cc
-    later set within (suc below) is = let most = within (suc (suc below)) is in omega (arith, most)
-
 module _ (seating : Seating) (lawful : IsSeating seating) where
   seats_of : (table : ℕ) → AreSeatsOf seating.seat_count (taken_seats seating.players table)
   seats_of table = taken_within seating.seat_count table seating.players
@@ -117,7 +91,7 @@ module _ (seating : Seating) (lawful : IsSeating seating) where
   -- A table has no more players than seats.
   pub most_there : (table : ℕ) → count_at seating.players table ≤ seating.seat_count
   most_there table =
-      let few = few_seats (taken_seats seating.players table) seating.seat_count (seats_of table).within in
+      let few = seat_count-most (taken_seats seating.players table) seating.seat_count (seats_of table) in
       let counted = taken_count-seating seating table lawful in
       omega (arith, few, counted)
 

@@ -26,7 +26,7 @@ use Rattle.seat_book.specs.declared.seated.Seated.{Seated}
 use Rattle.seat_book.specs.Counts.{count_at}
 use Rattle.seat_book.specs.Players.{sits_at, taken_seats}
 use Rattle.seat_book.specs.Tables.{status_at, with_status}
-use Rattle.seat_book.proofs.TakenSeats.{sits_in_seats, seats_of_places, taken_count}
+use Rattle.seat_book.proofs.TakenSeats.{sits_in_seats, seats_of_places, taken_count, taken_within}
 use Rattle.balance_rule.specs.Halting.{is_halted}
 use Rattle.hand_rounds.specs.Rounds.{has_begun}
 use Rattle.table_engine.specs.declared.start.HandStart.{HandStart}
@@ -48,7 +48,6 @@ use Rattle.tournament_rules.proofs.Fitting.{table_range, each_status, fitting_ch
 use Rattle.tournament_rules.proofs.KeptUnits.{keeps-set, starts_kept, units_kept}
 use Rattle.tournament_rules.proofs.NextMarks.{marks-within}
 use Rattle.tournament_rules.proofs.DealtIn.{as_dealt, dealt-stacks, rest-dealt_in, lent-dealt_in, lent_elsewhere-dealt_in, whole-dealt_in, playable-dealt}
-use Rattle.tournament_rules.proofs.TakenSeats.{taken_within}
 use Rattle.tournament_rules.proofs.WhoIsDealt.{numbers_distinct, keys_dealt, rising_dealt, most_dealt, dealt_there}
 
 -- A hand may begin at a table: it is one of the plan's, no hand is played there, two or more sit there, it is not

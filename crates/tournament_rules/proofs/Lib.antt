@@ -17,7 +17,6 @@ pub mod KeptUnits
 pub mod Ends
 pub mod NextMarks
 pub mod DealtIn
-pub mod TakenSeats
 pub mod WhoIsDealt
 pub mod Begins
 pub mod Insertions
