@@ -9,12 +9,12 @@ mod best;
 mod board;
 mod category;
 mod five_cards;
-mod held;
 mod high_value;
+mod hole_pair;
 mod laws;
 mod numbers;
 mod rank_set;
-mod shown;
+mod ranked_hand;
 mod suits;
 mod tally;
 #[cfg(test)]
