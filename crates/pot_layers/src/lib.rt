@@ -10,8 +10,8 @@ pub mod laws;
 mod pot_list;
 mod pot_tally;
 mod put;
+mod reach;
 mod shares;
-mod standing;
 #[cfg(test)]
 mod tests;
 
