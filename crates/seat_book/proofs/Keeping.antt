@@ -16,7 +16,7 @@ use Rattle.seat_book.specs.Counts.{count_at}
 use Rattle.seat_book.specs.Tables.{fresh_status, status_at, IsStatusOf}
 use Rattle.seat_book.specs.Seatings.{is_entry, IsSeating}
 use Rattle.seat_book.specs.Kept.{slot_of, StandsIn, AllStand, IsKept}
-use Rattle.seat_book.proofs.Standing.{stand-empty, stand-moved, stand-take, stand-drop, stand-append, stand-ordered}
+use Rattle.seat_book.proofs.AllStand.{stand-empty, stand-moved, stand-take, stand-drop, stand-append, stand-ordered}
 use Rattle.rulebook.proofs.Passing.{none-find}
 use Rattle.seat_book.proofs.Splits.{front_of, back_of, players_in-split, players_in-set, stands-between, sit_down-between, lifted-between, with_stack-there}
 use Rattle.seat_book.proofs.Numbers.{have_not, list_all-parts, list_all-joined, apart-insert, apart-remove, place_of-with, place_of-without, count_at-with}

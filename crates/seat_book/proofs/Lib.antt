@@ -1,5 +1,5 @@
 pub mod PlaceOrder
-pub mod Standing
+pub mod AllStand
 pub mod Splits
 pub mod Numbers
 pub mod Slots
