@@ -59,8 +59,8 @@ impl PlaceList {
         });
     }
 
-    /// Tells whether this player is out.
-    pub fn is_out(&self, player: u32) -> bool
+    /// Tells whether this player is bust: he is on the list.
+    pub fn is_bust(&self, player: u32) -> bool
         ensures { result ≡ list_any (λ bust. bust.player == player) self.now }
     {
         self.busts.iter().any(|bust| bust.player == player)
