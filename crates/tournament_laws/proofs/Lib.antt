@@ -21,3 +21,4 @@ pub mod Orders
 pub mod Stopped
 pub mod Counting
 pub mod RaceChips
+pub mod Stacks

@@ -13,7 +13,8 @@ mod tables;
 
 pub use chips::{
     a_race_changes_the_chips_by_what_it_records, chips_are_kept,
-    entries_and_races_alone_change_the_chips, stacks_are_lawful, the_last_player_has_all_chips,
+    entries_and_races_alone_change_the_chips, stacks_are_lawful,
+    stacks_are_moved_by_their_own_events_alone, the_last_player_has_all_chips,
 };
 pub use hands::{
     a_table_plays_while_a_hand_is_out, acts_stay_at_their_table, hands_are_lawful_plays,
