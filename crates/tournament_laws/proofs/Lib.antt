@@ -22,3 +22,4 @@ pub mod Stopped
 pub mod Counting
 pub mod RaceChips
 pub mod Stacks
+pub mod NoneStuck
