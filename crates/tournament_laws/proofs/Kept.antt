@@ -1,12 +1,12 @@
 -- What events keep of how a table stands, and what is so along a list of events.
 use Rattle.std.proofs.Common.{◌≡◌, ◌∙◌, refl, sym, subst, ℕ, zero, suc, ◌+◌, Bool, true, false, ◌&&◌, List, [], ◌∷◌, get_or}
 use Rattle.std.specs.Prelude.{nat_lt, slice_set, if◌then◌else◌, Option, Some, None}
-use Rattle.std.specs.Option.{option_map_or}
+use Rattle.std.specs.Option.{option_map_or, ForSome}
 use Rattle.std.proofs.lemmas.Bool.{or_parts}
 use Rattle.std.proofs.lemmas.Option.{same_Some}
 use Rattle.rulebook.proofs.Sides.{first_fails}
 use Rattle.button_blinds.specs.declared.marks.Marks.{Marks}
-use Rattle.level_plan.specs.Plans.{unit_of_level}
+use Rattle.level_plan.specs.Plans.{PlanTerms, unit_of_level}
 use Rattle.seat_book.specs.declared.place.Place.{Place}
 use Rattle.seat_book.specs.declared.table_status.TableStatus.{TableStatus}
 use Rattle.seat_book.specs.Counts.{is_open}
@@ -26,11 +26,14 @@ use Rattle.tournament_rules.specs.Kinds.{is_level}
 use Rattle.tournament_laws.specs.Accepted.{is_any_accepted}
 use Rattle.tournament_rules.specs.Moving.{after_all, move_of}
 use Rattle.tournament_rules.specs.Racing.{announced_table, announced, raced_off}
-use Rattle.tournament_rules.specs.States.{State, PlayState, refusal_of, answer_to, answered, is_accepted, play_effect, state_after, run}
+use Rattle.tournament_rules.specs.States.{State, PlayState, first_state, first_play, accepted, refusal_of, answer_to, answered, is_accepted, play_effect, state_after, run}
 use Rattle.tournament_rules.proofs.Ends.{left-void_first}
 use Rattle.tournament_rules.proofs.Levels.{each_raised}
 use Rattle.tournament_rules.proofs.Rounds.{each_begun}
-use Rattle.tournament_rules.proofs.Steps.{accepted_none}
+use Rattle.tournament_rules.proofs.Steps.{accepted_none, valid_first_state, valid_state_after}
+use Rattle.tournament_rules.proofs.Plays.{some_so}
+use Rattle.tournament_rules.specs.Valid.{IsValidPlay, IsValidState}
+use Rattle.level_plan.specs.Drafts.{Draft, plan_of}
 
 -- What a change keeps of each table, it keeps once one table is changed so.
 pub each_set : (P : TableStatus → Type 0) (change : TableStatus → TableStatus)
@@ -243,3 +246,36 @@ run_some state (event ∷ events) play at =
     by_answer true taken rest =
         rest (play_effect play event) (rw (taken, at) refl)
     by_answer false taken rest = rest play (rw taken at)
+
+-- What is so of a tournament before any entry, and stays so at each accepted event, is so after any list of events.
+pub events_keep : (P : PlayState → Type 0) → ((plan : PlanTerms) → P (first_play plan))
+    → ((play : PlayState) (event : Event) → IsValidPlay play → refusal_of play event ≡ None → P play
+    → P (play_effect play event))
+    → (list : List Event) → ForSome (run first_state list).play P
+events_keep P first keeps list =
+    by_list list first_state valid_first_state (λ play is. absurd cc)
+  where
+    by_play : (draft : Draft) (play : Option PlayState) (count : ℕ) (event : Event) → ForSome play IsValidPlay
+        → ForSome play P
+        → is_accepted (answer_to (record { draft = draft; play = play; accepted = count }) event) ≡ true
+        → ForSome (accepted (record { draft = draft; play = play; accepted = count }) event).play P
+    by_play draft None count events.Go valid so taken = some_so P (first_play (plan_of draft)) (first (plan_of draft))
+    by_play draft None count _ valid so taken = λ play is. absurd cc
+    by_play draft (Some play) count event valid so taken =
+        some_so P (play_effect play event)
+        (keeps play event (valid play refl) (accepted_none (refusal_of play event) taken) (so play refl))
+
+    by_state : (state : State) (event : Event) → IsValidState state → ForSome state.play P
+        → ForSome (state_after state event).play P
+    by_state state event valid so = by_answer (is_accepted (answer_to state event)) refl
+      where
+        by_answer : (taken : Bool) → is_accepted (answer_to state event) ≡ taken
+            → ForSome (if taken then accepted state event else state).play P
+        by_answer true taken = by_play state.draft state.play state.accepted event valid.play so taken
+        by_answer false taken = so
+
+    by_list : (list : List Event) (state : State) → IsValidState state → ForSome state.play P
+        → ForSome (run state list).play P
+    by_list [] state valid so = so
+    by_list (event ∷ list) state valid so =
+        by_list list (state_after state event) (valid_state_after state event valid) (by_state state event valid so)
