@@ -1,14 +1,12 @@
 -- A lawful balance passes its checks, so where no two tables pass them no balance is lawful.
-use Rattle.std.proofs.Common.{◌≡◌, ◌∙◌, refl, sym, ap, subst, ℕ, zero, suc, ◌+◌, ◌<◌, ◌≤◌, Bool, true, false, cond, ◌==◌, List, [], ◌∷◌, max, min, map, inl, inr, arith, Option, Some, None}
+use Rattle.std.proofs.Common.{◌≡◌, refl, subst, ℕ, zero, suc, ◌+◌, ◌<◌, ◌≤◌, Bool, true, false, cond, ◌==◌, List, [], ◌∷◌, max, min, map, inl, inr, arith, None}
 use Rattle.std.specs.Prelude.{filter, fold, nat_lt}
-use Rattle.std.proofs.lemmas.Bool.{cases_eq, eqb-true, eq-eqb, or_left, or_right, or_cases}
+use Rattle.std.proofs.lemmas.Bool.{eqb-true, eq-eqb, or_left, or_right, or_cases}
 use Rattle.std.proofs.lemmas.Bool.Decides.{nat_tests}
 use Rattle.rulebook.specs.Seats.{walk}
 use Rattle.rulebook.specs.Checks.{first_that_holds}
 use Rattle.rulebook.proofs.Among.{is_among, among-filter}
-use Rattle.floor_text.specs.declared.refusal.Refusal.{Refusal}
 use Rattle.floor_text.specs.declared.refusal.Refusal.TheVariants.{NotFullest, NotShortest, EvenEnough}
-use Rattle.seat_book.specs.declared.seated.Seated.{Seated}
 use Rattle.seat_book.specs.Places.{IsTableOf}
 use Rattle.seat_book.specs.Counts.{count_at, is_open, table_numbers, greatest_count, least_count, least_of}
 use Rattle.seat_book.specs.Seatings.{Seating}
@@ -94,9 +92,9 @@ lawful-checked seating from to move_ lawful =
     let own = lawful.lawful in
     let at : (other : ℕ) → is_among other open_tables ≡ true → (is_open players other ≡ true) × IsTableOf tables other
     = λ other among.
-        let parts = among-passes (is_open players) other (table_numbers tables) among in
-        let bounds = among-bounds tables 0 other parts.1 in
-        (parts.0, record { first = omega (arith, bounds.0); last = omega (arith, bounds.1) }) in
+    let parts = among-passes (is_open players) other (table_numbers tables) among in
+    let bounds = among-bounds tables 0 other parts.1 in
+    (parts.0, record { first = omega (arith, bounds.0); last = omega (arith, bounds.1) }) in
     let there = among-filter (is_open players) to (table_numbers tables) own.opened (among-tables tables to own.number) in
     none_hold (count_at players from) (count_at players to) (greatest_count tables players) (least_count tables players)
     (max-most (count_at players) (count_at players from) 0 open_tables (omega arith)

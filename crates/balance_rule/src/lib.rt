@@ -9,6 +9,7 @@ mod balance;
 mod empty_seats;
 mod halting;
 mod laws;
+mod names;
 #[cfg(test)]
 mod tests;
 
@@ -16,5 +17,7 @@ pub use balance::{Move, balance_order};
 pub use empty_seats::{empty_seat_after, worst_seat};
 pub use halting::halted;
 pub use laws::{
-    a_balance_is_never_turned_round, a_balance_narrows_the_gap, a_checked_balance_is_lawful, a_lawful_balance_is_checked,
+    a_balance_is_never_turned_round, a_balance_narrows_the_gap, a_checked_balance_is_lawful,
+    a_lawful_balance_is_checked,
 };
+pub use names::names_at;
