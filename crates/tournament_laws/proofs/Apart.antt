@@ -21,9 +21,10 @@ use Rattle.tournament_rules.specs.Dealing.{next_start}
 use Rattle.tournament_rules.specs.Effects.{first_book, book_effect, settled, void_first, stopped_book}
 use Rattle.level_plan.specs.Drafts.{Draft, plan_of, go_fault}
 use Rattle.floor_events.specs.declared.answer.Answer.TheVariants.{Ok}
-use Rattle.tournament_rules.specs.States.{State, first_state, answer_to, answers, accepted, is_accepted, state_after, run, PlayState, first_play, answered, refusal_of, acts_effect, play_effect, play_after, answers_in_play}
+use Rattle.tournament_rules.specs.States.{State, first_state, answer_to, answers, accepted, is_accepted, state_after, run, PlayState, first_play, answered, refusal_of, acts_effect, play_effect, play_after, answers_in_play, run_in_play}
 use Rattle.tournament_rules.specs.Valid.{IsValidPlay}
-use Rattle.tournament_rules.specs.Apart.{Apart, first_apart, hand_in, hand_for, hand_refusal, refusal_apart, hands_effect, after_apart, answers_apart, start_of, acts_of, seen_of}
+use Rattle.tournament_rules.specs.Report.{book_report, empty_report, report_of}
+use Rattle.tournament_rules.specs.Apart.{Apart, first_apart, hand_in, hand_for, hand_refusal, refusal_apart, hands_effect, after_apart, answers_apart, run_apart, start_of, acts_of, seen_of}
 use Rattle.tournament_rules.proofs.Ends.{left-void_first, valid_stopped, none_started-stopped}
 use Rattle.tournament_rules.proofs.Passed.{refusal-parts, passed-parts, act_passed, time_passed, settle_passed, plan_late, go_late}
 use Rattle.tournament_rules.proofs.Drafts.{right_plan}
@@ -197,16 +198,38 @@ answers_alike apart (event ∷ events) ties =
     let first = ap answered (sym (refused_alike apart event ties)) in
     cc (first, later ∙ play)
 
--- A book before any entry and no hand answer any events as the tournament before any entry.
-pub first_answers_alike : (plan : PlanTerms) (events : List Event) → is_right plan ≡ true
-    → answers_apart (first_apart plan) events ≡ answers_in_play (first_play plan) events
-first_answers_alike plan events right =
+-- A book and its hands run over any events as the tournament that they are.
+runs_alike : (apart : Apart) (events : List Event) → AreTied apart
+    → seen_of (run_apart apart events) ≡ run_in_play (seen_of apart) events
+runs_alike apart [] ties = refl
+runs_alike apart (event ∷ events) ties =
+    let after = after_alike apart event ties in
+    runs_alike (after_apart apart event) events after.ties ∙ ap (λ (play : PlayState). run_in_play play events) after.seen
+
+-- A book before any entry and no hand are the tournament before any entry.
+first_alike : (plan : PlanTerms) → is_right plan ≡ true → AreAfter (first_apart plan) (first_play plan)
+first_alike plan right =
     let acts = map_empty acts_of (plan.tables + 1) None in
     let seen : seen_of (first_apart plan) ≡ first_play plan =
     ap (λ (acts : List (List ActOf)). record { book = first_book plan; acts = acts }) acts in
     let valid = subst IsValidPlay (sym seen) (valid_first_play plan right) in
-    answers_alike (first_apart plan) events (record { tied = map_empty start_of (plan.tables + 1) None; valid = valid })
-    ∙ ap (λ (play : PlayState). answers_in_play play events) seen
+    record { ties = record { tied = map_empty start_of (plan.tables + 1) None; valid = valid }; seen = seen }
+
+-- They run over any events as it does.
+pub first_runs_alike : (plan : PlanTerms) (events : List Event) → is_right plan ≡ true
+    → seen_of (run_apart (first_apart plan) events) ≡ run_in_play (first_play plan) events
+first_runs_alike plan events right =
+    let first = first_alike plan right in
+    runs_alike (first_apart plan) events first.ties
+    ∙ ap (λ (play : PlayState). run_in_play play events) first.seen
+
+-- A book before any entry and no hand answer any events as the tournament before any entry.
+pub first_answers_alike : (plan : PlanTerms) (events : List Event) → is_right plan ≡ true
+    → answers_apart (first_apart plan) events ≡ answers_in_play (first_play plan) events
+first_answers_alike plan events right =
+    let first = first_alike plan right in
+    answers_alike (first_apart plan) events first.ties
+    ∙ ap (λ (play : PlayState). answers_in_play play events) first.seen
 
 -- the state of a tournament whose plan is whole
 abbrev whole : Draft → PlayState → ℕ → State
@@ -230,9 +253,34 @@ answered_in_play draft play count (event ∷ events) =
     by_refusal None rest = rest (play_effect play event) (count + 1)
     by_refusal (Some refusal) rest = rest play count
 
+-- Once the plan is whole, a tournament runs as its book and its acts do.
+ran_in_play : (draft : Draft) (play : PlayState) (count : ℕ) (events : List Event)
+    → (run (whole draft play count) events).play ≡ Some (run_in_play play events)
+ran_in_play draft play count [] = refl
+ran_in_play draft play count (event ∷ events) =
+    by_refusal (refusal_of play event) (λ play count. ran_in_play draft play count events)
+  where
+    before : State
+    before = whole draft play count
+
+    by_refusal : (found : Option Refusal)
+        → ((play : PlayState) (count : ℕ) → (run (whole draft play count) events).play ≡ Some (run_in_play play events))
+        → (run (if is_accepted (answered found) then accepted before event else before) events).play
+        ≡ Some (run_in_play (if is_none found then play_effect play event else play) events)
+    by_refusal None rest = rest (play_effect play event) (count + 1)
+    by_refusal (Some refusal) rest = rest play count
+
 begun : (state : State) → state.play ≡ None → answer_to state events.Go ≡ Ok
     → state_after state events.Go ≡ whole state.draft (first_play (plan_of state.draft)) (state.accepted + 1)
 begun state unplanned taken = rw (taken, unplanned) refl
+
+-- The plan of a draft whose end is accepted is right.
+plan_made : (before : List Event) → (run first_state before).play ≡ None
+    → answer_to (run first_state before) events.Go ≡ Ok → is_right (plan_of (run first_state before).draft) ≡ true
+plan_made before unplanned taken =
+    let state = run first_state before in
+    let complete = go_right (go_fault state.draft) (ap is_accepted (rw unplanned at taken)) in
+    right_plan state.draft (valid_events before).draft complete
 
 -- A book before any entry and no hand answer any events as the tournament whose plan was just made whole.
 pub tournament_answers_alike : (before later : List Event) → (run first_state before).play ≡ None
@@ -241,8 +289,26 @@ pub tournament_answers_alike : (before later : List Event) → (run first_state 
     ≡ answers (state_after (run first_state before) events.Go) later
 tournament_answers_alike before later unplanned taken =
     let state = run first_state before in
-    let complete = go_right (go_fault state.draft) (ap is_accepted (rw unplanned at taken)) in
-    let right = right_plan state.draft (valid_events before).draft complete in
     let after = ap (λ (state : State). answers state later) (begun state unplanned taken) in
     let play = answered_in_play state.draft (first_play (plan_of state.draft)) (state.accepted + 1) later in
-    first_answers_alike (plan_of state.draft) later right ∙ sym (after ∙ play)
+    first_answers_alike (plan_of state.draft) later (plan_made before unplanned taken) ∙ sym (after ∙ play)
+
+-- They run over any events as that tournament does.
+pub tournament_runs_alike : (before later : List Event) → (run first_state before).play ≡ None
+    → answer_to (run first_state before) events.Go ≡ Ok
+    → (run (state_after (run first_state before) events.Go) later).play
+    ≡ Some (seen_of (run_apart (first_apart (plan_of (run first_state before).draft)) later))
+tournament_runs_alike before later unplanned taken =
+    let state = run first_state before in
+    let after = ap (λ (state : State). (run state later).play) (begun state unplanned taken) in
+    let play = ran_in_play state.draft (first_play (plan_of state.draft)) (state.accepted + 1) later in
+    after ∙ (play ∙ ap Some (sym (first_runs_alike (plan_of state.draft) later (plan_made before unplanned taken))))
+
+-- They report what that tournament does.
+pub tournament_reports_alike : (before later : List Event) → (run first_state before).play ≡ None
+    → answer_to (run first_state before) events.Go ≡ Ok
+    → report_of (run (state_after (run first_state before) events.Go) later)
+    ≡ book_report (run_apart (first_apart (plan_of (run first_state before).draft)) later).book
+tournament_reports_alike before later unplanned taken =
+    ap (λ (play : Option PlayState). option_map_or (λ play. book_report play.book) play empty_report)
+    (tournament_runs_alike before later unplanned taken)

@@ -216,6 +216,18 @@ run_keeps P test keeps state (event ∷ events) play later at after none is =
     by_answer false taken parts rest =
         let next : (state_after state event).play ≡ Some play = rw taken at in rest play next is
 
+none_picked : (state : State) (events : List Event) → is_any_accepted (λ event. false) state events ≡ false
+none_picked state [] = refl
+none_picked state (event ∷ events) = none_picked (state_after state event) events
+
+-- What stays so at every event is so after a list of events.
+pub run_keeps_all : (P : PlayState → Type 0) → ((play : PlayState) (event : Event) → P play → P (play_effect play event))
+    → (state : State) (events : List Event) (play later : PlayState) → state.play ≡ Some play
+    → (run state events).play ≡ Some later → P play → P later
+run_keeps_all P keeps state events play later at after =
+    run_keeps P (λ event. false) (λ play event kind free. keeps play event) state events play later at after
+    (none_picked state events)
+
 -- Once there is a plan, there is one after any events.
 pub run_some : (state : State) (events : List Event) (play : PlayState) → state.play ≡ Some play
     → (later : PlayState) × ((run state events).play ≡ Some later)

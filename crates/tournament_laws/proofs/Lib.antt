@@ -18,3 +18,6 @@ pub mod Acting
 pub mod Exchanged
 pub mod InStates
 pub mod Orders
+pub mod Stopped
+pub mod Counting
+pub mod RaceChips

@@ -16,7 +16,7 @@ use Rattle.tournament_rules.specs.Dealing.{next_at}
 use Rattle.tournament_rules.specs.Effects.{playing_from}
 use Rattle.tournament_rules.specs.Kinds.{ends_round}
 use Rattle.tournament_laws.specs.Accepted.{is_any_accepted}
-use Rattle.tournament_rules.specs.Racing.{raised_table}
+use Rattle.tournament_rules.specs.Racing.{announced_table}
 use Rattle.tournament_rules.specs.States.{State, PlayState, hand_about, refusal_of, answer_to, is_accepted, play_effect, state_after, run}
 use Rattle.tournament_rules.specs.Valid.{IsValidPlay}
 use Rattle.tournament_rules.proofs.Begins.{may_begin}
@@ -79,7 +79,7 @@ begun_kept table play event kind free has =
     }
   where
     by_opened : (unit : ℕ) (opened : Bool) (status : TableStatus) → status.begun ≡ true
-        → (raised_table unit opened status).begun ≡ true
+        → (announced_table unit opened status).begun ≡ true
     by_opened unit true status is = is
     by_opened unit false status is = is
 

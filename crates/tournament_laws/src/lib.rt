@@ -4,8 +4,35 @@
 //! does nothing. Nothing that runs stands on it.
 #![tactic(auto)]
 
-mod laws;
+mod chips;
+mod hands;
+mod levels;
+mod players;
+mod runs;
+mod tables;
 
-pub use laws::{
-    a_book_and_its_hands_answer_alike, a_broken_table_is_left, a_group_is_of_one_round, a_level_changes_no_hand, a_race_changes_no_other_table, a_table_begins_once_in_a_round, a_table_races_once_between_levels, a_table_that_is_not_open_is_bare, acts_stay_at_their_table, chips_are_kept, each_entry_is_in_or_bust, entries_and_races_alone_change_the_chips, entries_go_to_the_fewest, groups_never_fall, halted_tables_wait, hands_are_lawful_plays, hands_have_their_players, moves_are_lawful, neighbors_may_change_places, nobody_is_dealt_in_at_two_tables, one_order_has_one_end, players_are_in_order, stacks_are_lawful, starts_are_lawful, the_last_player_has_all_chips, units_follow_the_level, who_is_bust_stays_bust,
+pub use chips::{
+    a_race_changes_the_chips_by_what_it_records, chips_are_kept,
+    entries_and_races_alone_change_the_chips, stacks_are_lawful, the_last_player_has_all_chips,
+};
+pub use hands::{
+    a_table_plays_while_a_hand_is_out, acts_stay_at_their_table, hands_are_lawful_plays,
+    hands_are_numbered_as_they_begin, hands_have_their_players, nobody_is_dealt_in_at_two_tables,
+    starts_are_lawful,
+};
+pub use levels::{
+    a_level_changes_no_hand, a_race_changes_no_other_table, a_table_races_once_between_levels,
+    levels_follow_the_plan, units_follow_the_level,
+};
+pub use players::{
+    a_group_is_of_one_round, each_entry_is_in_or_bust, groups_never_fall,
+    no_two_entered_under_one_name, players_are_in_order, who_is_bust_stays_bust,
+};
+pub use runs::{
+    a_book_and_its_hands_answer_alike, neighbors_may_change_places, nothing_follows_a_stop,
+    one_order_has_one_end,
+};
+pub use tables::{
+    a_broken_table_is_left, a_table_begins_once_in_a_round, a_table_that_is_not_open_is_bare,
+    entries_go_to_the_fewest, halted_tables_wait, moves_are_lawful,
 };

@@ -222,7 +222,7 @@ valid_leveled book valid none = by_units (nat_lt before unit) refl
       };
       marked = valid.marked;
       counted = let counted = valid.counted in omega (arith, counted);
-      announced = let announced = valid.announced in omega (arith, announced);
+      raised = let raised = valid.raised in omega (arith, raised);
     }
     by_units true more =
         let seating = book.seating in
@@ -276,7 +276,7 @@ valid_leveled book valid none = by_units (nat_lt before unit) refl
               (sym (key_raised (λ status. status.marks) unit seating table (λ opened status. marks_kept opened status))
               ∙ is);
           counted = let counted = valid.counted in omega (arith, counted);
-          announced = let announced = valid.announced in omega (arith, announced);
+          raised = let raised = valid.raised in omega (arith, raised);
         }
       where
         plays : (opened : Bool) (status : TableStatus) → (announced_table unit opened status).playing ≡ status.playing

@@ -91,11 +91,11 @@ raced-stacks table stacks = record { same = λ player. by_test (sits_at table pl
     by_test false player = refl
 
 -- what the players of a table have by its seats
-abbrev by_seat : List ℕ → Seated → ℕ
+abbrev pub by_seat : List ℕ → Seated → ℕ
 by_seat stacks player = get_or stacks (player.place.seat - 1) 0
 
 -- The stacks at rest change by those of the table.
-rest-raced : (table : ℕ) (stacks : List ℕ) (players : List Seated)
+pub rest-raced : (table : ℕ) (stacks : List ℕ) (players : List Seated)
     → sum_by stack_of (map (restacked table stacks) players)
     + sum_by (λ player. cond (sits_at table player) player.stack 0) players
     ≡ sum_by stack_of players + sum_by (λ player. cond (sits_at table player) (by_seat stacks player) 0) players
@@ -368,6 +368,16 @@ module _ (book : BookState) (table : ℕ) (cards : List Card) (valid : IsValid b
           let place = found-place players (record { table = table; seat = seat }) player is in
           ap (λ (place : Place). get_or after (place.seat - 1) 0) (sym place)
 
+  -- The chips at the table change by what the race takes away and gives.
+  pub chips-there : sum_by (λ player. cond (sits_at table player) (by_seat after player) 0) players
+      + (race_at book.seating table cards).removed
+      ≡ sum_by (λ player. cond (sits_at table player) player.stack 0) players + (race_at book.seating table cards).added
+  chips-there =
+      let here = stacks-sum table players ordered within in
+      let now = after_sum in
+      let change = chips_change before cards status.unit (unit_after status) in
+      omega (arith, here, now, change)
+
   keeps_lent : (other : ℕ)
       → filter (is_lent other) (map (restacked table after) players) ≡ filter (is_lent other) players
   keeps_lent other =
@@ -466,10 +476,8 @@ module _ (book : BookState) (table : ℕ) (cards : List Card) (valid : IsValid b
         chips =
             let kept = valid.chips in
             let rest = rest-raced table after players in
-            let here = stacks-sum table players ordered within in
-            let now = after_sum in
-            let change = chips_change before cards status.unit (unit_after status) in
-            omega (arith, kept, rest, here, now, change);
+            let there = chips-there in
+            omega (arith, kept, rest, there);
         units = record {
           units = λ other listed. each_status (λ number status. is_between 1 book.plan.tables number ≡ true
               → IsUnitOf unit status) tables table (raced_off status) range.0 range.1
@@ -498,7 +506,7 @@ module _ (book : BookState) (table : ℕ) (cards : List Card) (valid : IsValid b
             other
             (λ marks is. let one = valid.marked other marks is in let same = counts other in omega (arith, one, same));
         counted = let counted = valid.counted in omega (arith, counted);
-        announced = let announced = valid.announced in omega (arith, announced);
+        raised = let raised = valid.raised in omega (arith, raised);
       }
 
 -- A book is valid once a race that is not refused is made.

@@ -80,3 +80,8 @@ abbrev pub answers_apart : Apart → List Event → List Answer
 answers_apart apart [] = []
 answers_apart apart (event ∷ events) = answered (refusal_apart apart event)
     ∷ answers_apart (after_apart apart event) events
+
+-- the book and the hands after all events of a list
+abbrev pub run_apart : Apart → List Event → Apart
+run_apart apart [] = apart
+run_apart apart (event ∷ events) = run_apart (after_apart apart event) events

@@ -1,6 +1,7 @@
 -- The chips of a tournament. This project's own.
 use Rattle.std.specs.Prelude.{ℕ, ◌*◌, length, sum_by}
 use Rattle.std.specs.Option.{option_map_or}
+use Rattle.seat_book.specs.Players.{players_at}
 use Rattle.table_engine.specs.Starts.{chips_of}
 use Rattle.tournament_rules.specs.Books.{BookState, starters_of}
 use Rattle.tournament_rules.specs.States.{State}
@@ -12,6 +13,10 @@ sold_by book = length book.entries * book.plan.stack
 -- the chips at rest in a book: the stacks of those who are in
 abbrev pub rest_in : BookState → ℕ
 rest_in book = sum_by (λ player. player.stack) book.seating.players
+
+-- the chips at rest at a table: the stacks of those who sit there
+abbrev pub rest_at : BookState → ℕ → ℕ
+rest_at book table = sum_by (λ player. player.stack) (players_at book.seating.players table)
 
 -- the chips in play of a book: the stacks with which the players of started hands began
 abbrev pub play_of : BookState → ℕ

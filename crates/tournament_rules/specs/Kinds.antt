@@ -55,6 +55,11 @@ abbrev pub is_entry : Event → Bool
 is_entry (events.Enter name table seat) = true
 is_entry _ = false
 
+-- whether a hand begins
+abbrev pub is_begin : Event → Bool
+is_begin (events.Begin table row) = true
+is_begin _ = false
+
 -- whether a chip race is made
 abbrev pub is_race : Event → Bool
 is_race (events.Race table row) = true

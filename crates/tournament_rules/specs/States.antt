@@ -162,6 +162,11 @@ answers_in_play play [] = []
 answers_in_play play (event ∷ events) = answered (refusal_of play event)
     ∷ answers_in_play (play_after play event) events
 
+-- a tournament whose plan is whole after all events of a list
+abbrev pub run_in_play : PlayState → List Event → PlayState
+run_in_play play [] = play
+run_in_play play (event ∷ events) = run_in_play (play_after play event) events
+
 -- the answer to each event of a list
 abbrev pub answers : State → List Event → List Answer
 answers state [] = []

@@ -7,7 +7,6 @@ ghost use Rattle.tournament_rules.specs.Valid.{IsValidState};
 
 /// Says that after any list of events, lawful or not, the state is valid: what `IsValidState` says of the plan, the
 /// entries, the tables, the hands, those who are out, the chips and the units holds.
-#[tactic(auto, using(crate::proofs::Steps::valid_events))]
 pub fn a_state_stays_valid()
     ensures { (events : List Event) → IsValidState (run first_state events) }
 {}

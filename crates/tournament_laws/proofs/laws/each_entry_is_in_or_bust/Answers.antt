@@ -1,9 +1,0 @@
-use Rattle.tournament_laws.proofs.Holds.{in_or_out}
-use Rattle.tournament_rules.proofs.Steps.{valid_events}
-use Rattle.tournament_laws.proofs.laws.each_entry_is_in_or_bust.Goals as goal
-
-pub returns-clause-one : goal.returns-clause-one
-returns-clause-one c = λ events play is. in_or_out play.book ((valid_events events).play play is).book
-
-pub returns-clause-named : goal.returns-clause-named
-returns-clause-named c = λ events play is. ((valid_events events).play play is).book.entries.named

@@ -1,5 +1,0 @@
-use Rattle.tournament_rules.proofs.Steps.{valid_events}
-use Rattle.tournament_laws.proofs.laws.groups_never_fall.Goals as goal
-
-pub returns : goal.returns
-returns c = λ events play is. ((valid_events events).play play is).book.busts.groups

@@ -1,8 +1,0 @@
-use Rattle.tournament_laws.proofs.Orders.{neighbors-accepted, neighbors-after}
-use Rattle.tournament_laws.proofs.laws.neighbors_may_change_places.Goals as goal
-
-pub returns-clause-accepted : goal.returns-clause-accepted
-returns-clause-accepted c = neighbors-accepted
-
-pub returns-clause-after : goal.returns-clause-after
-returns-clause-after c = neighbors-after

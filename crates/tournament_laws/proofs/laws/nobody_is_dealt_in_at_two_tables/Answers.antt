@@ -1,7 +1,0 @@
-use Rattle.tournament_rules.proofs.Steps.{valid_events}
-use Rattle.tournament_laws.proofs.TableLaws.{one_hand}
-use Rattle.tournament_laws.proofs.laws.nobody_is_dealt_in_at_two_tables.Goals as goal
-
-pub returns : goal.returns
-returns c = λ events number table other play is.
-    one_hand play.book number table other ((valid_events events).play play is).book

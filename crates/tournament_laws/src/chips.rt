@@ -1,0 +1,77 @@
+//! Laws of the chips: they are kept, and who has them.
+
+ghost use Rattle.std.specs.Prelude.{◌≡◌, ◌≢◌, ◌+◌, ◌<◌, ◌%◌, List, [], ◌∷◌, true, false, map, ℕ};
+ghost use Rattle.std.specs.List.{All};
+ghost use Rattle.std.specs.Option.{ForSome};
+ghost use Rattle.floor_events.specs.declared.event.Event.{Event};
+ghost use Rattle.floor_events.specs.declared.answer.Answer.TheVariants.{Ok};
+ghost use Rattle.seat_book.specs.Tables.{status_at};
+ghost use Rattle.tournament_rules.specs.Players.{is_in_hand};
+ghost use Rattle.tournament_rules.specs.Checks.{is_over_for_all};
+ghost use Rattle.tournament_rules.specs.States.{State, first_state, answer_to, state_after, run};
+ghost use Rattle.tournament_rules.specs.Chips.{sold, removed, added, rest, play, sold_by, rest_in, rest_at};
+ghost use Rattle.tournament_rules.specs.Kinds.{is_entry, is_race};
+ghost use Rattle.floor_events.specs.declared.event.Event.TheVariants.{Race};
+ghost use Rattle.card_set.specs.declared.card.CardRow.{CardRow};
+ghost use Rattle.tournament_rules.specs.Racing.{race_at};
+
+/// Says that after any list of events, lawful or not, the chips at rest, those in play and those that races took away
+/// are those sold and those that races gave.
+pub fn chips_are_kept()
+    ensures { (events : List Event)
+        → rest (run first_state events) + play (run first_state events) + removed (run first_state events)
+        ≡ sold (run first_state events) + added (run first_state events) }
+{}
+
+/// Chips are sold by an entry alone, and races alone take chips away and give some: what is sold, removed or added is
+/// the same after every other event, and after each that is refused.
+pub fn entries_and_races_alone_change_the_chips()
+    ensures sold { (state : State) (event : Event) → is_entry event ≡ false
+        → sold (state_after state event) ≡ sold state }
+    ensures removed { (state : State) (event : Event) → is_race event ≡ false
+        → removed (state_after state event) ≡ removed state }
+    ensures added { (state : State) (event : Event) → is_race event ≡ false
+        → added (state_after state event) ≡ added state }
+    ensures refused { (state : State) (event : Event) → answer_to state event ≢ Ok → state_after state event ≡ state }
+{}
+
+/// Says that after any list of events, a player who sits and is in no started hand has a stack above 0 that is a
+/// multiple of the table's unit.
+pub fn stacks_are_lawful()
+    ensures above { (events : List Event) → ForSome (run first_state events).play (λ play.
+        All (λ player. is_in_hand play.book.started player ≡ false → 0 < player.stack) play.book.seating.players) }
+    ensures multiple { (events : List Event) → ForSome (run first_state events).play (λ play.
+        All (λ player. player.stack % (status_at play.book.seating.tables player.place.table).unit ≡ 0)
+        play.book.seating.players) }
+{}
+
+/// Says that after any list of events, where the tournament is over one player is in, with all chips: those that were
+/// sold and those that races gave, but for those that races took away.
+pub fn the_last_player_has_all_chips()
+    ensures { (events : List Event) → ForSome (run first_state events).play (λ play.
+        is_over_for_all play.book ≡ true → map (λ player. player.stack + play.book.removed) play.book.seating.players
+        ≡ (sold_by play.book + play.book.added) ∷ []) }
+{}
+
+/// Says that after any list of events, a race that is accepted changes the chips at rest, at its table and in all, by
+/// just what it takes away and gives, and that this is recorded.
+pub fn a_race_changes_the_chips_by_what_it_records()
+    ensures table { (before : List Event) (table : ℕ) (row : CardRow) → ForSome (run first_state before).play (λ earlier.
+        answer_to (run first_state before) (Race table row) ≡ Ok
+        → ForSome (state_after (run first_state before) (Race table row)).play (λ later.
+        rest_at later.book table + (race_at earlier.book.seating table row.cards).removed
+        ≡ rest_at earlier.book table + (race_at earlier.book.seating table row.cards).added)) }
+    ensures all { (before : List Event) (table : ℕ) (row : CardRow) → ForSome (run first_state before).play (λ earlier.
+        answer_to (run first_state before) (Race table row) ≡ Ok
+        → ForSome (state_after (run first_state before) (Race table row)).play (λ later.
+        rest_in later.book + (race_at earlier.book.seating table row.cards).removed
+        ≡ rest_in earlier.book + (race_at earlier.book.seating table row.cards).added)) }
+    ensures removed { (before : List Event) (table : ℕ) (row : CardRow)
+        → ForSome (run first_state before).play (λ earlier. answer_to (run first_state before) (Race table row) ≡ Ok
+        → ForSome (state_after (run first_state before) (Race table row)).play (λ later.
+        later.book.removed ≡ earlier.book.removed + (race_at earlier.book.seating table row.cards).removed)) }
+    ensures added { (before : List Event) (table : ℕ) (row : CardRow)
+        → ForSome (run first_state before).play (λ earlier. answer_to (run first_state before) (Race table row) ≡ Ok
+        → ForSome (state_after (run first_state before) (Race table row)).play (λ later.
+        later.book.added ≡ earlier.book.added + (race_at earlier.book.seating table row.cards).added)) }
+{}

@@ -1,0 +1,96 @@
+//! Laws of the players: who is in, and who went out.
+
+ghost use Rattle.std.specs.Prelude.{ℕ, ◌≡◌, ◌≢◌, ◌+◌, ◌<◌, nat_le, List, true, false, Some, length, take, drop, count_by, slice_get};
+ghost use Rattle.std.specs.List.{All};
+ghost use Rattle.std.specs.Option.{ForSome};
+ghost use Rattle.rulebook.specs.Pairs.{is_pairwise, are_distinct};
+ghost use Rattle.card_set.specs.declared.card.Card.{Card};
+ghost use Rattle.betting_round.specs.declared.act.Act.{Act};
+ghost use Rattle.floor_events.specs.declared.event.Event.{Event};
+ghost use Rattle.floor_events.specs.declared.event.Event.TheVariants.{Act as Acts, Settle};
+ghost use Rattle.floor_events.specs.declared.answer.Answer.TheVariants.{Ok};
+ghost use Rattle.seat_book.specs.Players.{is_numbered, are_in_order};
+ghost use Rattle.tournament_rules.specs.Books.{start_at, starters_of};
+ghost use Rattle.tournament_rules.specs.Players.{is_among};
+ghost use Rattle.tournament_rules.specs.Dealing.{next_start};
+ghost use Rattle.tournament_rules.specs.States.{first_state, answer_to, state_after, run, players_of};
+ghost use Rattle.tournament_rules.specs.Chips.{play};
+ghost use Rattle.tournament_rules.specs.Kinds.{ends_round};
+ghost use Rattle.tournament_laws.specs.Accepted.{is_any_accepted};
+ghost use Rattle.tournament_rules.specs.Valid.{is_bust_of};
+ghost use Rattle.std.specs.Str.{bytes_eq};
+
+/// Says that after any list of events, lawful or not, the players are listed by table, at one table in rising seat, and
+/// no two of them sit in one seat.
+pub fn players_are_in_order()
+    ensures { (events : List Event) → are_in_order (players_of (run first_state events)) ≡ true }
+{}
+
+/// Says that after any list of events, each entered player has exactly one seat or exactly one row of those who are
+/// out, and never both; nobody else has any, so those who are in and those who are out are as many as entered. Who has a
+/// seat sits there under the name with which they entered.
+pub fn each_entry_is_in_or_bust()
+    ensures one { (events : List Event) → ForSome (run first_state events).play (λ play. (number : ℕ)
+        → number < length play.book.entries → count_by (is_numbered number) play.book.seating.players
+        + count_by (is_bust_of number) play.book.busts ≡ 1) }
+    ensures all { (events : List Event) → ForSome (run first_state events).play (λ play.
+        length play.book.seating.players + length play.book.busts ≡ length play.book.entries) }
+    ensures named { (events : List Event) → ForSome (run first_state events).play (λ play.
+        All (λ player. slice_get play.book.entries player.player ≡ Some player.name) play.book.seating.players) }
+{}
+
+/// Says that after any list of events, who is out has no seat, is in no hand that is out, is dealt into no hand that
+/// begins and makes no act that is accepted. Whatever events follow, he stays out, with the same stack and in the same
+/// group.
+pub fn who_is_bust_stays_bust()
+    ensures seat { (events : List Event) → ForSome (run first_state events).play (λ play.
+        All (λ bust. count_by (is_numbered bust.player) play.book.seating.players ≡ 0) play.book.busts) }
+    ensures hand { (events : List Event) (table : ℕ) → ForSome (run first_state events).play (λ play.
+        All (λ bust. is_among bust.player (starters_of (start_at play.book.started table)) ≡ false) play.book.busts) }
+    ensures dealt { (events : List Event) (table : ℕ) (cards : List Card)
+        → ForSome (run first_state events).play (λ play.
+        All (λ bust. is_among bust.player (next_start play.book table cards).seats ≡ false) play.book.busts) }
+    ensures act { (events : List Event) (table : ℕ) (act : Act) → ForSome (run first_state events).play (λ play.
+        All (λ bust. (name : List ℕ) → slice_get play.book.entries bust.player ≡ Some name
+        → answer_to (run first_state events) (Acts table name act) ≢ Ok) play.book.busts) }
+    ensures stays { (before after : List Event) → ForSome (run first_state before).play (λ earlier.
+        ForSome (run (run first_state before) after).play (λ later.
+        take (length earlier.book.busts) later.book.busts ≡ earlier.book.busts)) }
+{}
+
+/// Says that after any list of events, who went out later is in the same group or in a later one.
+pub fn groups_never_fall()
+    ensures { (events : List Event) → ForSome (run first_state events).play (λ play.
+        is_pairwise (λ earlier later. nat_le earlier.group later.group) play.book.busts ≡ true) }
+{}
+
+/// Says that no group has players of two rounds. Those who go out while hand-for-hand is on, before the end of a round
+/// is accepted, are in one group. Each accepted end of a round raises the group by one, so those who go out after it
+/// are in later groups than all who were out before. So are those who go out after a settle while hand-for-hand is off.
+pub fn a_group_is_of_one_round()
+    ensures one { (before during : List Event) → ForSome (run first_state before).play (λ earlier.
+        earlier.book.seating.hands ≡ true → is_any_accepted ends_round (run first_state before) during ≡ false
+        → ForSome (run (run first_state before) during).play (λ later.
+        All (λ bust. bust.group ≡ earlier.book.group) (drop (length earlier.book.busts) later.book.busts))) }
+    ensures rises { (before : List Event) (event : Event) → ForSome (run first_state before).play (λ earlier.
+        ends_round event ≡ true → answer_to (run first_state before) event ≡ Ok
+        → ForSome (state_after (run first_state before) event).play (λ later.
+        later.book.group ≡ earlier.book.group + 1)) }
+    ensures rounds { (before after : List Event) (event : Event) → ForSome (run first_state before).play (λ earlier.
+        ends_round event ≡ true → answer_to (run first_state before) event ≡ Ok
+        → ForSome (run (state_after (run first_state before) event) after).play (λ later.
+        All (λ one. All (λ other. one.group < other.group) (drop (length earlier.book.busts) later.book.busts))
+        earlier.book.busts)) }
+    ensures settles { (before after : List Event) (table : ℕ) → ForSome (run first_state before).play (λ play.
+        play.book.seating.hands ≡ false → answer_to (run first_state before) (Settle table) ≡ Ok
+        → ForSome (state_after (run first_state before) (Settle table)).play (λ earlier.
+        ForSome (run (state_after (run first_state before) (Settle table)) after).play (λ later.
+        All (λ one. All (λ other. one.group < other.group) (drop (length earlier.book.busts) later.book.busts))
+        earlier.book.busts))) }
+{}
+
+/// Says that after any list of events, the names of those who entered differ.
+pub fn no_two_entered_under_one_name()
+    ensures { (events : List Event) → ForSome (run first_state events).play (λ play.
+        are_distinct bytes_eq play.book.entries ≡ true) }
+{}
