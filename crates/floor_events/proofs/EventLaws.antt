@@ -1,9 +1,10 @@
 -- What is read from a line is spelled as that line, and what is spelled so is read. An event has a line in each of
 -- own_rows, again and words_of_text.
-use Rattle.std.proofs.Common.{◌≡◌, ℕ, ◌≤◌, Bool, true, false, cond, leb, List, [], ◌∷◌, length, Option, Some, None, option_map, refl, sym, ap, ◌∙◌, subst, arith}
+use Rattle.std.proofs.Common.{◌≡◌, ℕ, ◌≤◌, Bool, true, false, cond, leb, List, [], ◌∷◌, length, map, Option, Some, None, option_map, refl, sym, ap, ◌∙◌, subst, arith}
 use Rattle.std.specs.Prelude.{codes}
 use Rattle.std.specs.List.{list_all, join_with_byte, AllByRecursion}
 use Rattle.std.specs.Str.{bytes_eq}
+use Rattle.std.specs.Fmt.{decimal}
 use Rattle.std.specs.Option.{IfSome}
 use Rattle.std.proofs.lemmas.Bool.Decides.{nat_tests}
 use Rattle.std.proofs.lemmas.List.Splits.{join_with_byte-slice_split}
@@ -16,13 +17,29 @@ use Rattle.floor_events.specs.declared.event.Event.{Event}
 use Rattle.floor_events.specs.declared.event.Event.TheVariants as events
 use Rattle.floor_events.specs.declared.event.Item.{Item}
 use Rattle.floor_events.specs.declared.event.Item.TheVariants as found
-use Rattle.floor_events.specs.Words.{words_of_line}
-use Rattle.floor_events.specs.Grammar.{Reader, grammar, event_by, event_of_words, item_of_words, item_of_bytes}
-use Rattle.floor_events.specs.Spelling.{event_words, event_text, item_text, HasLineParts, IsWritable}
-use Rattle.floor_events.proofs.FieldLaws.{test_found, number_field, name_field, game_field, switch_field, row_field, act_rest, last}
-use Rattle.floor_events.proofs.PieceLaws.{shares_rest, places_field, names_field}
+use Rattle.level_plan.specs.declared.bounds.TheConstants.{MOST_SHARES}
+use Rattle.line_words.specs.Limits.{most_members}
+use Rattle.line_words.specs.Words.{words_of_line}
+use Rattle.line_words.specs.Fields.{name_of, place_of, place_text, members_of, list_text}
+use Rattle.floor_events.specs.Grammar.{Reader, shares_of, grammar, event_by, event_of_words, item_of_words, item_of_bytes}
+use Rattle.floor_events.specs.Spelling.{event_words, event_text, item_text, HasLineParts, AreLineShares, AreLinePlaces, AreLineNames, IsWritable}
+use Rattle.line_words.proofs.FieldLaws.{IsField, IsRest, test_found, number_field, name_field, game_field, switch_field, row_field, act_rest, last}
+use Rattle.line_words.proofs.PieceLaws.{few_rest, name_member, place_member, members_field}
 use Rattle.floor_events.proofs.RowLaws.{Spells, Reads, row0, row1, row2, row3, fields0_again, fields1_again, fields2_again, fields3_again}
-use Rattle.floor_events.proofs.Spaces.{is_word, words_lack, pieces_again, line_no_feed}
+use Rattle.line_words.proofs.Spaces.{is_word, words_lack, pieces_again, line_no_feed}
+
+-- the shares of the prizes
+shares_rest : IsRest shares_of (map decimal) AreLineShares
+unfolding shares_of
+shares_rest = few_rest number_field MOST_SHARES
+
+-- the places of a list
+places_field : IsField (members_of most_members place_of) (list_text place_text) AreLinePlaces
+places_field = members_field place_member most_members
+
+-- the names of a list
+names_field : IsField (members_of most_members name_of) (list_text (λ name. name)) AreLineNames
+names_field = members_field name_member most_members
 
 abbrev IsOwnRow : List ℕ × Reader → Type 0
 IsOwnRow row = Reads (λ words. row.0 ∷ words) row.1

@@ -5,11 +5,11 @@ use Rattle.std.specs.Option.{option_and_then}
 use Rattle.std.proofs.lemmas.Option.{same_Some}
 use Rattle.card_set.proofs.Steps.{bind_found, map_found}
 use Rattle.floor_events.specs.declared.event.Event.{Event}
-use Rattle.floor_events.specs.Words.{no_word}
-use Rattle.floor_events.specs.Fields.{next_by}
+use Rattle.line_words.specs.Words.{no_word}
+use Rattle.line_words.specs.Fields.{next_by}
 use Rattle.floor_events.specs.Grammar.{Reader, fields0, fields1, fields2, fields3}
 use Rattle.floor_events.specs.Spelling.{event_words, HasLineParts}
-use Rattle.floor_events.proofs.FieldLaws.{IsField, IsRest, next_found, next_again}
+use Rattle.line_words.proofs.FieldLaws.{IsField, IsRest, next_found, next_again}
 
 -- words are the spelling of an event
 pub record Spells (words : List (List ℕ)) (event : Event) : Type 0 where

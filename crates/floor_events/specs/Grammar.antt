@@ -10,8 +10,10 @@ use Rattle.floor_events.specs.declared.event.Event.{Event}
 use Rattle.floor_events.specs.declared.event.Event.TheVariants as events
 use Rattle.floor_events.specs.declared.event.Item.{Item}
 use Rattle.floor_events.specs.declared.event.Item.TheVariants as found
-use Rattle.floor_events.specs.Words.{words_of_line, no_word}
-use Rattle.floor_events.specs.Fields.{game_of, switch_of, name_of, next_by, last_by, act_of, shares_of, place_of, members_of}
+use Rattle.level_plan.specs.declared.bounds.TheConstants.{MOST_SHARES}
+use Rattle.line_words.specs.Limits.{most_members}
+use Rattle.line_words.specs.Words.{words_of_line, no_word}
+use Rattle.line_words.specs.Fields.{game_of, switch_of, name_of, next_by, last_by, act_of, few_of, place_of, members_of}
 
 -- what reads the words behind the first
 abbrev pub Reader : Type 0
@@ -35,11 +37,15 @@ unfoldable pub fields3 : {A B C : Type 0} → (List ℕ → Option A) → (List 
 fields3 first second last make words =
     option_and_then (λ read. fields2 second last (make read.0) read.1) (next_by first words)
 
+-- the shares that the words left are: 1 to 64 numbers
+unfoldable pub shares_of : List (List ℕ) → Option (List ℕ)
+shares_of words = few_of MOST_SHARES number_of words
+
 -- the rows of the events that hold a list, for which memory is wanted
 abbrev pub list_rows : List (List ℕ × Reader)
 list_rows =
     (codes "shares", fields1 shares_of (λ shares. events.Plan (lines.Shares shares))) ∷
-    (codes "break", fields3 number_of (members_of place_of) (last_by (members_of name_of)) events.Break) ∷ []
+    (codes "break", fields3 number_of (members_of most_members place_of) (last_by (members_of most_members name_of)) events.Break) ∷ []
 
 -- the rows of the other lines of a plan
 abbrev pub plan_rows : List (List ℕ × Reader)

@@ -9,7 +9,7 @@ use Rattle.floor_text.specs.Refusals.{refusal_number, refusal_name}
 use Rattle.card_set.specs.declared.game.Game.{Game}
 use Rattle.card_set.specs.declared.game.Game.TheVariants.{Holdem, Omaha, Hilo}
 use Rattle.card_set.specs.Cards.{row_text}
-use Rattle.level_plan.specs.declared.bounds.TheConstants.{MOST_TABLES, MOST_SEATS, MOST_SHARES}
+use Rattle.level_plan.specs.declared.bounds.TheConstants.{MOST_SHARES}
 use Rattle.level_plan.specs.declared.line.PlanItem.{PlanItem}
 use Rattle.level_plan.specs.declared.line.PlanItem.TheVariants as items
 use Rattle.level_plan.specs.declared.line.PlanLine.{PlanLine}
@@ -27,18 +27,9 @@ use Rattle.floor_events.specs.declared.answer.Answer.TheVariants as answers
 use Rattle.floor_events.specs.declared.report.Report.{Report}
 use Rattle.floor_events.specs.declared.report.ReportSeat.{ReportSeat}
 use Rattle.floor_events.specs.declared.report.ReportOut.{ReportOut}
-use Rattle.floor_events.specs.Words.{line_of_words}
-
--- the word of a game
-abbrev pub game_word : Game → List ℕ
-game_word Holdem = codes "holdem"
-game_word Omaha = codes "omaha"
-game_word Hilo = codes "hilo"
-
--- the word for on or off
-abbrev pub switch_word : Bool → List ℕ
-switch_word true = codes "on"
-switch_word false = codes "off"
+use Rattle.line_words.specs.Limits.{most_members}
+use Rattle.line_words.specs.Words.{line_of_words}
+use Rattle.line_words.specs.Fields.{game_word, switch_word, act_words, place_text, list_text, AreFew, IsLineName, IsLinePlace, HasLineAmount}
 
 -- the word of an item, as an answer names it
 abbrev pub item_word : PlanItem → List ℕ
@@ -64,23 +55,6 @@ plan_words (lines.Buyin n) = codes "buyin" ∷ decimal n ∷ []
 plan_words (lines.Late n) = codes "late" ∷ decimal n ∷ []
 plan_words (lines.Blinds small big unit) = codes "blinds" ∷ decimal small ∷ decimal big ∷ decimal unit ∷ []
 plan_words (lines.Shares shares) = codes "shares" ∷ map decimal shares
-
--- the words of an act
-abbrev pub act_words : Act → List (List ℕ)
-act_words acts.Fold = codes "fold" ∷ []
-act_words acts.Check = codes "check" ∷ []
-act_words acts.Call = codes "call" ∷ []
-act_words acts.AllIn = codes "allin" ∷ []
-act_words (acts.Bet n) = codes "bet" ∷ decimal n ∷ []
-act_words (acts.Raise n) = codes "raise" ∷ decimal n ∷ []
-
--- the text of a place: the number of the table and that of the seat, with a point between them
-abbrev pub place_text : Place → List ℕ
-place_text place = join_with_byte 46 (decimal place.table ∷ decimal place.seat ∷ [])
-
--- the text of a list: its members with a comma between each two
-abbrev pub list_text : {A : Type 0} → (A → List ℕ) → List A → List ℕ
-list_text write items = join_with_byte 44 (map write items)
 
 -- the words of an event
 abbrev pub event_words : Event → List (List ℕ)
@@ -108,21 +82,17 @@ event_text event = join_with_byte 32 (event_words event)
 abbrev pub item_text : Item → List ℕ
 item_text (found.Event event) = event_text event
 
--- at least one item stands in a line and at most so many, and each fits
-abbrev pub AreFew : {A : Type 0} → ℕ → (A → Type 0) → List A → Type 0
-AreFew most Fits items = (1 ≤ length items) × (length items ≤ most) × AllByRecursion Fits items
-
 -- 1 to 64 numbers stand in a line of shares
 abbrev pub AreLineShares : List ℕ → Type 0
 AreLineShares shares = AreFew MOST_SHARES IsLineNumber shares
 
 -- 1 to 10 places stand in a list, each with the number of one of 64 tables and of one of 10 seats
 abbrev pub AreLinePlaces : List Place → Type 0
-AreLinePlaces places = AreFew MOST_SEATS (IsPlaceOf MOST_TABLES MOST_SEATS) places
+AreLinePlaces places = AreFew most_members IsLinePlace places
 
 -- 1 to 10 names stand in a list
 abbrev pub AreLineNames : List (List ℕ) → Type 0
-AreLineNames names = AreFew MOST_SEATS (λ name. IsTrue (is_name name)) names
+AreLineNames names = AreFew most_members IsLineName names
 
 -- the numbers of a plan line are those of a line
 abbrev pub HasLineNumbers : PlanLine → Type 0
@@ -135,22 +105,13 @@ HasLineNumbers (lines.Late n) = IsLineNumber n
 HasLineNumbers (lines.Blinds small big unit) = IsLineNumber small × IsLineNumber big × IsLineNumber unit
 HasLineNumbers (lines.Shares shares) = AreLineShares shares
 
--- the amount of an act is a number of a line
-abbrev pub HasLineAmount : Act → Type 0
-HasLineAmount acts.Fold = Unit {0}
-HasLineAmount acts.Check = Unit {0}
-HasLineAmount acts.Call = Unit {0}
-HasLineAmount acts.AllIn = Unit {0}
-HasLineAmount (acts.Bet n) = IsLineNumber n
-HasLineAmount (acts.Raise n) = IsLineNumber n
-
 -- the parts of an event are such as a line may hold
 abbrev pub HasLineParts : Event → Type 0
 HasLineParts (events.Plan line) = HasLineNumbers line
 HasLineParts events.Go = Unit {0}
-HasLineParts (events.Enter name table seat) = IsTrue (is_name name) × IsLineNumber table × IsLineNumber seat
+HasLineParts (events.Enter name table seat) = IsLineName name × IsLineNumber table × IsLineNumber seat
 HasLineParts (events.Begin table row) = IsLineNumber table
-HasLineParts (events.Act table name act) = IsTrue (is_name name) × IsLineNumber table × HasLineAmount act
+HasLineParts (events.Act table name act) = IsLineName name × IsLineNumber table × HasLineAmount act
 HasLineParts (events.Time table) = IsLineNumber table
 HasLineParts (events.Settle table) = IsLineNumber table
 HasLineParts (events.Balance from to) = IsLineNumber from × IsLineNumber to

@@ -8,10 +8,10 @@ ghost use Rattle.floor_events.specs.Grammar.{plan_rows, plain_rows, event_by, it
 ghost use Rattle.floor_events.specs.Spelling.{IsWritable, item_text};
 
 use crate::event::{Event, Item};
-use crate::line_words::Words;
 use crate::list_reader::{read_break, read_shares};
 use floor_text::LONGEST_LINE;
 use level_plan::PlanLine;
+use line_words::LineWords;
 use std::alloc::{AllocError, Global};
 
 fn is(word: &[u8], text: &[u8]) -> bool
@@ -22,7 +22,7 @@ fn is(word: &[u8], text: &[u8]) -> bool
 
 /// Reads a line of a plan that has no list by its first word.
 #[tactic(auto, unfolding(crate::specs::Grammar::fields0, crate::specs::Grammar::fields1, crate::specs::Grammar::fields2, crate::specs::Grammar::fields3))]
-fn read_plan_fields(word: &[u8], line: &mut Words<'_>) -> Option<Event>
+fn read_plan_fields(word: &[u8], line: &mut LineWords<'_>) -> Option<Event>
     ensures { result ≡ event_by plan_rows word.now line.old }
 {
     match word {
@@ -44,7 +44,7 @@ fn read_plan_fields(word: &[u8], line: &mut Words<'_>) -> Option<Event>
 
 /// Reads an event without a list by its first word, the most frequent words first.
 #[tactic(auto, unfolding(crate::specs::Grammar::fields0, crate::specs::Grammar::fields1, crate::specs::Grammar::fields2, crate::specs::Grammar::fields3))]
-fn read_fields(word: &[u8], line: &mut Words<'_>) -> Option<Item>
+fn read_fields(word: &[u8], line: &mut LineWords<'_>) -> Option<Item>
     ensures { result ≡ option_map items.Event (event_by plain_rows word.now line.old) }
 {
     match word {
@@ -85,7 +85,7 @@ fn read_fields(word: &[u8], line: &mut Words<'_>) -> Option<Item>
 }
 
 #[tactic(auto, unfolding(crate::specs::Grammar::item_of_words))]
-fn read_words(alloc: Global, line: &mut Words<'_>) -> Result<Option<Item>, AllocError>
+fn read_words(alloc: Global, line: &mut LineWords<'_>) -> Result<Option<Item>, AllocError>
     ensures exact { IfOk result (λ found. found ≡ item_of_words line.old) }
     ensures err { OnErr result (IsSome (item_of_words line.old)) }
 {
@@ -109,7 +109,7 @@ fn read_line(alloc: Global, line: &[u8]) -> Result<Option<Item>, AllocError>
     if line.len() > LONGEST_LINE {
         return Ok(None);
     }
-    read_words(alloc, &mut Words::of_line(line))
+    read_words(alloc, &mut LineWords::of_line(line))
 }
 
 /// Reads a line, without its line feed. `None` exactly where it is not in the grammar; memory is wanted only

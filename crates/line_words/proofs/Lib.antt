@@ -1,0 +1,5 @@
+pub mod FieldLaws
+pub mod Growth
+pub mod PieceLaws
+pub mod Spaces
+pub mod WordSplits
