@@ -49,6 +49,10 @@ infixr 5 ◌▸◌
 abbrev ◌▸◌ : {A B : Type 0} → A → B → A × B
 row ▸ rows = (row, rows)
 
+-- the event of a level's line
+abbrev blinds_event : ℕ → ℕ → ℕ → Event
+blinds_event small big unit = events.Plan (lines.Blinds (record { small = small; big = big; unit = unit }))
+
 -- each row reads what is spelled so
 own_rows : AllByRecursion IsOwnRow grammar
 own_rows =
@@ -82,7 +86,7 @@ own_rows =
     (λ a p. record { spelling = refl; parts = p }) ▸
     row1 (codes "late") (last number_field) (λ n. events.Plan (lines.Late n))
     (λ a p. record { spelling = refl; parts = p }) ▸
-    row3 (codes "blinds") number_field number_field (last number_field) (λ s b u. events.Plan (lines.Blinds s b u))
+    row3 (codes "blinds") number_field number_field (last number_field) blinds_event
     (λ a b c p q r. record { spelling = refl; parts = (p, q, r) }) ▸
     row0 (codes "go") events.Go (record { spelling = refl; parts = tt }) ▸
     tt
@@ -97,8 +101,8 @@ again (events.Plan (lines.Seats n)) parts = fields1_again (last number_field) (�
 again (events.Plan (lines.Stack n)) parts = fields1_again (last number_field) (λ k. events.Plan (lines.Stack k)) n parts
 again (events.Plan (lines.Buyin n)) parts = fields1_again (last number_field) (λ k. events.Plan (lines.Buyin k)) n parts
 again (events.Plan (lines.Late n)) parts = fields1_again (last number_field) (λ k. events.Plan (lines.Late k)) n parts
-again (events.Plan (lines.Blinds s b u)) parts = fields3_again number_field number_field (last number_field)
-    (λ s b u. events.Plan (lines.Blinds s b u)) s b u parts.0 parts.1 parts.2
+again (events.Plan (lines.Blinds blind)) parts = fields3_again number_field number_field (last number_field)
+    blinds_event blind.small blind.big blind.unit parts.0 parts.1 parts.2
 again (events.Plan (lines.Shares shares)) parts =
     fields1_again shares_rest (λ ns. events.Plan (lines.Shares ns)) shares parts
 again events.Go parts = fields0_again events.Go
@@ -127,8 +131,11 @@ words_of_event (events.Plan (lines.Seats n)) parts = rw (number_field.word n par
 words_of_event (events.Plan (lines.Stack n)) parts = rw (number_field.word n parts) refl
 words_of_event (events.Plan (lines.Buyin n)) parts = rw (number_field.word n parts) refl
 words_of_event (events.Plan (lines.Late n)) parts = rw (number_field.word n parts) refl
-words_of_event (events.Plan (lines.Blinds s b u)) parts =
-    rw (number_field.word s parts.0, number_field.word b parts.1, number_field.word u parts.2) refl
+words_of_event (events.Plan (lines.Blinds blind)) parts = rw (
+  number_field.word blind.small parts.0,
+  number_field.word blind.big parts.1,
+  number_field.word blind.unit parts.2,
+) refl
 words_of_event (events.Plan (lines.Shares shares)) parts = shares_rest.words shares parts
 words_of_event (events.Enter name table seat) parts =
     rw (name_field.word name parts.0, number_field.word table parts.1, number_field.word seat parts.2) refl
@@ -153,7 +160,7 @@ some_word (events.Plan (lines.Seats n)) = (codes "seats", _, refl)
 some_word (events.Plan (lines.Stack n)) = (codes "stack", _, refl)
 some_word (events.Plan (lines.Buyin n)) = (codes "buyin", _, refl)
 some_word (events.Plan (lines.Late n)) = (codes "late", _, refl)
-some_word (events.Plan (lines.Blinds s b u)) = (codes "blinds", _, refl)
+some_word (events.Plan (lines.Blinds blind)) = (codes "blinds", _, refl)
 some_word (events.Plan (lines.Shares shares)) = (codes "shares", _, refl)
 some_word events.Go = (codes "go", _, refl)
 some_word (events.Enter name table seat) = (codes "enter", _, refl)

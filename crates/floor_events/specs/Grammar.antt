@@ -58,7 +58,7 @@ plan_rows =
     (codes "late", fields1 (last_by number_of) (λ n. events.Plan (lines.Late n))) ∷ (
       codes "blinds",
       fields3 number_of number_of (last_by number_of)
-          (λ small big unit. events.Plan (lines.Blinds small big unit)),
+          (λ small big unit. events.Plan (lines.Blinds (record { small = small; big = big; unit = unit }))),
     ) ∷
     (codes "go", fields0 events.Go) ∷ []
 

@@ -53,7 +53,7 @@ plan_words (lines.Seats n) = codes "seats" ∷ decimal n ∷ []
 plan_words (lines.Stack n) = codes "stack" ∷ decimal n ∷ []
 plan_words (lines.Buyin n) = codes "buyin" ∷ decimal n ∷ []
 plan_words (lines.Late n) = codes "late" ∷ decimal n ∷ []
-plan_words (lines.Blinds small big unit) = codes "blinds" ∷ decimal small ∷ decimal big ∷ decimal unit ∷ []
+plan_words (lines.Blinds blind) = codes "blinds" ∷ decimal blind.small ∷ decimal blind.big ∷ decimal blind.unit ∷ []
 plan_words (lines.Shares shares) = codes "shares" ∷ map decimal shares
 
 -- the words of an event
@@ -102,7 +102,7 @@ HasLineNumbers (lines.Seats n) = IsLineNumber n
 HasLineNumbers (lines.Stack n) = IsLineNumber n
 HasLineNumbers (lines.Buyin n) = IsLineNumber n
 HasLineNumbers (lines.Late n) = IsLineNumber n
-HasLineNumbers (lines.Blinds small big unit) = IsLineNumber small × IsLineNumber big × IsLineNumber unit
+HasLineNumbers (lines.Blinds blind) = IsLineNumber blind.small × IsLineNumber blind.big × IsLineNumber blind.unit
 HasLineNumbers (lines.Shares shares) = AreLineShares shares
 
 -- the parts of an event are such as a line may hold

@@ -10,7 +10,7 @@ ghost use Rattle.floor_events.specs.Spelling.{IsWritable, item_text};
 use crate::event::{Event, Item};
 use crate::list_reader::{read_break, read_shares};
 use floor_text::LONGEST_LINE;
-use level_plan::PlanLine;
+use level_plan::{Blind, PlanLine};
 use line_words::LineWords;
 use std::alloc::{AllocError, Global};
 
@@ -32,11 +32,11 @@ fn read_plan_fields(word: &[u8], line: &mut LineWords<'_>) -> Option<Event>
         _ if is(word, b"stack") => Some(Event::Plan(PlanLine::Stack(line.last_field()?))),
         _ if is(word, b"buyin") => Some(Event::Plan(PlanLine::Buyin(line.last_field()?))),
         _ if is(word, b"late") => Some(Event::Plan(PlanLine::Late(line.last_field()?))),
-        _ if is(word, b"blinds") => Some(Event::Plan(PlanLine::Blinds {
+        _ if is(word, b"blinds") => Some(Event::Plan(PlanLine::Blinds(Blind {
             small: line.field()?,
             big: line.field()?,
             unit: line.last_field()?,
-        })),
+        }))),
         _ if is(word, b"go") => line.is_done().then_some(Event::Go),
         _ => None,
     }

@@ -8,7 +8,7 @@ use Rattle.betting_round.specs.declared.act.Act.{Act}
 use Rattle.betting_round.specs.ActChecks.{act_refusal}
 use Rattle.table_engine.specs.declared.record.ActOf.{ActOf}
 use Rattle.table_engine.specs.declared.start.HandStart.{HandStart}
-use Rattle.table_engine.specs.Acts.{limits_of, refusal_in_seat, refusal_of_act}
+use Rattle.table_engine.specs.Acts.{limits_on, refusal_in_seat, refusal_of_act}
 use Rattle.table_engine.specs.Hands.{HandTerms, Streets, dealt_on, first_streets, has_ended, seat_of_name, street_now, streets_of, with_act, with_next_street}
 use Rattle.table_engine.specs.Plays.{IsLawfulPlay, are_lawful_after}
 use Rattle.table_engine.specs.Starts.{IsLawfulStart}
@@ -24,7 +24,7 @@ pub record IsKeptAlong (start : HandStart) (P : Streets → Type 0) : Type 0 whe
   pub next : (streets : Streets) (acts : ℕ) → IsSound start streets acts → has_ended (street_now streets) ≡ true
       → P streets → P (with_next_street start streets)
   pub act : (streets : Streets) (acts seat : ℕ) (act : Act) → IsSound start streets acts
-      → act_refusal (limits_of start.game) (street_now streets) seat act ≡ None
+      → act_refusal (limits_on start streets) (street_now streets) seat act ≡ None
       → P streets → P (with_act streets (record { seat = seat; act = act }))
 
 -- It is kept once every street has begun that may.

@@ -15,7 +15,7 @@ use Rattle.table_engine.specs.declared.start.HandStart.{HandStart}
 use Rattle.table_engine.specs.declared.start.StartSeat.{StartSeat}
 use Rattle.table_engine.specs.Starts.{IsLawfulStart, chips_of}
 use Rattle.table_engine.specs.Hands.{HandTerms, Streets, behind, dealt_on, due_in_hand, due_name, has_ended, is_over, name_in_seat, player_of, seat_of_name, street_now, street_of, streets_of, with_act, with_next_street}
-use Rattle.table_engine.specs.Acts.{act_in_time, hand_after_time, limits_of, refusal_of_act, refusal_of_time}
+use Rattle.table_engine.specs.Acts.{act_in_time, hand_after_time, limits_on, refusal_of_act, refusal_of_time}
 use Rattle.table_engine.specs.Plays.{IsLawfulPlay}
 use Rattle.table_engine.proofs.BySeat.{found-within, player_in-there}
 use Rattle.table_engine.proofs.Chips.{stands}
@@ -77,7 +77,7 @@ pub due-can_fold : (hand : HandTerms) (name : List ℕ) → IsLawfulStart hand.s
     → refusal_of_act hand name Fold ≡ None
 due-can_fold hand name lawful called =
     let is = due-is hand name lawful called in
-    refused-in_seat hand name Fold is.0 is.1.found ∙ due-may_fold (limits_of hand.start.game)
+    refused-in_seat hand name Fold is.0 is.1.found ∙ due-may_fold (limits_on hand.start (streets_of hand))
     (street_of hand) is.0 is.1.due
 
 -- A called time that is not refused is of a player who is due.

@@ -156,7 +156,7 @@ impl Hand {
         ensures played { IsLawfulPlay self.new }
         ensures timed { IsTimed self.new }
     {
-        let done = self.standing.check(self.start.game, seat, act)?;
+        let done = self.standing.check(&self.start, seat, act)?;
         self.acts.push(ActOf { name, act, by_time })?;
         let before = self.standing.round.facing(seat).put;
         self.standing.take(seat, act);
@@ -233,7 +233,7 @@ impl Hand {
             &live,
             board_of(&self.start, dealt),
             self.start.game,
-            self.start.unit,
+            self.start.blind.unit,
             self.start.marks.button,
             self.start.seat_count,
         )

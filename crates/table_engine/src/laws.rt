@@ -80,9 +80,9 @@ pub fn players_of_a_hand()
         → map (λ player. player.seat) (players_after hand) ≡ map (λ player. player.seat) hand.start.seats }
     ensures stacks { (hand : HandTerms) → map (λ player. player.stack) (players_after hand) ≡ stacks_after_hand hand }
     ensures whole { (hand : HandTerms) → IsLawfulStart hand.start → IsLawfulPlay hand
-        → list_all (λ player. player.stack % hand.start.unit == 0) (players_after hand) ≡ true }
+        → list_all (λ player. player.stack % hand.start.blind.unit == 0) (players_after hand) ≡ true }
     ensures playable { (hand : HandTerms) → IsLawfulStart hand.start → IsLawfulPlay hand → is_won_by_folds hand ≡ true
-        → have_playable_stacks hand.start.unit (players_after hand) ≡ true }
+        → have_playable_stacks hand.start.blind.unit (players_after hand) ≡ true }
 {}
 
 /// Says that a hand that is over and not won by folds comes to a showdown: a live player has put in chips, so that each

@@ -33,7 +33,7 @@ use Rattle.tournament_rules.proofs.KeptUnits.{keeps-set, starts_kept, units_kept
 -- The payees are a start's players with other stacks, of the same sum, that are multiples of the unit.
 pub record GoBackTo (start : HandStart) (payees : List StartSeat) : Type 0 where
   pub same : map without_stack payees ≡ map without_stack start.seats
-  pub whole : list_all (λ payee. payee.stack % start.unit == 0) payees ≡ true
+  pub whole : list_all (λ payee. payee.stack % start.blind.unit == 0) payees ≡ true
   pub kept : chips_of payees ≡ chips_of start.seats
 
 numbers_without : (starters : List StartSeat) → numbers_of (map without_stack starters) ≡ numbers_of starters
@@ -105,7 +105,7 @@ valid_closed book table start payees busts group accepted valid is back once gro
     let last : table ≤ length tables = omega (arith, range.1, count, size) in
     let keeps = keeps-set tables table status range.0 last refl refl in
     let stays : 1 ≤ count_at
-    (who_stay table players) table = somebody_stays table book.seating.players payees start.unit
+    (who_stay table players) table = somebody_stays table book.seating.players payees start.blind.unit
     start.seats apart those began.lawful.stacks began.lawful.two back.kept in
     record {
       plan = valid.plan;
@@ -269,7 +269,7 @@ valid_void_at book table valid = by_start (start_at book.started table) refl
     by_start None is = valid
     by_start (Some start) is =
         let began = valid.hands.starts table start is in
-        let parts = playable_parts start.unit start.seats began.lawful.stacks in
+        let parts = playable_parts start.blind.unit start.seats began.lawful.stacks in
         valid_ended book table start start.seats valid is
         (record { same = refl; whole = parts.1; kept = refl }) parts.0
 

@@ -78,7 +78,7 @@ pub record IsStartAt (plan : PlanTerms) (tables : List TableStatus) (table : ℕ
   pub here : start.table ≡ table
   pub lawful : IsLawfulStart start
   pub seats : start.seat_count ≡ plan.seats
-  pub unit : start.unit ≡ (status_at tables table).unit
+  pub unit : start.blind.unit ≡ (status_at tables table).unit
 
 -- The starts that are out are lawful, and their players sit at their tables.
 pub record AreStarted (plan : PlanTerms) (tables : List TableStatus) (players : List Seated) (started : List (Option HandStart))

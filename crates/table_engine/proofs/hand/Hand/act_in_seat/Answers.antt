@@ -24,7 +24,8 @@ overflow_sub-put_in c =
     let streets = streets_of hand in
     let at = c.self.invariant.at in
     let acted = c.take.ensures.at streets at in
-    let free : refusal_in_seat hand c.args.act c.args.seat ≡ None = rw (← at.round) c.in_ok-done.ensures.ok in
+    let free : refusal_in_seat hand c.args.act c.args.seat ≡ None =
+    rw (← at.round) (c.in_ok-done.ensures.ok streets at) in
     let tells = act-tells hand c.args.seat c.args.act c.self.invariant.lawful c.self.invariant.played free in
     let after : c.facing.result.put ≡ (facing_in (street_of hand) c.args.seat).put + tells.0 =
     ap (λ (f : Facing). f.put) c.facing.ensures ∙ ap (λ (s : Street). (facing_in s c.args.seat).put) acted.round
@@ -39,7 +40,8 @@ tell-requires c =
     let streets = streets_of hand in
     let at = c.self.invariant.at in
     let acted = c.take.ensures.at streets at in
-    let free : refusal_in_seat hand c.args.act c.args.seat ≡ None = rw (← at.round) c.in_ok-done.ensures.ok in
+    let free : refusal_in_seat hand c.args.act c.args.seat ≡ None =
+    rw (← at.round) (c.in_ok-done.ensures.ok streets at) in
     let tells = act-tells hand c.args.seat c.args.act c.self.invariant.lawful c.self.invariant.played free in
     let after : c.facing.result.put ≡ (facing_in (street_of hand) c.args.seat).put + tells.0 =
     ap (λ (f : Facing). f.put) c.facing.ensures ∙ ap (λ (s : Street). (facing_in s c.args.seat).put) acted.round
@@ -64,7 +66,8 @@ invariant_of-self-2 c =
     let found : seat_of_name c.self.inside.start c.args.name ≡ Some c.args.seat = rw (← c.self.view_is) at c.requires.seat in
     let act : ActOf = record { name = c.args.name; act = c.args.act; by_time = c.args.by_time } in
     let more = streets-more c.self.inside.start c.self.inside.acts act c.args.seat found in
-    let free : refusal_in_seat hand c.args.act c.args.seat ≡ None = rw (← at.round) c.in_ok-done.ensures.ok in
+    let free : refusal_in_seat hand c.args.act c.args.seat ≡ None =
+    rw (← at.round) (c.in_ok-done.ensures.ok streets at) in
     let refused : refusal_of_act hand c.args.name c.args.act ≡ None =
     refused-in_seat hand c.args.name c.args.act c.args.seat found ∙ free in
     let tells = act-tells hand c.args.seat c.args.act c.self.invariant.lawful c.self.invariant.played free in
