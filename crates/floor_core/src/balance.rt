@@ -1,6 +1,7 @@
 //! Two tables are balanced.
 
 ghost use Rattle.std.specs.Prelude.{◌≡◌, ◌<◌, ◌≤◌, ◌^◌, ◌&&◌, ◌++◌, ◌∷◌, [], not, Some, None, option_map, IfOk, OnOk, OnErr};
+ghost use Rattle.rulebook.specs.Limits.{most_entries};
 ghost use Rattle.rulebook.specs.Checks.{IsChecked};
 ghost use Rattle.seat_book.specs.Places.{IsTableOf, IsPlaceOf};
 ghost use Rattle.seat_book.specs.Players.{player_at, player_of};
@@ -17,7 +18,6 @@ use crate::book::Book;
 use crate::moving::reseat;
 use balance_rule::{Move, balance_order};
 use floor_text::Refusal;
-use rulebook::MOST_ENTRIES;
 use seat_book::{SeatBook, Seated};
 
 /// The two tables of a balance, which are open.
@@ -34,7 +34,7 @@ fn mover(seats: &SeatBook, move_: Move) -> Seated
     requires within { IsPlaceOf seats.now.table_count seats.now.seat_count move_.from }
     requires sits { option_map (λ seated. seated.player) (player_at seats.now.players move_.from) ≡ Some move_.player }
     ensures player { player_at seats.now.players move_.from ≡ Some result }
-    ensures entry { result.player < MOST_ENTRIES }
+    ensures entry { result.player < most_entries }
     ensures number { result.player ≡ move_.player }
     ensures place { result.place ≡ move_.from }
 {

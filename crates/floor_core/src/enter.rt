@@ -1,6 +1,7 @@
 //! A player enters.
 
 ghost use Rattle.std.specs.Prelude.{◌≡◌, ◌<◌, ◌≤◌, ◌^◌, ◌++◌, ◌∷◌, [], ◌&&◌, nat_lt, false, length, is_some, IfSome, IfOk, OnOk, OnErr};
+ghost use Rattle.rulebook.specs.Limits.{most_entries};
 ghost use Rattle.rulebook.specs.Checks.{IsChecked, first_that_holds};
 ghost use Rattle.entry_list.specs.Entries.{is_known};
 ghost use Rattle.seat_book.specs.Places.{IsTableOf, IsPlaceOf};
@@ -15,7 +16,6 @@ use crate::BookFault;
 use crate::book::Book;
 use entry_list::{EntryFault, EntryList};
 use floor_text::{Name, Refusal};
-use rulebook::MOST_ENTRIES;
 use seat_book::Place;
 
 /// Adds the name of a newcomer to the list, where there is room, and gives his number.
@@ -23,7 +23,7 @@ fn enlist(entries: &mut EntryList, name: Name) -> Result<u32, BookFault>
     requires { is_known entries.old name ≡ false }
     ensures answer { IsAnswer (first_that_holds (room_checks entries.old)) result }
     ensures number { IfOk result (λ player. player ≡ length entries.old) }
-    ensures entry { IfOk result (λ player. player < MOST_ENTRIES) }
+    ensures entry { IfOk result (λ player. player < most_entries) }
     ensures state { OnOk result (entries.new ≡ entries.old ++ name ∷ []) }
     ensures err { OnErr result (entries.new ≡ entries.old) }
 {

@@ -9,7 +9,7 @@ use Rattle.std.specs.Option.{IfSome}
 use Rattle.std.proofs.lemmas.Bool.Decides.{nat_tests}
 use Rattle.std.proofs.lemmas.List.Splits.{join_with_byte-slice_split}
 use Rattle.std.proofs.lemmas.Slice.Eq.{bytes_eq-Decides}
-use Rattle.floor_text.specs.declared.limits.TheConstants.{LONGEST_LINE}
+use Rattle.floor_text.specs.Limits.{longest_line}
 use Rattle.floor_text.specs.Lines.{HasNoFeed}
 use Rattle.card_set.proofs.Steps.{map_found}
 use Rattle.level_plan.specs.declared.line.PlanLine.TheVariants as lines
@@ -17,7 +17,7 @@ use Rattle.floor_events.specs.declared.event.Event.{Event}
 use Rattle.floor_events.specs.declared.event.Event.TheVariants as events
 use Rattle.floor_events.specs.declared.event.Item.{Item}
 use Rattle.floor_events.specs.declared.event.Item.TheVariants as found
-use Rattle.level_plan.specs.declared.bounds.TheConstants.{MOST_SHARES}
+use Rattle.level_plan.specs.Limits.{most_shares}
 use Rattle.line_words.specs.Limits.{most_members}
 use Rattle.line_words.specs.Words.{words_of_line}
 use Rattle.line_words.specs.Fields.{name_of, place_of, place_text, members_of, list_text}
@@ -31,7 +31,7 @@ use Rattle.line_words.proofs.Spaces.{is_word, words_lack, pieces_again, line_no_
 -- the shares of the prizes
 shares_rest : IsRest shares_of (map decimal) AreLineShares
 unfolding shares_of
-shares_rest = few_rest number_field MOST_SHARES
+shares_rest = few_rest number_field most_shares
 
 -- the places of a list
 places_field : IsField (members_of most_members place_of) (list_text place_text) AreLinePlaces
@@ -211,13 +211,13 @@ pub line_found : (line : List ℕ) (item : Item) → item_of_bytes line ≡ Some
     × (line ≡ item_text item)
 unfolding item_of_bytes item_of_words
 line_found line item h =
-    let test = test_found (leb (length line) LONGEST_LINE) (item_of_words (words_of_line line)) item h in
+    let test = test_found (leb (length line) longest_line) (item_of_words (words_of_line line)) item h in
     let read = map_found found.Event (event_of_words (words_of_line line)) item test.1 in
     let spelled = words_found (words_of_line line) read.0 read.1 in
     let text : line ≡ event_text read.0 = sym (join_with_byte-slice_split 32 line)
     ∙ ap (join_with_byte 32) spelled.spelling in
-    let short : length line ≤ LONGEST_LINE = grind (arith, nat_tests, test.0) in
-    let few : length (event_text read.0) ≤ LONGEST_LINE = subst (λ (l : List ℕ). length l ≤ LONGEST_LINE) text short in
+    let short : length line ≤ longest_line = grind (arith, nat_tests, test.0) in
+    let few : length (event_text read.0) ≤ longest_line = subst (λ (l : List ℕ). length l ≤ longest_line) text short in
     subst (λ (i : Item). IsWritable i × (line ≡ item_text i)) read.2 ((spelled.parts, few), text)
 
 -- what is read from a line, if something is, is writable and spelled so
@@ -230,5 +230,5 @@ found_in_line line (Some item) same = line_found line item (sym same)
 pub line_again : (item : Item) → IsWritable item → item_of_bytes (item_text item) ≡ Some item
 unfolding item_of_bytes item_of_words
 line_again (found.Event event) writable =
-    let short : leb (length (event_text event)) LONGEST_LINE ≡ true = grind (arith, nat_tests, writable.1) in
+    let short : leb (length (event_text event)) longest_line ≡ true = grind (arith, nat_tests, writable.1) in
     rw (short, words_of_text event writable.0) (ap (option_map found.Event) (again event writable.0))

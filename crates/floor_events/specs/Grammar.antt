@@ -2,7 +2,7 @@
 use Rattle.std.specs.Prelude.{ℕ, nat_le, List, [], ◌∷◌, ◌++◌, length, codes, Option, None, option_map, option_and_then, if◌then◌else◌}
 use Rattle.std.specs.Bool.{then_some}
 use Rattle.std.specs.Str.{bytes_eq}
-use Rattle.floor_text.specs.declared.limits.TheConstants.{LONGEST_LINE}
+use Rattle.floor_text.specs.Limits.{longest_line}
 use Rattle.floor_text.specs.Numbers.{number_of}
 use Rattle.card_set.specs.Cards.{row_of}
 use Rattle.level_plan.specs.declared.line.PlanLine.TheVariants as lines
@@ -10,7 +10,7 @@ use Rattle.floor_events.specs.declared.event.Event.{Event}
 use Rattle.floor_events.specs.declared.event.Event.TheVariants as events
 use Rattle.floor_events.specs.declared.event.Item.{Item}
 use Rattle.floor_events.specs.declared.event.Item.TheVariants as found
-use Rattle.level_plan.specs.declared.bounds.TheConstants.{MOST_SHARES}
+use Rattle.level_plan.specs.Limits.{most_shares}
 use Rattle.line_words.specs.Limits.{most_members}
 use Rattle.line_words.specs.Words.{words_of_line, no_word}
 use Rattle.line_words.specs.Fields.{game_of, switch_of, name_of, next_by, last_by, act_of, few_of, place_of, members_of}
@@ -39,7 +39,7 @@ fields3 first second last make words =
 
 -- the shares that the words left are: 1 to 64 numbers
 unfoldable pub shares_of : List (List ℕ) → Option (List ℕ)
-shares_of words = few_of MOST_SHARES number_of words
+shares_of words = few_of most_shares number_of words
 
 -- the rows of the events that hold a list, for which memory is wanted
 abbrev pub list_rows : List (List ℕ × Reader)
@@ -101,4 +101,4 @@ item_of_words words = option_map found.Event (event_of_words words)
 
 -- the item of a line of at most 400 bytes, or None where the line is not in the grammar
 unfoldable pub item_of_bytes : List ℕ → Option Item
-item_of_bytes line = if nat_le (length line) LONGEST_LINE then item_of_words (words_of_line line) else None
+item_of_bytes line = if nat_le (length line) longest_line then item_of_words (words_of_line line) else None

@@ -2,14 +2,14 @@
 use Rattle.std.specs.Prelude.{ℕ, Bool, true, false, ◌≤◌, IsTrue, List, [], ◌∷◌, ◌++◌, length, map, codes, Option, Some, None}
 use Rattle.std.specs.List.{flat_map, join_with_byte, AllByRecursion}
 use Rattle.std.specs.Fmt.{decimal}
-use Rattle.floor_text.specs.declared.limits.TheConstants.{LONGEST_LINE}
+use Rattle.floor_text.specs.Limits.{longest_line}
 use Rattle.floor_text.specs.Names.{is_name}
 use Rattle.floor_text.specs.Numbers.{IsLineNumber}
 use Rattle.floor_text.specs.Refusals.{refusal_number, refusal_name}
 use Rattle.card_set.specs.declared.game.Game.{Game}
 use Rattle.card_set.specs.declared.game.Game.TheVariants.{Holdem, Omaha, Hilo}
 use Rattle.card_set.specs.Cards.{row_text}
-use Rattle.level_plan.specs.declared.bounds.TheConstants.{MOST_SHARES}
+use Rattle.level_plan.specs.Limits.{most_shares}
 use Rattle.level_plan.specs.declared.line.PlanItem.{PlanItem}
 use Rattle.level_plan.specs.declared.line.PlanItem.TheVariants as items
 use Rattle.level_plan.specs.declared.line.PlanLine.{PlanLine}
@@ -84,7 +84,7 @@ item_text (found.Event event) = event_text event
 
 -- 1 to 64 numbers stand in a line of shares
 abbrev pub AreLineShares : List ℕ → Type 0
-AreLineShares shares = AreFew MOST_SHARES IsLineNumber shares
+AreLineShares shares = AreFew most_shares IsLineNumber shares
 
 -- 1 to 10 places stand in a list, each with the number of one of 64 tables and of one of 10 seats
 abbrev pub AreLinePlaces : List Place → Type 0
@@ -124,7 +124,7 @@ HasLineParts events.Stop = Unit {0}
 
 -- An event is writable where its parts are such as a line may hold and its text has at most 400 bytes.
 abbrev pub IsWritableEvent : Event → Type 0
-IsWritableEvent event = HasLineParts event × (length (event_text event) ≤ LONGEST_LINE)
+IsWritableEvent event = HasLineParts event × (length (event_text event) ≤ longest_line)
 
 -- An item is writable where its event is.
 abbrev pub IsWritable : Item → Type 0

@@ -7,7 +7,7 @@ use Rattle.floor_text.specs.Reading.{Reading, bytes_ahead}
 use Rattle.tournament_rules.specs.States.{State, first_state}
 use Rattle.floor_offline.specs.declared.fault.Fault.{Fault}
 use Rattle.floor_offline.specs.declared.fault.Fault.TheVariants as faults
-use Rattle.floor_offline.specs.declared.replay.TheConstants.{INPUT_LIMIT}
+use Rattle.floor_offline.specs.Limits.{input_limit}
 use Rattle.floor_offline.specs.Endings.{fault_status}
 use Rattle.floor_offline.specs.Replay.{final_text, replay_text}
 use Rattle.floor_offline.specs.Promise.{whole_text, Keeps, Counts, GivesMore}
@@ -18,7 +18,7 @@ pub record IsRunning (first_whole whole first_left left : Option (List ℕ))
     (taken limit first_input input first_out out accepted ahead : ℕ) : Type 0 where
   pub keeps : Keeps first_whole whole
   pub counts : Counts first_left left taken
-  pub at_limit : limit ≡ INPUT_LIMIT
+  pub at_limit : limit ≡ input_limit
   pub input_later : first_input ≤ input
   pub out_later : first_out ≤ out
   pub few : accepted + ahead ≤ limit + 1
@@ -39,7 +39,7 @@ counts_first (Some bytes) = omega arith
 
 -- so it is before the first line, with a reader that took nothing and the first state
 pub starts : (left written : Option (List ℕ)) (reader : Reading) (state : State) (input out : ℕ)
-    → reader ≡ record { held = []; line = []; taken = 0; limit = INPUT_LIMIT } → state ≡ first_state
+    → reader ≡ record { held = []; line = []; taken = 0; limit = input_limit } → state ≡ first_state
     → IsRunning (whole_text first_state [] left written) (whole_text state reader.held left written) left left
     reader.taken reader.limit input input out out state.accepted (bytes_ahead reader)
 starts left written reader state input out new first =
@@ -62,8 +62,8 @@ ends (Some bytes) (Some more) rest taken counts end = end
 
 -- at the end as many bytes were taken as there were
 pub within_at_end : (first left rest : Option (List ℕ)) (taken taken_at_end limit : ℕ) → Counts first left taken
-    → IfSome left (λ _. rest ≡ Some []) → Counts first rest taken_at_end → limit ≡ INPUT_LIMIT → taken_at_end ≤ limit
-    → IfSome first (λ bytes. length bytes ≤ INPUT_LIMIT)
+    → IfSome left (λ _. rest ≡ Some []) → Counts first rest taken_at_end → limit ≡ input_limit → taken_at_end ≤ limit
+    → IfSome first (λ bytes. length bytes ≤ input_limit)
 within_at_end None left rest taken taken_at_end limit counts end counted at_limit within = tt
 within_at_end (Some bytes) None rest taken taken_at_end limit counts end counted at_limit within = absurd counts
 within_at_end (Some bytes) (Some more) rest taken taken_at_end limit counts end counted at_limit within =
@@ -72,8 +72,8 @@ within_at_end (Some bytes) (Some more) rest taken taken_at_end limit counts end 
     omega (arith, all, at_limit, within)
 
 -- more bytes were taken than the limit
-pub gives_more : (first left : Option (List ℕ)) (taken limit : ℕ) → Counts first left taken → limit ≡ INPUT_LIMIT
-    → limit < taken → GivesMore INPUT_LIMIT first left
+pub gives_more : (first left : Option (List ℕ)) (taken limit : ℕ) → Counts first left taken → limit ≡ input_limit
+    → limit < taken → GivesMore input_limit first left
 gives_more None left taken limit counts at_limit more = tt
 gives_more (Some bytes) None taken limit counts at_limit more = absurd counts
 gives_more (Some bytes) (Some rest) taken limit counts at_limit more = omega (arith, counts, at_limit, more)
@@ -131,12 +131,12 @@ status_of_fault faults.InputTooLong = (5, omega arith, refl)
 
 -- a run that ended well, or for want of memory, needs no more
 pub ended : (status : ℕ) (left : Option (List ℕ)) → (status ≡ 0) ⊎ (status ≡ 5)
-    → IfSome left (λ bytes. length bytes ≤ INPUT_LIMIT → (status ≡ 0) ⊎ (status ≡ 5))
+    → IfSome left (λ bytes. length bytes ≤ input_limit → (status ≡ 0) ⊎ (status ≡ 5))
 ended status None how = tt
 ended status (Some bytes) how = λ within. how
 
-too_long_alone : (left rest : Option (List ℕ)) (P : Type 0) → GivesMore INPUT_LIMIT left rest
-    → IfSome left (λ bytes. length bytes ≤ INPUT_LIMIT → P)
+too_long_alone : (left rest : Option (List ℕ)) (P : Type 0) → GivesMore input_limit left rest
+    → IfSome left (λ bytes. length bytes ≤ input_limit → P)
 too_long_alone None rest P more = tt
 too_long_alone (Some bytes) None P more = absurd more
 too_long_alone (Some bytes) (Some left) P more = λ within. absurd (omega (arith, more, within))
@@ -144,9 +144,9 @@ too_long_alone (Some bytes) (Some left) P more = λ within. absurd (omega (arith
 -- a fault that has its cause can be none but want of memory, where there was no other cause
 pub memory_alone : (fault : Fault) (left rest : Option (List ℕ)) (read write : Type 0)
     → (fault ≡ faults.Usage → ⊥) → (fault ≡ faults.Read → read) → (fault ≡ faults.Write → write)
-    → (fault ≡ faults.InputTooLong → GivesMore INPUT_LIMIT left rest)
+    → (fault ≡ faults.InputTooLong → GivesMore input_limit left rest)
     → (read → ⊥) → (write → ⊥)
-    → IfSome left (λ bytes. length bytes ≤ INPUT_LIMIT → (fault_status fault ≡ 0) ⊎ (fault_status fault ≡ 5))
+    → IfSome left (λ bytes. length bytes ≤ input_limit → (fault_status fault ≡ 0) ⊎ (fault_status fault ≡ 5))
 memory_alone faults.Usage left rest read write usage reads writes more no_read no_write = absurd (usage refl)
 memory_alone faults.Read left rest read write usage reads writes more no_read no_write = absurd (no_read (reads refl))
 memory_alone faults.Write left rest read write usage reads writes more no_read no_write =

@@ -7,7 +7,7 @@ use native.Mathlib.Decide.{ℕ_discrete}
 use Rattle.atomic_table.proofs.Lists.{set_here, set_else}
 use Rattle.history_lock.specs.declared.view.Share.{Share}
 use Rattle.history_lock.specs.declared.view.View.{View}
-use Rattle.history_lock.specs.declared.grows.TheConstants.{OPENER}
+use Rattle.history_lock.specs.Limits.{opener}
 use Rattle.history_lock.specs.Entries.{entries_by}
 use Rattle.history_lock.specs.Views.{Each, AtLeastOne, HasView, waiting, share_count}
 use Rattle.history_lock.specs.Rule.{TicketsAreInRange, NowIsLongest, IsKeptShare, NumbersAreKept, OneIsServed, SpentIsIdle}
@@ -125,7 +125,7 @@ module _ {E : Type 0} where
       → HasView views id v → v.shares ≡ x ∷ [] → w.shares ≡ y ∷ [] → y.number ≡ x.number
       → y.own ≡ entries_by caller_of x.number now'
       → ((k : ℕ) → x.number ≢ k → entries_by caller_of k now' ≡ entries_by caller_of k now)
-      → Each (λ (e : E). (caller_of e < n) ⊎ (caller_of e ≡ OPENER)) now'
+      → Each (λ (e : E). (caller_of e < n) ⊎ (caller_of e ≡ opener)) now'
       → NumbersAreKept caller_of n now keeper views → NumbersAreKept caller_of n now' keeper (set views id w)
   numbers_stay caller_of n now now' keeper views id v w x y at has has' number own rest all r =
       let P : ℕ → Share E → Type 0 = IsKeptShare caller_of n now keeper in

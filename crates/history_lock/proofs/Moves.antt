@@ -12,7 +12,7 @@ use Rattle.atomic_table.specs.Table.{State, Me, step, keeps, takes, gives, Allow
 use Rattle.atomic_table.proofs.Lists.{set_here, set_again}
 use Rattle.history_lock.specs.declared.view.Share.{Share}
 use Rattle.history_lock.specs.declared.view.View.{View}
-use Rattle.history_lock.specs.declared.grows.TheConstants.{OPENER}
+use Rattle.history_lock.specs.Limits.{opener}
 use Rattle.history_lock.specs.Entries.{entries_by}
 use Rattle.history_lock.specs.Views.{Each, HasView, first_share}
 use Rattle.history_lock.specs.Rule.{IsKept, IsKeptShare, SlotIsRight, OneIsServed}
@@ -208,7 +208,7 @@ module _ {Val E : Type 0} (history : Val → List E) (caller_of : E → ℕ) (n 
       ∙ (sym (entries_by_grown caller_of x.number r.now added theirs)
       ∙ ap (entries_by caller_of x.number) (sym whole))) in
       let known : v.known ≤ length left = omega (arith, r.longest.known id v at, prefix_length r.now left longer) in
-      let Fits : E → Type 0 = λ e. (caller_of e < n) ⊎ (caller_of e ≡ OPENER) in
+      let Fits : E → Type 0 = λ e. (caller_of e < n) ⊎ (caller_of e ≡ opener) in
       let all : Each Fits left = subst (Each Fits) (sym whole) (each_append Fits r.now added r.numbers.others
       (each_map (λ e. caller_of e ≡ x.number) Fits added (λ e h. inl (subst (λ k. k < n) (sym h) mine.0)) theirs)) in (
         w,

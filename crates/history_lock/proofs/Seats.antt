@@ -9,7 +9,7 @@ use Rattle.atomic_table.specs.Table.{State, step, keeps, Allows, Enters, Splits,
 use Rattle.atomic_table.proofs.Lists.{set_here, set_else, set_again, at_longer, at_last}
 use Rattle.history_lock.specs.declared.view.Share.{Share}
 use Rattle.history_lock.specs.declared.view.View.{View}
-use Rattle.history_lock.specs.declared.grows.TheConstants.{OPENER}
+use Rattle.history_lock.specs.Limits.{most_passes, opener}
 use Rattle.history_lock.specs.Entries.{entries_by}
 use Rattle.history_lock.specs.Views.{Each, AtLeastOne, HasView, share_count, view_of, spent_view, shares_from, opening_view, further_shares, only_first}
 use Rattle.history_lock.specs.Rule.{IsKept, IsKeptShare, NowIsLongest, NumbersAreKept}
@@ -351,8 +351,9 @@ module _ {Val E : Type 0} (history : Val → List E) (caller_of : E → ℕ) (n 
       }
 
   -- each share has its number, and all of them are those from k on
-  pub opens : (seen : List E) (count : ℕ) (val : Val) → 0 < n → n ≤ 256 → history val ≡ seen → count ≡ length seen
-      → count < 2 ^ 64 → Each (λ e. caller_of e ≡ OPENER) seen
+  pub opens : (seen : List E) (count : ℕ) (val : Val) → 0 < n → n ≤ most_passes → history val ≡ seen
+      → count ≡ length seen
+      → count < 2 ^ 64 → Each (λ e. caller_of e ≡ opener) seen
       → Rule (opening (0 ∷ 0 ∷ count ∷ 0 ∷ []) (Some val ∷ []) (opening_view n seen))
   opens seen count val some_pass limit is counts fits theirs = record {
     now = seen;
@@ -380,7 +381,7 @@ module _ {Val E : Type 0} (history : Val → List E) (caller_of : E → ℕ) (n 
       own = λ j a h. subst (λ (t : ℕ × View E). Each (Owned seen (λ _. 0) t.0) t.1.shares)
           (λ i. (sym (only j a h).0 i, (only j a h).3 i)) (all_owned n 0 (omega arith));
       once = sum_by_one ∙ length-shares_from n 0;
-      others = each_map (λ e. caller_of e ≡ OPENER) (λ e. (caller_of e < n) ⊎ (caller_of e ≡ OPENER)) seen
+      others = each_map (λ e. caller_of e ≡ opener) (λ e. (caller_of e < n) ⊎ (caller_of e ≡ opener)) seen
           (λ e h. inr h) theirs;
     };
     served = record {
@@ -416,9 +417,9 @@ module _ {Val E : Type 0} (history : Val → List E) (caller_of : E → ℕ) (n 
       has_number (suc m) k i ge lt =
           dite (ℕ_discrete k i) (λ e. inl e) (λ ne. inr (has_number m (k + 1) i (omega arith) (omega arith)))
 
-      no_entry : (k : ℕ) → k < n → (log : List E) → Each (λ e. caller_of e ≡ OPENER) log
+      no_entry : (k : ℕ) → k < n → (log : List E) → Each (λ e. caller_of e ≡ opener) log
           → [] ≡ entries_by caller_of k log
-      no_entry k lt log all = sym (entries_by_other caller_of OPENER k log (λ e. omega arith) all)
+      no_entry k lt log all = sym (entries_by_other caller_of opener k log (λ e. omega arith) all)
 
       all_owned : (m k : ℕ) → k + m ≤ n → Each (Owned seen (λ _. 0) 0) (shares_from k m seen)
       all_owned zero k le = tt

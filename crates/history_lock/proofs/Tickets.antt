@@ -8,6 +8,7 @@ use native.Mathlib.Decide.{ℕ_discrete}
 use Rattle.atomic_table.proofs.Lists.{set_else, at_longer, one_turn}
 use Rattle.history_lock.specs.declared.view.Share.{Share}
 use Rattle.history_lock.specs.declared.view.View.{View}
+use Rattle.history_lock.specs.Limits.{most_passes}
 use Rattle.history_lock.specs.Views.{Each, HasView, waiting, share_count}
 use Rattle.history_lock.specs.Rule.{TicketsAreInRange, OneIsServed, SlotIsRight, SpentIsIdle}
 use Rattle.history_lock.proofs.Lists.{each_set, at_push, sum_by_lt}
@@ -22,7 +23,7 @@ pub mod-shift : (s i : ℕ) → (s + (i + 1)) % 2 ^ 64 ≡ ((s + 1) % 2 ^ 64 + i
 mod-shift s i = omega arith
 
 -- two numbers of a short range are apart
-pub places_differ : (s i k : ℕ) → i < k → k ≤ 256 → (s + i) % 2 ^ 64 ≡ (s + k) % 2 ^ 64 → ⊥
+pub places_differ : (s i k : ℕ) → i < k → k ≤ most_passes → (s + i) % 2 ^ 64 ≡ (s + k) % 2 ^ 64 → ⊥
 places_differ s i k lt few e = let same : s + i ≡ s + k =
     one_turn (s + i) (s + k) 18446744073709551616 (omega arith) (omega arith) e in omega arith
 
@@ -49,7 +50,7 @@ module _ {E : Type 0} where
   -- a view draws the next ticket
   pub tickets_drawn : (n ticket serving found : ℕ) (views : List (View E)) (id : ℕ) (v w : View E) → HasView views id v
       → v.ticket ≡ None → w.ticket ≡ Some found → found ≡ ticket
-      → n ≤ 256 → waiting views < n → TicketsAreInRange n ticket serving views
+      → n ≤ most_passes → waiting views < n → TicketsAreInRange n ticket serving views
       → TicketsAreInRange n ((found + 1) % 2 ^ 64) serving (set views id w)
   tickets_drawn n ticket serving found views id v w at idle drew is limit room r =
       let one_if : Option ℕ → ℕ = λ t. cond (is_some t) 1 0 in

@@ -5,7 +5,7 @@ use mathlib.Core.List.{IsPrefix}
 use Rattle.atomic_table.specs.Table.{State}
 use Rattle.history_lock.specs.declared.view.Share.{Share}
 use Rattle.history_lock.specs.declared.view.View.{View}
-use Rattle.history_lock.specs.declared.grows.TheConstants.{OPENER}
+use Rattle.history_lock.specs.Limits.{most_passes, opener}
 use Rattle.history_lock.specs.Entries.{entries_by}
 use Rattle.history_lock.specs.Views.{Each, AtLeastOne, HasView, waiting, share_count}
 
@@ -45,7 +45,7 @@ module _ {E : Type 0} where
         × AtLeastOne (λ (x : Share E). x.number ≡ k) v.shares
     pub own : (j : ℕ) (v : View E) → HasView views j v → Each (IsKeptShare caller_of n now keeper j) v.shares
     pub once : share_count views ≡ n
-    pub others : Each (λ (e : E). (caller_of e < n) ⊎ (caller_of e ≡ OPENER)) now
+    pub others : Each (λ (e : E). (caller_of e < n) ⊎ (caller_of e ≡ opener)) now
 
   -- At most one view is served, and its ticket is the one that is served.
   pub record OneIsServed (serving : ℕ) (views : List (View E)) : Type 0 where
@@ -74,7 +74,7 @@ module _ {E : Type 0} where
     pub serving : ℕ
     pub calls : ℕ
     pub keeper : ℕ → ℕ
-    pub limit : n ≤ 256
+    pub limit : n ≤ most_passes
     pub words : AreWords s.words ticket serving (length now) calls
     pub tickets : TicketsAreInRange n ticket serving s.views
     pub longest : NowIsLongest now s.views

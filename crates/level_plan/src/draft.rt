@@ -2,6 +2,7 @@
 
 ghost use Rattle.std.specs.Prelude.{◌≡◌, ◌<◌, false, true, [], ◌∷◌, ◌++◌, length, IsTrue, OnOk, OnErr, IfOk, IfErr, None};
 ghost use Rattle.level_plan.specs.Items.{is_blind, may_follow, are_shares};
+ghost use Rattle.level_plan.specs.Limits.{most_levels};
 ghost use Rattle.level_plan.specs.Drafts.{empty_draft, is_wrong_line, item_of_line, line_fault, draft_after, go_fault, plan_of, IsFault};
 ghost use Rattle.level_plan.specs.Plans.{is_right};
 
@@ -86,7 +87,7 @@ impl PlanDraft {
 
     /// Adds the next level. Want of memory leaves the draft as it was.
     fn add_level(&mut self, blind: Blind) -> Result<(), AllocError>
-        requires room { length self.old.blinds < MOST_LEVELS }
+        requires room { length self.old.blinds < most_levels }
         requires lawful { is_blind blind ≡ true }
         requires follows { may_follow self.old.blinds blind ≡ true }
         ensures ok { OnOk result (self.new ≡ record self.old { blinds = self.old.blinds ++ blind ∷ [] }) }

@@ -2,7 +2,7 @@
 use Rattle.std.specs.Prelude.{◌≡◌, ◌≤◌, ℕ, Bool, true, false, ◌&&◌, nat_lt, List, [], length, replicate}
 use Rattle.std.specs.List.{list_all, list_any}
 use Rattle.std.specs.Option.{is_some}
-use Rattle.rulebook.specs.declared.limits.TheConstants.{MOST_ENTRIES}
+use Rattle.rulebook.specs.Limits.{most_entries}
 use Rattle.seat_book.specs.declared.seated.Seated.{Seated}
 use Rattle.seat_book.specs.declared.table_status.TableStatus.{TableStatus}
 use Rattle.seat_book.specs.Places.{is_place_of}
@@ -38,7 +38,7 @@ sits_within tables seats seated = is_place_of tables seats seated.place
 
 -- A player's number is one of those of 640 entries, from 0.
 abbrev pub is_entry : Seated → Bool
-is_entry seated = nat_lt seated.player MOST_ENTRIES
+is_entry seated = nat_lt seated.player most_entries
 
 -- What holds of a seating at every moment.
 pub record IsSeating (seating : Seating) : Type 0 where

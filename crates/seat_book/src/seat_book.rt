@@ -2,6 +2,7 @@
 
 ghost use Rattle.std.specs.Prelude.{◌≡◌, ◌<◌, ◌≤◌, ◌*◌, ◌-◌, nat_lt, length, None, Some, IsSome, IfSome, IfOk, option_map};
 ghost use Rattle.std.specs.List.{list_any};
+ghost use Rattle.rulebook.specs.Limits.{most_entries};
 ghost use Rattle.button_blinds.specs.SeatSets.{seat_count, AreSeatsOf};
 ghost use Rattle.seat_book.specs.Places.{IsTableOf, IsPlaceOf};
 ghost use Rattle.seat_book.specs.Players.{players_in, player_at, player_of, place_of, players_at, taken_seats, sit_down, lifted, with_stack};
@@ -116,7 +117,7 @@ impl SeatBook {
 
     /// Seats the player of this number and name, with this stack in chips.
     pub fn seat(&mut self, player: u32, name: Name, place: Place, stack: u64)
-        requires entry { player < MOST_ENTRIES }
+        requires entry { player < most_entries }
         requires place { IsPlaceOf self.old.table_count self.old.seat_count place }
         requires empty { player_at self.old.players place ≡ None }
         requires stands { place_of self.old.players player ≡ None }
@@ -139,7 +140,7 @@ impl SeatBook {
 
     /// Gives the player of this number, who sits.
     fn seated(&self, player: u32) -> Seated
-        requires entry { player < MOST_ENTRIES }
+        requires entry { player < most_entries }
         requires sits { IsSome (place_of self.now.players player) }
         ensures player { player_of self.now.players player ≡ Some result }
         ensures place { IsPlaceOf self.now.table_count self.now.seat_count result.place }
@@ -150,7 +151,7 @@ impl SeatBook {
 
     /// Lifts the player of this number from his seat, and tells where he sat, and his stack in chips.
     pub fn lift(&mut self, player: u32) -> (Place, u64)
-        requires entry { player < MOST_ENTRIES }
+        requires entry { player < most_entries }
         requires sits { IsSome (place_of self.old.players player) }
         ensures same { self.new ≡ record self.old { players = lifted player self.old.players } }
         ensures place { place_of self.old.players player ≡ Some result.0 }
@@ -166,7 +167,7 @@ impl SeatBook {
 
     /// Tells where the player of this number sits, if he does.
     pub fn find(&self, player: u32) -> Option<Place>
-        requires { player < MOST_ENTRIES }
+        requires { player < most_entries }
         ensures place { result ≡ place_of self.now.players player }
         ensures within { IfSome result (IsPlaceOf self.now.table_count self.now.seat_count) }
     {
@@ -178,7 +179,7 @@ impl SeatBook {
         requires { IsPlaceOf self.now.table_count self.now.seat_count place }
         ensures player { result ≡ option_map (λ seated. (seated.player, seated.name, seated.stack))
             (player_at self.now.players place) }
-        ensures entry { IfSome result (λ seated. seated.0 < MOST_ENTRIES) }
+        ensures entry { IfSome result (λ seated. seated.0 < most_entries) }
     {
         let slot = slot_of(place, self.seat_count);
         let seated = self.slots[slot]?;

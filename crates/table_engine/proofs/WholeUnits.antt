@@ -15,7 +15,7 @@ use Rattle.betting_round.specs.ActChecks.{act_checks}
 use Rattle.betting_round.specs.Limits.{Limits}
 use Rattle.betting_round.specs.Running.{amount_of}
 use Rattle.betting_round.proofs.Acted.{Acts, facing_of}
-use Rattle.level_plan.specs.Items.{greatest_amount}
+use Rattle.level_plan.specs.Limits.{greatest_amount}
 use Rattle.table_engine.specs.declared.start.HandStart.{HandStart}
 use Rattle.table_engine.specs.declared.start.StartSeat.{StartSeat}
 use Rattle.table_engine.specs.Starts.{IsLawfulStart, is_playable_stack}

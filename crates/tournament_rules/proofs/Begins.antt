@@ -12,7 +12,7 @@ use Rattle.rulebook.proofs.Found.{none-by_test}
 use Rattle.rulebook.specs.Pairs.{are_distinct}
 use Rattle.rulebook.proofs.Tests.{list_all-filter}
 use Rattle.rulebook.proofs.Pairs.{is_pairwise-filter}
-use Rattle.rulebook.specs.declared.limits.TheConstants.{MOST_ENTRIES}
+use Rattle.rulebook.specs.Limits.{most_entries}
 use Rattle.rulebook.proofs.Checks.{none_holds}
 use Rattle.card_set.specs.declared.card.Card.{Card}
 use Rattle.card_set.specs.declared.card.CardRow.{CardRow}
@@ -105,7 +105,7 @@ all_rest book table valid rests =
     (valid.hands.lent table ∙ ap (λ (start : Option HandStart). map without_stack (starters_of start))
     (none_started book table valid rests))
 
-product_small : (entries stack : ℕ) → entries ≤ MOST_ENTRIES → stack ≤ 1000000000 → entries * stack ≤ 640000000000
+product_small : (entries stack : ℕ) → entries ≤ most_entries → stack ≤ 1000000000 → entries * stack ≤ 640000000000
 product_small entries stack few small = grind arith
 
 -- All chips that were sold and given are far from the end of their type.
@@ -194,11 +194,11 @@ lawful_start book table cards valid may =
           (keys_dealt (λ player. player.player) (λ player. player.player) (λ player. refl) found)
           ∙ is_pairwise-filter (λ one other. not (one == other)) (λ player. player.player)
           (is_dealt_in table waiting) players (numbers_distinct players lawful.apart);
-      entries = list_all-map (λ (player : StartSeat). nat_lt player.player MOST_ENTRIES) start_seat found
-          ∙ (sym (list_all-map (λ number. nat_lt number MOST_ENTRIES) (λ (player : Seated). player.player) found)
-          ∙ list_all-filter (λ number. nat_lt number MOST_ENTRIES) (λ (player : Seated). player.player)
+      entries = list_all-map (λ (player : StartSeat). nat_lt player.player most_entries) start_seat found
+          ∙ (sym (list_all-map (λ number. nat_lt number most_entries) (λ (player : Seated). player.player) found)
+          ∙ list_all-filter (λ number. nat_lt number most_entries) (λ (player : Seated). player.player)
           (is_dealt_in table waiting) players
-          (list_all-map (λ number. nat_lt number MOST_ENTRIES) (λ (player : Seated). player.player) players
+          (list_all-map (λ number. nat_lt number most_entries) (λ (player : Seated). player.player) players
           ∙ lawful.entries));
       names = ap (are_distinct bytes_eq) (keys_dealt (λ player. player.name) (λ player. player.name) (λ player. refl)
           found)

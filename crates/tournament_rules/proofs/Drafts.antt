@@ -6,7 +6,8 @@ use Rattle.std.proofs.lemmas.Bool.Decides.{nat_tests}
 use Rattle.rulebook.proofs.Checks.{none_holds}
 use Rattle.level_plan.specs.declared.line.PlanLine.{PlanLine}
 use Rattle.level_plan.specs.declared.line.PlanLine.TheVariants as lines
-use Rattle.level_plan.specs.Items.{is_between, greatest_amount, is_blind, may_follow, are_levels, are_shares}
+use Rattle.level_plan.specs.Items.{is_between, is_blind, may_follow, are_levels, are_shares}
+use Rattle.level_plan.specs.Limits.{greatest_amount}
 use Rattle.level_plan.specs.Plans.{is_right}
 use Rattle.level_plan.specs.Drafts.{Draft, empty_draft, is_wrong_line, draft_after, plan_of, go_checks, go_fault, is_lawful_if_given, IsLawful}
 use Rattle.level_plan.proofs.Levels.{are_levels_more, level_count_more}

@@ -6,7 +6,7 @@ use Rattle.std.proofs.lemmas.Bool.{eqb-true, not-true}
 use Rattle.std.proofs.lemmas.Bool.Decides.{nat_tests}
 use Rattle.std.proofs.lemmas.List.Folds.{Any-from_list_any}
 use Rattle.std.proofs.lemmas.List.Sums.{sum_by_push, count_by-le-length}
-use Rattle.rulebook.specs.declared.limits.TheConstants.{MOST_ENTRIES}
+use Rattle.rulebook.specs.Limits.{most_entries}
 use Rattle.rulebook.proofs.Passing.{count_by-none, not-any}
 use Rattle.rulebook.proofs.Tests.{at_most_one, count_by-cons, list_all-always, none_by_count}
 use Rattle.place_list.specs.declared.bust.Bust.{Bust}
@@ -121,7 +121,7 @@ one_row entries number = at_most_one (nat_lt number (length entries))
 pub record MayLeave (players : List Seated) (busts : List Bust) (number : ℕ) : Type 0 where
   pub sits : is_some (place_of players number) ≡ true
   pub new : list_any (λ bust. bust.player == number) busts ≡ false
-  pub room : length busts < MOST_ENTRIES
+  pub room : length busts < most_entries
 
 found_place : (players : List Seated) (number : ℕ) → list_any (is_numbered number) players ≡ true
     → is_some (place_of players number) ≡ true
@@ -137,7 +137,7 @@ found_place (player ∷ players) number sits = by_test (is_numbered number playe
 
 -- Who sits may leave his seat.
 pub may_leave : (entries : List (List ℕ)) (players : List Seated) (busts : List Bust) (number : ℕ)
-    → AreOnce entries players busts → length entries ≤ MOST_ENTRIES → list_any (is_numbered number) players ≡ true
+    → AreOnce entries players busts → length entries ≤ most_entries → list_any (is_numbered number) players ≡ true
     → MayLeave players busts number
 may_leave entries players busts number once few sits =
     let some = some_counted (is_numbered number) players sits in

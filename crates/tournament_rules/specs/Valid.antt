@@ -6,7 +6,7 @@ use Rattle.std.specs.Str.{bytes_eq}
 use Rattle.rulebook.specs.Pairs.{is_pairwise, are_distinct}
 use Rattle.level_plan.specs.Plans.{PlanTerms, is_right}
 use Rattle.level_plan.specs.Drafts.{IsLawful}
-use Rattle.rulebook.specs.declared.limits.TheConstants.{MOST_ENTRIES}
+use Rattle.rulebook.specs.Limits.{most_entries}
 use Rattle.place_list.specs.declared.bust.Bust.{Bust}
 use Rattle.seat_book.specs.declared.seated.Seated.{Seated}
 use Rattle.seat_book.specs.declared.table_status.TableStatus.{TableStatus}
@@ -46,7 +46,7 @@ AreOnce entries players busts = (number : ℕ)
 -- The entries, the players who sit and those who are out agree.
 pub record AreEntered (entries : List (List ℕ)) (players : List Seated) (busts : List Bust) : Type 0 where
   -- the entry list is not overfull
-  pub few : length entries ≤ MOST_ENTRIES
+  pub few : length entries ≤ most_entries
   -- no two entered under one name
   pub names : are_distinct bytes_eq entries ≡ true
   -- everyone who entered is in or out, once
