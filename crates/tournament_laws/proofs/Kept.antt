@@ -31,7 +31,7 @@ use Rattle.tournament_rules.proofs.Ends.{left-void_first}
 use Rattle.tournament_rules.proofs.Levels.{each_raised}
 use Rattle.tournament_rules.proofs.Rounds.{each_begun}
 use Rattle.tournament_rules.proofs.Steps.{accepted_none, valid_first_state, valid_state_after}
-use Rattle.tournament_rules.proofs.Plays.{some_so}
+use Rattle.tournament_rules.proofs.Plays.{some_so, play_keeps}
 use Rattle.tournament_rules.specs.Valid.{IsValidPlay, IsValidState}
 use Rattle.level_plan.specs.Drafts.{Draft, plan_of}
 
@@ -230,6 +230,17 @@ pub run_keeps_all : (P : PlayState → Type 0) → ((play : PlayState) (event : 
 run_keeps_all P keeps state events play later at after =
     run_keeps P (λ event. false) (λ play event kind free. keeps play event) state events play later at after
     (none_picked state events)
+
+-- What is so of a valid tournament, and stays so at each accepted event, is so after a list of events.
+pub run_keeps_valid : (P : PlayState → Type 0)
+    → ((play : PlayState) (event : Event) → IsValidPlay play → refusal_of play event ≡ None → P play
+    → P (play_effect play event))
+    → (state : State) (events : List Event) (play later : PlayState) → state.play ≡ Some play
+    → (run state events).play ≡ Some later → IsValidPlay play → P play → P later
+run_keeps_valid P keeps state events play later at after valid is =
+    (run_keeps (λ play. IsValidPlay play × P play) (λ event. false)
+    (λ play event kind free both. (play_keeps play event both.0 free, keeps play event both.0 free both.1)) state events
+    play later at after (none_picked state events) (valid, is)).1
 
 -- Once there is a plan, there is one after any events.
 pub run_some : (state : State) (events : List Event) (play : PlayState) → state.play ≡ Some play

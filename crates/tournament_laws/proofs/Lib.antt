@@ -23,3 +23,4 @@ pub mod Counting
 pub mod RaceChips
 pub mod Stacks
 pub mod NoneStuck
+pub mod StaysOver

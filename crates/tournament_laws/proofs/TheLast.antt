@@ -16,7 +16,7 @@ use Rattle.tournament_rules.proofs.Fitting.{chips_of_start}
 use Rattle.tournament_rules.proofs.Paying.{stack_of}
 
 -- Where one player alone is in, no hand is out: two are dealt into one.
-nothing_out : (book : BookState) (table : ℕ) → IsValid book → length book.seating.players ≡ 1
+pub nothing_out : (book : BookState) (table : ℕ) → IsValid book → length book.seating.players ≡ 1
     → start_at book.started table ≡ None
 nothing_out book table valid one = none-found (start_at book.started table) no_start
   where

@@ -19,6 +19,7 @@ ghost use Rattle.tournament_rules.specs.Kinds.{ends_round};
 ghost use Rattle.tournament_laws.specs.Accepted.{is_any_accepted};
 ghost use Rattle.tournament_rules.specs.Valid.{is_bust_of};
 ghost use Rattle.std.specs.Str.{bytes_eq};
+ghost use Rattle.tournament_rules.specs.Checks.{is_over_for_all};
 
 /// Says that after any list of events, lawful or not, the players are listed by table, at one table in rising seat, and
 /// no two of them sit in one seat.
@@ -93,4 +94,15 @@ pub fn a_group_is_of_one_round()
 pub fn no_two_entered_under_one_name()
     ensures { (events : List Event) → ForSome (run first_state events).play (λ play.
         are_distinct bytes_eq play.book.entries ≡ true) }
+{}
+
+/// Says that once the tournament is over it stays over, whatever events follow, with the same last player: he keeps his
+/// seat and his stack.
+pub fn once_over_it_stays_over()
+    ensures over { (before after : List Event) → ForSome (run first_state before).play (λ earlier.
+        is_over_for_all earlier.book ≡ true → ForSome (run (run first_state before) after).play (λ later.
+        is_over_for_all later.book ≡ true)) }
+    ensures player { (before after : List Event) → ForSome (run first_state before).play (λ earlier.
+        is_over_for_all earlier.book ≡ true → ForSome (run (run first_state before) after).play (λ later.
+        later.book.seating.players ≡ earlier.book.seating.players)) }
 {}
