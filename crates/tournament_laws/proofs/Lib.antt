@@ -24,3 +24,4 @@ pub mod RaceChips
 pub mod Stacks
 pub mod NoneStuck
 pub mod StaysOver
+pub mod LaterEntries
