@@ -113,7 +113,7 @@ no_act : (draft : Draft) (count table : ℕ) (act : Event) → act_table act ≡
 no_act draft count table = by_act (λ act. is_accepted (answer_to (unplanned draft count) act) ≡ true → ⊥) table
     (λ name act taken. absurd cc) (λ taken. absurd cc)
 
--- Nor is one directly after the plan is whole, since no hand is out.
+-- Nor is one directly after the plan is whole, since no hand is played.
 no_act_yet : (plan : PlanTerms) (table : ℕ) (act : Event) → is_right plan ≡ true → act_table act ≡ Some table
     → is_accepted (answered (refusal_of (first_play plan) act)) ≡ true → ⊥
 no_act_yet plan table act right at taken =

@@ -214,7 +214,8 @@ none_picked state [] = refl
 none_picked state (event ∷ events) = none_picked (state_after state event) events
 
 -- What stays so at every event is so after a list of events.
-pub run_keeps_all : (P : PlayState → Type 0) → ((play : PlayState) (event : Event) → P play → P (play_effect play event))
+pub run_keeps_all : (P : PlayState → Type 0)
+    → ((play : PlayState) (event : Event) → P play → P (play_effect play event))
     → (state : State) (events : List Event) (play later : PlayState) → state.play ≡ Some play
     → (run state events).play ≡ Some later → P play → P later
 run_keeps_all P keeps state events play later at after =

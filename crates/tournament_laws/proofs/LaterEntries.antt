@@ -5,7 +5,7 @@ use Rattle.place_list.specs.Places.{place_of}
 use Rattle.tournament_rules.specs.Books.{BookState}
 use Rattle.tournament_rules.specs.Effects.{entered}
 use Rattle.tournament_rules.specs.Valid.{IsValid}
-use Rattle.tournament_rules.proofs.Outs.{all-counted}
+use Rattle.tournament_rules.proofs.InOrBust.{all-counted}
 
 -- One player more is in.
 pub one_more_in : (book : BookState) (name : List ℕ) (table seat : ℕ) → IsValid (entered book name table seat)

@@ -25,7 +25,8 @@ picked-sum : (table : ℕ) (players : List Seated)
     ≡ sum_by (λ player. cond {A = ℕ} (sits_at table player) player.stack 0) players
 picked-sum table [] = refl
 picked-sum table (player ∷ players) =
-    by_test (sits_at table player) (sum_by-cons (λ player. cond {A = ℕ} (sits_at table player) player.stack 0) player players)
+    by_test (sits_at table player)
+    (sum_by-cons (λ player. cond {A = ℕ} (sits_at table player) player.stack 0) player players)
     (picked-sum table players)
   where
     by_test : (b : Bool)

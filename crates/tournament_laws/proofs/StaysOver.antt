@@ -27,7 +27,7 @@ use Rattle.tournament_rules.proofs.Begins.{may_begin}
 use Rattle.tournament_rules.proofs.Breaks.{break_passed}
 use Rattle.tournament_rules.proofs.Passed.{passed-parts, act_passed, time_passed, settle_passed, plan_late, go_late}
 use Rattle.tournament_laws.proofs.Kept.{run_keeps_valid}
-use Rattle.tournament_laws.proofs.TheLast.{nothing_out}
+use Rattle.tournament_laws.proofs.TheLast.{none_played}
 
 -- Where the check at an index is that the tournament is over, an event that meets none finds it not over.
 asked_at : (book : BookState) (event : Event) (index : ℕ) → book_refusal book event ≡ None
@@ -37,7 +37,8 @@ asked_at : (book : BookState) (event : Event) (index : ℕ) → book_refusal boo
 unfolding book_refusal
 asked_at book event index none within is =
     let all = none_holds (book_checks book event) none in
-    let his = AllPass-from_list_all (λ (check : Check). not check.1) (book_checks book event) all index (PlanLate, false)
+    let his = AllPass-from_list_all (λ (check : Check). not check.1) (book_checks book event) all index
+    (PlanLate, false)
     within in
     sym is ∙ not-true _ his
 
@@ -76,7 +77,7 @@ module _ (play : PlayState) (valid : IsValidPlay play) (over : is_over_for_all p
   -- No table plays.
   rests : (table : ℕ) → is_playing play.book table ≡ true → ⊥
   rests table playing =
-      let none = ap is_some (nothing_out play.book table valid.book one) in
+      let none = ap is_some (none_played play.book table valid.book one) in
       let stands = valid.book.tables.playing table in
       absurd cc
 
@@ -103,7 +104,7 @@ module _ (play : PlayState) (valid : IsValidPlay play) (over : is_over_for_all p
   void_nothing zero = refl
   void_nothing (suc tables) =
       ap (λ (book : BookState). void_at book (suc tables)) (void_nothing tables)
-      ∙ rw (nothing_out play.book (suc tables) valid.book one) refl
+      ∙ rw (none_played play.book (suc tables) valid.book one) refl
 
   -- Who sits where and who is out stay as they are.
   record StaysSo (later : PlayState) : Type 0 where

@@ -17,7 +17,7 @@ pub use chips::{
     stacks_are_moved_by_their_own_events_alone, the_last_player_has_all_chips,
 };
 pub use hands::{
-    a_table_plays_while_a_hand_is_out, acts_stay_at_their_table, hands_are_lawful_plays,
+    a_table_plays_where_a_hand_has_started, acts_stay_at_their_table, hands_are_lawful_plays,
     hands_are_numbered_as_they_begin, hands_have_their_players, no_hand_gets_stuck,
     nobody_is_dealt_in_at_two_tables, starts_are_lawful,
 };

@@ -29,8 +29,8 @@ pub fn players_are_in_order()
 {}
 
 /// Says that after any list of events, each entered player has exactly one seat or exactly one row of those who are
-/// out, and never both; nobody else has any, so those who are in and those who are out are as many as entered. Who has a
-/// seat sits there under the name with which they entered.
+/// out, and never both; nobody else has any, so those who are in and those who are out are as many as entered. Who has
+/// a seat sits there under the name with which they entered.
 pub fn each_entry_is_in_or_bust()
     ensures one { (events : List Event) → ForSome (run first_state events).play (λ play. (number : ℕ)
         → number < length play.book.entries → count_by (is_numbered number) play.book.seating.players
@@ -41,7 +41,7 @@ pub fn each_entry_is_in_or_bust()
         All (λ player. slice_get play.book.entries player.player ≡ Some player.name) play.book.seating.players) }
 {}
 
-/// Says that after any list of events, who is out has no seat, is in no hand that is out, is dealt into no hand that
+/// Says that after any list of events, who is out has no seat, is in no hand that is played, is dealt into no hand that
 /// begins and makes no act that is accepted. Whatever events follow, he stays out, with the same stack and in the same
 /// group.
 pub fn who_is_bust_stays_bust()
@@ -108,8 +108,8 @@ pub fn once_over_it_stays_over()
         later.book.seating.players ≡ earlier.book.seating.players)) }
 {}
 
-/// Says that after any list of events, an entry that is accepted adds one to the players who are in and leaves those who
-/// are out as they are, so that each of these is placed one lower.
+/// Says that after any list of events, an entry that is accepted adds one to the players who are in and leaves those
+/// who are out as they are, so that each of these is placed one lower.
 pub fn a_later_entry_moves_each_place_by_one()
     ensures players { (before : List Event) (name : List ℕ) (table seat : ℕ)
         → ForSome (run first_state before).play (λ earlier.

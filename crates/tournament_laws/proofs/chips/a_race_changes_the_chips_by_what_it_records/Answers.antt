@@ -9,7 +9,8 @@ use Rattle.tournament_laws.proofs.chips.a_race_changes_the_chips_by_what_it_reco
 pub returns-clause-table : goal.returns-clause-table
 returns-clause-table c = λ before table row earlier is taken.
     after_race (λ later. rest_at later table + (race_at earlier.book.seating table row.cards).removed
-    ≡ rest_at earlier.book table + (race_at earlier.book.seating table row.cards).added) (run first_state before) table row
+    ≡ rest_at earlier.book table + (race_at earlier.book.seating table row.cards).added)
+    (run first_state before) table row
     earlier is taken (race-table earlier.book table row ((valid_events before).play earlier is).book)
 
 pub returns-clause-all : goal.returns-clause-all
