@@ -56,7 +56,8 @@ picked_known : (entries : List (List ℕ)) (name : List ℕ) (test : Seated → 
     → is_known entries name ≡ true
 picked_known entries name test [] named some = absurd cc
 picked_known entries name test (player ∷ players) named some =
-    by_test (test player) some (picked_known entries name test players (All-tail (IsNamed entries) player players named))
+    by_test (test player) some
+    (picked_known entries name test players (All-tail (IsNamed entries) player players named))
   where
     his : bytes_eq player.name name ≡ true → is_known entries name ≡ true
     his same =
@@ -83,7 +84,7 @@ picked_known entries name test (player ∷ players) named some =
     by_test true some others = by_name (bytes_eq player.name name) refl some others
     by_test false some others = others some
 
--- Who is dealt in to a hand that is out entered.
+-- Who is dealt in to a hand that is played has entered.
 dealt_known : (book : BookState) (table : ℕ) (start : HandStart) (name : List ℕ) → IsValid book
     → start_at book.started table ≡ Some start → is_dealt start name ≡ true → is_known book.entries name ≡ true
 dealt_known book table start name valid started dealt =
@@ -123,27 +124,28 @@ may_act play table valid = by_act (λ event. refusal_of play event ≡ None → 
     (time_passed play.book table parts.0).playing
     parts.1)
 
--- What a book has where a hand is out at a table.
-pub record IsHeld (book : BookState) (table : ℕ) (start : HandStart) : Type 0 where
+-- What a book has where a hand is played at a table.
+pub record IsStartedAt (book : BookState) (table : ℕ) (start : HandStart) : Type 0 where
   pub started : start_at book.started table ≡ Some start
   pub there : has_table book table ≡ true
   pub playing : is_playing book table ≡ true
 
--- A hand that is out is at a table of the plan that is played at.
-pub held : (play : PlayState) (table : ℕ) (hand : HandTerms) → IsValidPlay play → hand_at play table ≡ Some hand
-    → IsHeld play.book table hand.start
-held play table hand valid is = by_start (start_at play.book.started table) refl is
+-- A hand that is played is at a table of the plan.
+pub started_at : (play : PlayState) (table : ℕ) (hand : HandTerms) → IsValidPlay play → hand_at play table ≡ Some hand
+    → IsStartedAt play.book table hand.start
+started_at play table hand valid is = by_start (start_at play.book.started table) refl is
   where
     by_start : (start : Option HandStart) → start_at play.book.started table ≡ start
         → option_map (λ start. record { start = start; acts = acts_at play.acts table }) start ≡ Some hand
-        → IsHeld play.book table hand.start
+        → IsStartedAt play.book table hand.start
     by_start None started is = absurd cc
     by_start (Some start) started is =
         let same : start ≡ hand.start = ap (λ (hand : HandTerms). hand.start) (same_Some _ hand is) in
         let found : start_at play.book.started table ≡ Some hand.start = started ∙ ap Some same in
         record {
           started = found;
-          there = table_started play.book.plan play.book.seating play.book.started table hand.start valid.book.tables found;
+          there = table_started play.book.plan play.book.seating play.book.started table hand.start valid.book.tables
+              found;
           playing = valid.book.tables.playing table ∙ ap is_some found;
         }
 
@@ -178,12 +180,12 @@ pub acts_freely : (play : PlayState) (table : ℕ) → IsValidPlay play → (eve
 acts_freely play table valid = by_act (λ event. MayAct play table event → refusal_of play event ≡ None) table
     (λ name act may.
     let event = events.Act table name act in
-    let has = held play table may.hand valid may.started in
+    let has = started_at play table may.hand valid may.started in
     let known = dealt_known play.book table may.hand.start name valid.book has.started
     (act_dealt may.hand table name act may.free) in
     let book = act_free play.book table name act may.going known has.there has.playing in
     refusal-parts play event ∙ rw (book, may.started) may.free)
     (λ may.
-    let has = held play table may.hand valid may.started in
+    let has = started_at play table may.hand valid may.started in
     let book = time_free play.book table may.going has.there has.playing in
     refusal-parts play (events.Time table) ∙ rw (book, may.started) may.free)

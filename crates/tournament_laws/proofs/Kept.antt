@@ -31,7 +31,7 @@ use Rattle.tournament_rules.proofs.Ends.{left-void_first}
 use Rattle.tournament_rules.proofs.Levels.{each_raised}
 use Rattle.tournament_rules.proofs.Rounds.{each_begun}
 use Rattle.tournament_rules.proofs.Steps.{accepted_none, valid_first_state, valid_state_after}
-use Rattle.tournament_rules.proofs.Plays.{some_so}
+use Rattle.tournament_rules.proofs.Plays.{some_so, play_keeps}
 use Rattle.tournament_rules.specs.Valid.{IsValidPlay, IsValidState}
 use Rattle.level_plan.specs.Drafts.{Draft, plan_of}
 
@@ -85,14 +85,9 @@ pub record IsKept (P : TableStatus → Type 0) (hands : Bool) (event : Event) : 
 pub status_kept : (P : TableStatus → Type 0) (book : BookState) (hand : Option HandTerms) (event : Event) (table : ℕ)
     → IsKept P book.seating.hands event → P (status_at book.seating.tables table)
     → P (status_at (book_effect book hand event).seating.tables table)
-status_kept P book hand (events.Plan line) table keeps is = is
-status_kept P book hand events.Go table keeps is = is
-status_kept P book hand (events.Enter name at seat) table keeps is = is
 status_kept P book hand (events.Begin at row) table keeps is =
     each_set P (playing_from (next_at book at).marks book.seating.hands) (keeps.plays (next_at book at).marks)
     book.seating.tables at table is
-status_kept P book hand (events.Act at name act) table keeps is = is
-status_kept P book hand (events.Time at) table keeps is = is
 status_kept P book hand (events.Settle at) table keeps is = by_hand hand
   where
     by_hand : (hand : Option HandTerms)
@@ -138,16 +133,11 @@ status_kept P book hand events.Stop table keeps is = by_tables book.plan.tables
     by_tables (suc count) =
         by_start (void_first book count) (suc count) (by_tables count)
         (start_at (void_first book count).started (suc count))
+status_kept P book hand _ table keeps is = is
 
 -- Hand-for-hand stays on or off but at a switch.
 pub hands_kept : (book : BookState) (hand : Option HandTerms) (event : Event) → is_turn event ≡ false
     → (book_effect book hand event).seating.hands ≡ book.seating.hands
-hands_kept book hand (events.Plan line) same = refl
-hands_kept book hand events.Go same = refl
-hands_kept book hand (events.Enter name table seat) same = refl
-hands_kept book hand (events.Begin table row) same = refl
-hands_kept book hand (events.Act table name act) same = refl
-hands_kept book hand (events.Time table) same = refl
 hands_kept book hand (events.Settle table) same = by_hand hand
   where
     by_hand : (hand : Option HandTerms) → (option_map_or (settled book) hand book).seating.hands ≡ book.seating.hands
@@ -182,11 +172,11 @@ hands_kept book hand events.Level same =
         ≡ book.seating.hands
     by_units true = refl
     by_units false = refl
-hands_kept book hand (events.Race table row) same = refl
 hands_kept book hand (events.Hands on) same = absurd cc
 hands_kept book hand events.Round same = absurd cc
 hands_kept book hand events.Stop same =
     left-void_first (λ book. book.seating.hands) (record { same = λ book table payees. refl }) book book.plan.tables
+hands_kept book hand _ same = refl
 
 -- What is so of a tournament, and stays so at each accepted event but those that a test picks, is so after a list of
 -- events in which none of these is accepted.
@@ -224,12 +214,24 @@ none_picked state [] = refl
 none_picked state (event ∷ events) = none_picked (state_after state event) events
 
 -- What stays so at every event is so after a list of events.
-pub run_keeps_all : (P : PlayState → Type 0) → ((play : PlayState) (event : Event) → P play → P (play_effect play event))
+pub run_keeps_all : (P : PlayState → Type 0)
+    → ((play : PlayState) (event : Event) → P play → P (play_effect play event))
     → (state : State) (events : List Event) (play later : PlayState) → state.play ≡ Some play
     → (run state events).play ≡ Some later → P play → P later
 run_keeps_all P keeps state events play later at after =
     run_keeps P (λ event. false) (λ play event kind free. keeps play event) state events play later at after
     (none_picked state events)
+
+-- What is so of a valid tournament, and stays so at each accepted event, is so after a list of events.
+pub run_keeps_valid : (P : PlayState → Type 0)
+    → ((play : PlayState) (event : Event) → IsValidPlay play → refusal_of play event ≡ None → P play
+    → P (play_effect play event))
+    → (state : State) (events : List Event) (play later : PlayState) → state.play ≡ Some play
+    → (run state events).play ≡ Some later → IsValidPlay play → P play → P later
+run_keeps_valid P keeps state events play later at after valid is =
+    (run_keeps (λ play. IsValidPlay play × P play) (λ event. false)
+    (λ play event kind free both. (play_keeps play event both.0 free, keeps play event both.0 free both.1)) state events
+    play later at after (none_picked state events) (valid, is)).1
 
 -- Once there is a plan, there is one after any events.
 pub run_some : (state : State) (events : List Event) (play : PlayState) → state.play ≡ Some play

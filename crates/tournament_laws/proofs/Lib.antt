@@ -23,3 +23,5 @@ pub mod Counting
 pub mod RaceChips
 pub mod Stacks
 pub mod NoneStuck
+pub mod StaysOver
+pub mod LaterEntries

@@ -14,11 +14,11 @@ use Rattle.tournament_rules.specs.Valid.{IsValidPlay}
 use Rattle.tournament_rules.proofs.Ends.{none_started-stopped}
 use Rattle.tournament_rules.proofs.Passed.{refusal-parts, passed-parts}
 use Rattle.tournament_rules.proofs.Steps.{valid_events}
-use Rattle.tournament_laws.proofs.Acting.{held, acts_freely, settle_free}
+use Rattle.tournament_laws.proofs.Acting.{started_at, acts_freely, settle_free}
 use Rattle.tournament_laws.proofs.Kept.{events_keep}
 use Rattle.tournament_laws.proofs.Stopped.{goes_on}
 
--- Once the tournament is stopped no hand is out.
+-- Once the tournament is stopped no hand is played.
 abbrev IsBareAtEnd : PlayState → Type 0
 IsBareAtEnd play = play.book.stopped ≡ true → (table : ℕ) → start_at play.book.started table ≡ None
 
@@ -39,7 +39,7 @@ bare_at_end =
     events_keep IsBareAtEnd (λ plan stopped. absurd cc)
     (λ play event valid none so. bare_kept play event valid (goes_on play.book event (passed-parts play event none).0))
 
--- A hand that is out is played while the tournament goes on.
+-- Where a hand is played the tournament goes on.
 goes_on_there : (play : PlayState) (table : ℕ) (hand : HandTerms) → IsBareAtEnd play
     → start_at play.book.started table ≡ Some hand.start → play.book.stopped ≡ false
 goes_on_there play table hand bare started = elim (cases_Bool play.book.stopped) [
@@ -47,30 +47,30 @@ goes_on_there play table hand bare started = elim (cases_Bool play.book.stopped)
   | inr going ↦ going
 ]
 
--- Where a hand is out and not over, a called time is accepted.
+-- Where a hand is played and not over, a called time is accepted.
 pub time_taken : (before : List Event) (table : ℕ) (play : PlayState) → (run first_state before).play ≡ Some play
     → (hand : HandTerms) → hand_at play table ≡ Some hand → is_over hand ≡ false
     → answer_to (run first_state before) (events.Time table) ≡ Ok
-time_taken before table play is hand out over =
+time_taken before table play is hand found over =
     let valid = (valid_events before).play play is in
-    let has = held play table hand valid out in
+    let has = started_at play table hand valid found in
     let none = acts_freely play table valid (events.Time table) refl (record {
       going = goes_on_there play table hand (bare_at_end before play is) has.started;
       hand = hand;
-      started = out;
+      started = found;
       free = rw over refl;
     }) in
     rw is (ap answered none)
 
--- Where a hand is out and over, a settle is accepted.
+-- Where a hand is played and over, a settle is accepted.
 pub settle_taken : (before : List Event) (table : ℕ) (play : PlayState) → (run first_state before).play ≡ Some play
     → (hand : HandTerms) → hand_at play table ≡ Some hand → is_over hand ≡ true
     → answer_to (run first_state before) (events.Settle table) ≡ Ok
-settle_taken before table play is hand out over =
+settle_taken before table play is hand found over =
     let valid = (valid_events before).play play is in
-    let has = held play table hand valid out in
+    let has = started_at play table hand valid found in
     let going = goes_on_there play table hand (bare_at_end before play is) has.started in
     let book = settle_free play.book table going has.there has.playing in
     let none : refusal_of play (events.Settle table) ≡ None =
-    refusal-parts play (events.Settle table) ∙ rw (book, out, over) refl in
+    refusal-parts play (events.Settle table) ∙ rw (book, found, over) refl in
     rw is (ap answered none)

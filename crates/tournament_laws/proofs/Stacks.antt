@@ -64,7 +64,8 @@ stack-weight : (number : ℕ) (players : List Seated) → are_apart players ≡ 
     → weight_in number players ≡ option_map_or (λ stack. 1 + stack) (stack_at_rest players number) 0
 stack-weight number [] apart = refl
 stack-weight number (player ∷ players) apart =
-    let parts = and_parts (list_all (λ other. not (is_numbered player.player other)) players) (are_apart players) apart in
+    let parts = and_parts (list_all (λ other. not (is_numbered player.player other)) players)
+    (are_apart players) apart in
     by_number (is_numbered number player) refl parts.0 (sum_by-cons (weight number) player players)
     (stack-weight number players parts.1)
   where
@@ -113,7 +114,8 @@ weight-moved number move_ seating apart = by_player (player_of seating.players m
 weight-taken : (number : ℕ) (table : ℕ) (name : List ℕ) (place : Place) (seating : Seating)
     → are_apart seating.players ≡ true
     → weight_in number (after_taking table name place seating).players ≡ weight_in number seating.players
-weight-taken number table name place seating apart = by_player (find (is_called name) (players_at seating.players table))
+weight-taken number table name place seating apart = by_player
+    (find (is_called name) (players_at seating.players table))
   where
     by_player : (found : Option Seated)
         → weight_in number (option_map_or (λ move_. after_move move_ seating)
@@ -170,7 +172,8 @@ weight-effect number play _ valid none kind = refl
 -- An event that moves no chips leaves all stacks.
 pub stack-kept : (number : ℕ) (play : PlayState) (event : Event) → IsValidPlay play → refusal_of play event ≡ None
     → moves_chips event ≡ false
-    → stack_at_rest (play_effect play event).book.seating.players number ≡ stack_at_rest play.book.seating.players number
+    → stack_at_rest (play_effect play event).book.seating.players number
+    ≡ stack_at_rest play.book.seating.players number
 stack-kept number play event valid none kind =
     by_weight number play.book.seating.players (play_effect play event).book.seating.players
     valid.book.tables.lawful.apart (play_keeps play event valid none).book.tables.lawful.apart
@@ -269,7 +272,8 @@ weight-stayed number payees leaving (player ∷ players) unpaid stays =
         → weight_in number (cond (not leaves) (paid payees player ∷ others) others) ≡ weight_in number others
     by_leaving true differs = refl
     by_leaving false differs =
-        let his = key_changed (λ (player : Seated). player.player) (paid payees) (record { same = λ player stack. refl })
+        let his = key_changed (λ (player : Seated). player.player) (paid payees)
+        (record { same = λ player stack. refl })
         (paid-stacks payees) player in
         let none = ap (λ (own : ℕ). own == number) his ∙ differs in
         let here = ap (λ (b : Bool). cond {A = ℕ} b (1 + (paid payees player).stack) 0) none in
@@ -298,7 +302,8 @@ weight-settled number play table none = by_start (start_at play.book.started tab
   where
     by_start : (start : Option HandStart) → is_among number (starters_of start) ≡ false
         → weight_in number (option_map_or (settled play.book)
-        (option_map (λ start. record { start = start; acts = acts_at play.acts table }) start) play.book).seating.players
+        (option_map (λ start. record { start = start; acts = acts_at play.acts table }) start)
+        play.book).seating.players
         ≡ weight_in number play.book.seating.players
     by_start None none = refl
     by_start (Some start) none =
@@ -327,7 +332,8 @@ pub left_in_state : (before : List Event) (event : Event) (number : ℕ) (P : Pl
     → ForSome (run first_state before).play P
     → stack_at_rest (players_of (state_after (run first_state before) event)) number
     ≡ stack_at_rest (players_of (run first_state before)) number
-left_in_state before event number P kept so = by_state state.draft state.play state.accepted (valid_events before).play so
+left_in_state before event number P kept so = by_state state.draft state.play state.accepted
+    (valid_events before).play so
   where
     state : State
     state = run first_state before
@@ -339,7 +345,8 @@ left_in_state before event number P kept so = by_state state.draft state.play st
     by_play draft None count valid so is_taken = by_event event
       where
         by_event : (event : Event)
-            → stack_at_rest (players_of (accepted (record { draft = draft; play = None; accepted = count }) event)) number
+            → stack_at_rest (players_of (accepted (record { draft = draft; play = None; accepted = count }) event))
+            number
             ≡ stack_at_rest [] number
         by_event events.Go = refl
         by_event _ = refl
@@ -347,7 +354,8 @@ left_in_state before event number P kept so = by_state state.draft state.play st
         kept play (valid play refl) (accepted_none (refusal_of play event) is_taken) (so play refl)
 
     by_state : (draft : Draft) (play : Option PlayState) (count : ℕ) → ForSome play IsValidPlay → ForSome play P
-        → stack_at_rest (players_of (state_after (record { draft = draft; play = play; accepted = count }) event)) number
+        → stack_at_rest (players_of (state_after (record { draft = draft; play = play; accepted = count }) event))
+        number
         ≡ stack_at_rest (players_of (record { draft = draft; play = play; accepted = count })) number
     by_state draft play count valid so =
         by_answer (is_accepted (answer_to (record { draft = draft; play = play; accepted = count }) event)) refl

@@ -59,7 +59,8 @@ pub fn the_last_player_has_all_chips()
 /// Says that after any list of events, a race that is accepted changes the chips at rest, at its table and in all, by
 /// just what it takes away and gives, and that this is recorded.
 pub fn a_race_changes_the_chips_by_what_it_records()
-    ensures table { (before : List Event) (table : ℕ) (row : CardRow) → ForSome (run first_state before).play (λ earlier.
+    ensures table { (before : List Event) (table : ℕ) (row : CardRow)
+        → ForSome (run first_state before).play (λ earlier.
         answer_to (run first_state before) (Race table row) ≡ Ok
         → ForSome (state_after (run first_state before) (Race table row)).play (λ later.
         rest_at later.book table + (race_at earlier.book.seating table row.cards).removed
@@ -80,8 +81,8 @@ pub fn a_race_changes_the_chips_by_what_it_records()
 {}
 
 /// Says that after any list of events, moves, acts, rounds and levels leave the stack at rest of each player, that an
-/// entry leaves those of all who are in, a begin those of all who are not dealt in, and a settle those of all who are not
-/// in its hand. A player goes by his number; who is out or has not entered has no stack.
+/// entry leaves those of all who are in, a begin those of all who are not dealt in, and a settle those of all who are
+/// not in its hand. A player goes by his number; who is out or has not entered has no stack.
 pub fn stacks_are_moved_by_their_own_events_alone()
     ensures others { (before : List Event) (event : Event) (number : ℕ) → moves_chips event ≡ false
         → stack_at_rest (players_of (state_after (run first_state before) event)) number

@@ -27,8 +27,8 @@ pub fn starts_are_lawful()
         → IsLawfulStart (next_start play.book table row.cards)) }
 {}
 
-/// Says that after any list of events, each hand that is out started lawfully, and its acts are a lawful play of that
-/// start.
+/// Says that after any list of events, each hand that is played started lawfully, and its acts are a lawful play of
+/// that start.
 pub fn hands_are_lawful_plays()
     ensures start { (events : List Event) (table : ℕ) → ForSome (run first_state events).play (λ play.
         ForSome (hand_at play table) (λ hand. IsLawfulStart hand.start)) }
@@ -60,8 +60,8 @@ pub fn acts_stay_at_their_table()
         → other ≢ table → hand_at (play_after play event) other ≡ hand_at play other }
 {}
 
-/// Says that after any list of events, a table is playing exactly where the start of a hand is out.
-pub fn a_table_plays_while_a_hand_is_out()
+/// Says that after any list of events, a table is playing exactly where the start of a hand is kept.
+pub fn a_table_plays_where_a_hand_has_started()
     ensures { (events : List Event) (table : ℕ) → ForSome (run first_state events).play (λ play.
         is_playing play.book table ≡ is_some (start_at play.book.started table)) }
 {}
@@ -78,8 +78,8 @@ pub fn hands_are_numbered_as_they_begin()
         ≡ Some (how_many_accepted is_begin first_state before + 1)) }
 {}
 
-/// Says that after any list of events, no hand that is out is stuck: while it is not over a called time is accepted, and
-/// once it is over a settle is.
+/// Says that after any list of events, no hand that is played is stuck: while it is not over a called time is accepted,
+/// and once it is over a settle is.
 pub fn no_hand_gets_stuck()
     ensures time { (before : List Event) (table : ℕ) → ForSome (run first_state before).play (λ play.
         ForSome (hand_at play table) (λ hand. is_over hand ≡ false

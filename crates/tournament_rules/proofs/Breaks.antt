@@ -348,7 +348,8 @@ valid_forgotten book table valid there =
         playing = λ other. each_status (λ number status. status.playing ≡ is_some (start_at book.started number)) tables
             table status range.0 last (valid.tables.playing table) other (valid.tables.playing other);
       };
-      hands = starts_kept book.plan tables (with_status tables table status) book.seating.players book.started valid.hands
+      hands = starts_kept book.plan tables
+          (with_status tables table status) book.seating.players book.started valid.hands
           keeps.unit;
       chips = valid.chips;
       units = units_kept book.plan book.level book.added tables (with_status tables table status) book.seating.players

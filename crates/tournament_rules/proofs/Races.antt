@@ -460,7 +460,8 @@ module _ (book : BookState) (table : ℕ) (cards : List Card) (valid : IsValid b
           seats = valid.tables.seats;
           room = valid.tables.room;
           nobody = valid.tables.nobody;
-          playing = λ other. each_status (λ number status. status.playing ≡ is_some (start_at book.started number)) tables
+          playing = λ other. each_status
+              (λ number status. status.playing ≡ is_some (start_at book.started number)) tables
               table (raced_off status) range.0 range.1 (valid.tables.playing table) other (valid.tables.playing other);
         };
         hands = record {

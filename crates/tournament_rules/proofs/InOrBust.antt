@@ -197,7 +197,7 @@ pub once-leaves : (entries : List (List ℕ)) (players : List Seated) (busts : L
     → AreOnce entries (lifted bust.player players) (busts ++ bust ∷ [])
 once-leaves entries players busts bust once sits = λ number.
     let left = lifted-count number bust.player players in
-    let more = sum_by_push (λ (started : Bust). cond {A = ℕ} (is_bust_of number started) 1 0) busts bust in
+    let more = sum_by_push (λ (other : Bust). cond {A = ℕ} (is_bust_of number other) 1 0) busts bust in
     let before = once number in
     let some = some_counted (is_numbered bust.player) players sits in
     let his = once bust.player in
