@@ -4,7 +4,8 @@ ghost use Rattle.std.specs.Prelude.{◌≡◌, Some, option_map, IfOk, OnErr, If
 ghost use Rattle.std.specs.Str.{bytes_eq};
 ghost use Rattle.floor_events.specs.declared.event.Item.{Item};
 ghost use Rattle.floor_events.specs.declared.event.Item.TheVariants as items;
-ghost use Rattle.floor_events.specs.Grammar.{plan_rows, plain_rows, event_by, item_of_words, item_of_bytes};
+ghost use Rattle.line_words.specs.Rows.{read_by};
+ghost use Rattle.floor_events.specs.Grammar.{plan_rows, plain_rows, item_of_words, item_of_bytes};
 ghost use Rattle.floor_events.specs.Spelling.{IsWritable, item_text};
 
 use crate::event::{Event, Item};
@@ -21,9 +22,9 @@ fn is(word: &[u8], text: &[u8]) -> bool
 }
 
 /// Reads a line of a plan that has no list by its first word.
-#[tactic(auto, unfolding(crate::specs::Grammar::fields0, crate::specs::Grammar::fields1, crate::specs::Grammar::fields2, crate::specs::Grammar::fields3))]
+#[tactic(auto, unfolding(line_words::specs::Rows::read_fields))]
 fn read_plan_fields(word: &[u8], line: &mut LineWords<'_>) -> Option<Event>
-    ensures { result ≡ event_by plan_rows word.now line.old }
+    ensures { result ≡ read_by plan_rows word.now line.old }
 {
     match word {
         _ if is(word, b"game") => Some(Event::Plan(PlanLine::Game(line.last_field()?))),
@@ -43,9 +44,9 @@ fn read_plan_fields(word: &[u8], line: &mut LineWords<'_>) -> Option<Event>
 }
 
 /// Reads an event without a list by its first word, the most frequent words first.
-#[tactic(auto, unfolding(crate::specs::Grammar::fields0, crate::specs::Grammar::fields1, crate::specs::Grammar::fields2, crate::specs::Grammar::fields3))]
+#[tactic(auto, unfolding(line_words::specs::Rows::read_fields))]
 fn read_fields(word: &[u8], line: &mut LineWords<'_>) -> Option<Item>
-    ensures { result ≡ option_map items.Event (event_by plain_rows word.now line.old) }
+    ensures { result ≡ option_map items.Event (read_by plain_rows word.now line.old) }
 {
     match word {
         _ if is(word, b"act") => Some(Item::Event(Event::Act {

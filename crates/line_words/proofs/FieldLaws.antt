@@ -196,10 +196,10 @@ last_found read write Fits field (word ∷ []) value h =
 last_found read write Fits field (word ∷ more ∷ words) value h = absurd cc
 
 -- a field of the only word that is left
-pub last : {A : Type 0} {read : List ℕ → Option A} {write : A → List ℕ} {Fits : A → Type 0}
+pub last_field : {A : Type 0} {read : List ℕ → Option A} {write : A → List ℕ} {Fits : A → Type 0}
     → IsField read write Fits → IsRest (last_by read) (λ a. write a ∷ []) Fits
 unfolding last_by
-last {A} {read} {write} {Fits} field = record {
+last_field {A} {read} {write} {Fits} field = record {
   found = last_found read write Fits field;
   again = field.again;
   words = λ a fits. rw (field.word a fits) refl;

@@ -14,7 +14,7 @@ use Rattle.seat_book.specs.Places.{is_place_of}
 use Rattle.line_words.specs.Words.{pieces_of}
 use Rattle.line_words.specs.Limits.{greatest_table, greatest_seat}
 use Rattle.line_words.specs.Fields.{◌>>=◌, each_of, few_of, AreFew, name_of, IsLineName, place_at, place_of, place_text, IsLinePlace, members_of, list_text, next_by, last_by}
-use Rattle.line_words.proofs.FieldLaws.{IsField, IsRest, test_found, number_field, name_field, next_found, next_again, last}
+use Rattle.line_words.proofs.FieldLaws.{IsField, IsRest, test_found, number_field, name_field, next_found, next_again, last_field}
 use Rattle.line_words.proofs.WordSplits.{is_byte}
 use Rattle.line_words.proofs.Spaces.{lacks, is_word, number_word, joined_word, pieces_again, decimal_lacks, name_lacks}
 
@@ -137,7 +137,7 @@ place_found word place h =
     let here : Place = record { table = first.0.0; seat = second.0 } in
     let test = test_found (is_place_of greatest_table greatest_seat here) (Some here) place second.2 in
     let table = next_found number_of decimal IsLineNumber number_field (pieces_of 46 word) first.0 first.1 in
-    let seat = (last number_field).found first.0.1 second.0 second.1 in
+    let seat = (last_field number_field).found first.0.1 second.0 second.1 in
     let pieces : pieces_of 46 word ≡ decimal first.0.0 ∷ decimal second.0 ∷ [] = table.spelling
     ∙ ap (λ (ws : List (List ℕ)). decimal first.0.0 ∷ ws) seat.0 in
     let text : word ≡ place_text here = sym (join_with_byte-slice_split 46 word) ∙ ap (join_with_byte 46) pieces in
@@ -158,7 +158,7 @@ place_again place fits =
     rw (
       pieces,
       next_again number_of decimal IsLineNumber number_field place.table (decimal place.seat ∷ []) table,
-      (last number_field).again place.seat seat,
+      (last_field number_field).again place.seat seat,
       place_test place fits,
     ) refl
 
