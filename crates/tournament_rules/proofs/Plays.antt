@@ -121,7 +121,8 @@ play_acted play table name act valid none free =
     by_start (Some start) acts free lawful =
         let hand : HandTerms = record { start = start; acts = acts } in
         some_so IsLawfulPlay _
-        (lawful_play-more hand (record { name = name; act = act; by_time = false }) (lawful hand refl) free)
+        (lawful_play-more hand (record { name = name; act = act; by_time = false }) (lawful hand refl) free
+        (λ by_time. absurd cc))
 
 -- the acts of a hand once time is called, where one is played
 abbrev acts_in_time : Option HandTerms → List ActOf
