@@ -19,7 +19,7 @@ use Rattle.tournament_rules.specs.Books.{BookState, start_at}
 use Rattle.tournament_rules.specs.Players.{paid, put_back, stayed}
 use Rattle.tournament_rules.specs.Effects.{bust_of}
 use Rattle.tournament_rules.specs.Valid.{IsValid, AreOnce, is_bust_of}
-use Rattle.tournament_rules.proofs.Outs.{MayLeave, may_leave, once-leaves}
+use Rattle.tournament_rules.proofs.InOrBust.{MayLeave, may_leave, once-leaves}
 use Rattle.tournament_rules.proofs.Leaving.{stayed-none, stayed-more, still_sits, starter_sits, sits_paid, later_differs}
 use Rattle.tournament_rules.proofs.Restacked.{count_changed}
 use Rattle.tournament_rules.proofs.Paying.{paid-stacks}

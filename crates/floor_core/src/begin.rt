@@ -213,7 +213,6 @@ impl Book {
         requires next { next.now ≡ next_at self.now table }
         ensures { IfOk result (λ start. start ≡ next_start self.now table deck) }
     {
-        let blind = self.blind_now();
         let seats = dealt_seats(self.alloc, self.seats.table_slots(table), &next.waiting)?;
         Ok(HandStart {
             table,
@@ -221,9 +220,7 @@ impl Book {
             seats,
             seat_count: self.seats.seat_count(),
             marks: next.marks,
-            small: blind.small,
-            big: blind.big,
-            unit: blind.unit,
+            blind: self.blind_now(),
             game: self.game(),
             deck,
         })

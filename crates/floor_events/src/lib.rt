@@ -8,11 +8,7 @@
 mod answer;
 mod answer_writer;
 mod event;
-mod few;
-mod fields;
 mod item_reader;
-mod line_words;
-mod line_writer;
 mod list_reader;
 mod report;
 mod report_writer;

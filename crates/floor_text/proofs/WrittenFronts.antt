@@ -1,7 +1,11 @@
--- A writer takes the bytes of a put piece by piece.
-use Rattle.std.proofs.Common.{◌≡◌, ℕ, ◌+◌, ◌≤◌, List, ◌++◌, length, take, drop, Option, Some, None, IfSome, sym, ap, ◌∙◌, arith, append_assoc, length-drop}
-use Rattle.std.proofs.Math.Seq.{take-add}
-use Rattle.std.proofs.lemmas.List.{drop-drop}
+-- A writer takes the bytes of a put piece by piece, and is flushed behind them.
+use Rattle.std.proofs.Common.{◌≡◌, ℕ, ◌+◌, ◌≤◌, List, [], ◌++◌, length, take, drop, Option, Some, None, IfSome, sym, ap, ◌∙◌, arith, append_assoc, length-drop}
+use Rattle.std.proofs.Math.Seq.{take-add, take-length}
+use Rattle.std.proofs.lemmas.List.{append-nil, drop-drop}
+use Rattle.std.specs.Prelude.{Result, Ok, Err}
+use Rattle.std.specs.Result.{result_and}
+use Rattle.std.specs.Io.KnownBytes.{Keeps}
+use Rattle.floor_text.specs.Outside.{Puts, EndsWith}
 use Rattle.std.proofs.lemmas.Option.{MatchOption-at_some}
 
 -- of all the bytes a front was written, and the rest is left
@@ -31,3 +35,27 @@ written_more (Some before) now next all rest more n is fits left piece =
       wrote
           ∙ ap Some joined,
     )
+
+-- what is known ends with no bytes
+pub ends_with_none : (known : Option (List ℕ)) → IfSome known (λ bytes. EndsWith bytes [])
+ends_with_none None = tt
+ends_with_none (Some bytes) = (bytes, sym (append-nil bytes))
+
+-- known bytes that are kept are the same bytes
+kept_bytes : (bytes : List ℕ) (mid new : Option (List ℕ)) → mid ≡ Some bytes → Keeps mid new → new ≡ Some bytes
+kept_bytes bytes None new is keeps = cc
+kept_bytes bytes (Some same) None is keeps = absurd keeps
+kept_bytes bytes (Some same) (Some still) is keeps = ap Some keeps ∙ is
+
+-- a put whose bytes were written and then flushed has put them all, and one that failed in either has put a front
+pub flushed_behind : {E : Type 0} (old mid new : Option (List ℕ)) (bytes : List ℕ)
+    (written flushed : Result (Unit {0}) E) → IfSome old (λ before. Puts before bytes mid written) → Keeps mid new
+    → IfSome old (λ before. Puts before bytes new (result_and written flushed))
+flushed_behind None mid new bytes written flushed puts keeps = tt
+flushed_behind (Some before) mid new bytes (Ok _) (Ok _) puts keeps = kept_bytes (before ++ bytes) mid new puts keeps
+flushed_behind (Some before) mid new bytes (Ok _) (Err _) puts keeps = (
+  length bytes,
+  kept_bytes (before ++ bytes) mid new puts keeps ∙ ap (λ all. Some (before ++ all)) (sym (take-length bytes)),
+)
+flushed_behind (Some before) mid new bytes (Err _) flushed puts keeps =
+    (puts.0, kept_bytes (before ++ take puts.0 bytes) mid new puts.1 keeps)

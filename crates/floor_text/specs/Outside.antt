@@ -1,8 +1,5 @@
 -- The outside: where bytes come from and go to, and how often it failed. This project's own.
-use Rattle.std.specs.Prelude.{◌≡◌, refl, ℕ, ◌<◌, ◌≤◌, ◌⊎◌, [], ◌++◌, List, length, take, drop, Option, Some, None, IfSome, Result, IsErr, MatchResult}
-use Rattle.std.specs.Io.KnownBytes.{append_known}
-use Rattle.std.proofs.Common.{sym}
-use Rattle.std.proofs.lemmas.List.{append-nil}
+use Rattle.std.specs.Prelude.{◌≡◌, ℕ, ◌<◌, ◌≤◌, ◌⊎◌, ◌++◌, List, length, take, drop, Option, Some, Result, IsErr, MatchResult}
 
 -- the last value of a count, where it can rise no more
 abbrev pub last_count : ℕ
@@ -33,13 +30,3 @@ Puts old bytes new result =
 -- bytes that end with these
 abbrev pub EndsWith : List ℕ → List ℕ → Type 0
 EndsWith bytes last = (front : List ℕ) × (bytes ≡ front ++ last)
-
--- what is known ends with no bytes, and with those that it was appended
-pub ends_with_none : (known : Option (List ℕ)) → IfSome known (λ bytes. EndsWith bytes [])
-ends_with_none None = tt
-ends_with_none (Some bytes) = (bytes, sym (append-nil bytes))
-
-pub ends_with_appended : (known : Option (List ℕ)) (last : List ℕ)
-    → IfSome (append_known known last) (λ bytes. EndsWith bytes last)
-ends_with_appended None last = tt
-ends_with_appended (Some front) last = (front, refl)

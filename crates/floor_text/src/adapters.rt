@@ -55,7 +55,7 @@ fn read_once<R: Read>(reader: &mut R, buffer: &mut [u8]) -> Option<usize>
     None
 }
 
-/// A sink over a writer. It holds nothing back itself, and does not know what its writer holds back.
+/// A sink over a writer, which it flushes at each put. It holds nothing back.
 #[derive(Drop)]
 pub struct WriterSink<W> {
     writer: W,
@@ -73,32 +73,21 @@ impl<W: Write> WriterSink<W> {
 }
 
 impl<W: Write> Sink for WriterSink<W> {
-    ghost use Rattle.floor_text.specs.Outside.{ends_with_none};
-
     ghost written = { λ s. W.contents s.writer };
-
-    ghost held = { λ _. [] };
 
     ghost faults = { λ s. s.faults };
 
-    /// Hands all the bytes to the writer. A write is made again where it was interrupted; one that takes
-    /// none of the bytes is a fault, as any other error is, and is counted.
+    /// Hands all the bytes to the writer, and flushes it. A write is made again where it was interrupted; one that
+    /// takes none of the bytes is a fault, as any other error is, and is counted.
     fn put(&mut self, bytes: &[u8]) -> Result<(), Failed> {
         let result = write_whole(&mut self.writer, bytes);
-        count_fault(&mut self.faults, result)
+        let flushed = self.writer.flush().map_err(|_| Failed);
+        count_fault(&mut self.faults, result.and(flushed))
     }
-
-    /// Flushes the writer. An error is a fault, and is counted.
-    fn flush(&mut self) -> Result<(), Failed> {
-        let result = self.writer.flush().map_err(|_| Failed);
-        count_fault(&mut self.faults, result)
-    }
-
-    ghost held_last = { λ s. ends_with_none (W.contents s.writer) };
 }
 
-/// A sink over a writer that holds back up to 64 KiB: what is put is written where there is no more room for it, and at
-/// a flush.
+/// A sink over a writer that holds back up to 64 KiB of what is put for later: it is written where there is no more room
+/// for it, and at the next put.
 #[derive(Drop)]
 pub struct BufferedSink<W: Write + Drop> {
     buffer: BufWriter<W>,
@@ -122,7 +111,6 @@ impl<W: Write + Drop> BufferedSink<W> {
 
 impl<W: Write + Drop> Sink for BufferedSink<W> {
     ghost use Rattle.std.specs.Io.Buffered.{writer_buffer, writer_contents, writer_inner};
-    ghost use Rattle.floor_text.specs.Outside.{ends_with_appended};
 
     ghost written = { λ s. writer_contents W.contents s.buffer };
 
@@ -130,20 +118,19 @@ impl<W: Write + Drop> Sink for BufferedSink<W> {
 
     ghost faults = { λ s. s.faults };
 
-    /// Holds the bytes back, or writes what it has no room for. A write is made again where it was interrupted; one
-    /// that takes none of the bytes is a fault, as any other error is, and is counted.
+    /// Writes what it holds back and then the bytes, and flushes the writer. A write is made again where it was
+    /// interrupted; one that takes none of the bytes is a fault, as any other error is, and is counted.
     fn put(&mut self, bytes: &[u8]) -> Result<(), Failed> {
+        let result = write_whole(&mut self.buffer, bytes);
+        let flushed = self.buffer.flush().map_err(|_| Failed);
+        count_fault(&mut self.faults, result.and(flushed))
+    }
+
+    /// Holds the bytes back, or writes what it has no room for, as `put` does.
+    fn put_later(&mut self, bytes: &[u8]) -> Result<(), Failed> {
         let result = write_whole(&mut self.buffer, bytes);
         count_fault(&mut self.faults, result)
     }
-
-    /// Writes what it holds back, and flushes the writer. An error is a fault, and is counted.
-    fn flush(&mut self) -> Result<(), Failed> {
-        let result = self.buffer.flush().map_err(|_| Failed);
-        count_fault(&mut self.faults, result)
-    }
-
-    ghost held_last = { λ s. ends_with_appended (W.contents (writer_inner s.buffer)) (writer_buffer s.buffer) };
 }
 
 /// Counts a fault where the call failed, and hands on what it answered.

@@ -173,12 +173,8 @@ impl MemSink {
 
 impl Sink for MemSink {
     ghost use Rattle.std.specs.Prelude.{Some};
-    ghost use Rattle.floor_text.specs.Outside.{ends_with_none};
 
     ghost written = { λ s. Some s.bytes };
-
-    /// None: it holds nothing back.
-    ghost held = { λ _. [] };
 
     ghost faults = { λ s. s.faults };
 
@@ -206,17 +202,4 @@ impl Sink for MemSink {
         let _ = self.bytes.extend_from_slice(bytes);
         Ok(())
     }
-
-    /// Does nothing, since nothing is held back. It is none of the calls that are counted.
-    fn flush(&mut self) -> Result<(), Failed>
-        ensures kept { IfSome (Some self.old.bytes) (λ before. Some self.new.bytes ≡ Some before) }
-        ensures cause { HasCause self.old.faults self.new.faults result }
-
-        ensures never { IsOk result }
-        ensures same { self.new ≡ self.old }
-    {
-        Ok(())
-    }
-
-    ghost held_last = { λ s. ends_with_none (Some s.bytes) };
 }

@@ -24,28 +24,30 @@ pub trait Source {
         ensures cause { HasCause (faults self.old) (faults self.new) result };
 }
 
-/// Where bytes go. What was put may be held back until a flush, and it goes there in the order of the puts.
+/// Where bytes go. What is put goes there in the order of the puts. A sink has `put` alone; one that would hold bytes
+/// back has `put_later` too.
 pub trait Sink {
     /// The bytes that were put, where it tells them.
     ghost written: { Self → Option (List ℕ) };
 
-    /// The bytes that were put and that it still holds back.
-    ghost held: { Self → List ℕ };
+    /// The bytes that were put and that it still holds back. None, where it does not say otherwise.
+    ghost held: { Self → List ℕ } = { λ _. [] };
 
     /// How often it failed. The count never falls, and stands still at its type's end.
     ghost faults: { Self → ℕ };
 
-    /// Puts all the bytes, or where it fails a front of them.
+    /// Puts all the bytes, and lets go of what was held back before them. Where it fails it has put a front of them.
     fn put(&mut self, bytes: &[u8]) -> Result<(), Failed>
         ensures bytes { IfSome (written self.old) (λ before. Puts before bytes.now (written self.new) result) }
-        ensures cause { HasCause (faults self.old) (faults self.new) result };
-
-    /// Lets go of all that it holds back. A sink that holds nothing back has nothing to do.
-    fn flush(&mut self) -> Result<(), Failed>
-        ensures kept { IfSome (written self.old) (λ before. written self.new ≡ Some before) }
         ensures let_go { OnOk result (held self.new ≡ []) }
         ensures cause { HasCause (faults self.old) (faults self.new) result };
 
-    /// What is held back is the end of what was put.
-    ghost held_last: { (sink : Self) → IfSome (written sink) (λ bytes. EndsWith bytes (held sink)) };
+    /// Puts bytes that may be held back until the next `put`. A sink that holds nothing back puts them at once.
+    fn put_later(&mut self, bytes: &[u8]) -> Result<(), Failed>
+        ensures bytes { IfSome (written self.old) (λ before. Puts before bytes.now (written self.new) result) }
+        ensures held_last { OnOk result (IfSome (written self.new) (λ all. EndsWith all (held self.new))) }
+        ensures cause { HasCause (faults self.old) (faults self.new) result }
+    {
+        self.put(bytes)
+    }
 }

@@ -133,14 +133,14 @@ impl Write for FullDevice {
 fn a_buffered_sink_fails_only_where_it_writes(rt: HostRuntime) -> Result<(), Fail> {
     let alloc = rt.alloc();
     let mut sink = BufferedSink::new(alloc, FullDevice)?;
-    for (count, put, flushed) in [
+    for (count, held, put) in [
         (0, Ok(()), Ok(())),
         (2, Ok(()), Err(Failed)),
         (65_536, Err(Failed), Err(Failed)),
     ] {
         let bytes = repeated(alloc, count, b"")?;
         assert!(rt;
-            sink.put(&bytes) == put && sink.flush() == flushed,
+            sink.put_later(&bytes) == held && sink.put(b"") == put,
             "{count} bytes"
         );
     }

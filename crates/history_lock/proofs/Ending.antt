@@ -57,7 +57,7 @@ module _ {Val E : Type 0} (history : Val → List E) (caller_of : E → ℕ) (n 
       let quiet : (j : ℕ) (a : View E) → HasView s.views j a → a.served ≡ false = λ j a h. dite (ℕ_discrete j id)
       (λ e. ap (λ (z : View E). z.served) (same_view s.views id a v (subst (λ k. HasView s.views k a) e h) at) ∙ out)
       (λ ne. false_from_ne_true a.served (λ is. let t = r.served.ticket j a h is in let i =
-      r.spent j a h (none_left j a ne h) in absurd (cc (t, i)))) in
+      (r.spent j a h (none_left j a ne h)).no_ticket in absurd (cc (t, i)))) in
       let home = r.slot.home quiet in
       let Own : Share E → Type 0 = IsKeptShare caller_of n r.now r.keeper id in (
         home.0,

@@ -12,11 +12,11 @@ use Rattle.history_lock.specs.declared.view.View.{View}
 use Rattle.history_lock.specs.Limits.{most_passes, opener}
 use Rattle.history_lock.specs.Entries.{entries_by}
 use Rattle.history_lock.specs.Views.{Each, AtLeastOne, HasView, share_count, view_of, spent_view, shares_from, opening_view, further_shares, only_first}
-use Rattle.history_lock.specs.Rule.{IsKept, IsKeptShare, NowIsLongest, NumbersAreKept}
+use Rattle.history_lock.specs.Rule.{IsKept, IsKeptShare, NowIsLongest, NumbersAreKept, IsSpent}
 use Rattle.history_lock.specs.Steps.{arrived}
 use Rattle.history_lock.proofs.Lists.{within, each_set, each_append, each_map, at_push, least_append_left, least_append_right, each_both, put, put_here, put_else, turn, turn_here, turn_else}
 use Rattle.history_lock.proofs.Prefixes.{prefix_self, entries_by_other}
-use Rattle.history_lock.proofs.Frames.{shares_of, same_view, tickets_stay, served_stays, share_count-set}
+use Rattle.history_lock.proofs.Frames.{shares_of, same_view, tickets_stay, served_stays, share_count-set, is_spent}
 use Rattle.history_lock.proofs.Tickets.{tickets_push, served_push, spent_push, slot_push, slot_stays}
 
 module _ {E : Type 0} where
@@ -78,7 +78,7 @@ module _ {Val E : Type 0} (history : Val → List E) (caller_of : E → ℕ) (n 
       numbers = numbers_push caller_of n r.now r.keeper s.views r.numbers;
       served = served_push r.serving s.views spent_view refl r.served;
       slot = slot_push history r.now s.homes s.views spent_view refl r.slot;
-      spent = spent_push s.views spent_view refl r.spent;
+      spent = spent_push r.now s.views spent_view refl r.spent;
     },
     refl,
   )
@@ -231,8 +231,9 @@ module _ {Val E : Type 0} (history : Val → List E) (caller_of : E → ℕ) (n 
             (served_stays r.serving s.views id v left at refl refl r.served);
         slot = slot_push history r.now s.homes kept_views given refl
             (slot_stays history r.now s.homes s.views id v left at out out r.slot);
-        spent = spent_push kept_views given refl
-            (each_set (λ (j : ℕ) (a : View E). a.shares ≡ [] → a.ticket ≡ None) s.views id left (λ _. idle)
+        spent = spent_push r.now kept_views given refl
+            (each_set (λ (j : ℕ) (a : View E). a.shares ≡ [] → IsSpent r.now a) s.views id left
+            (λ none. is_spent r.now left none idle)
             (λ j a ne h. r.spent j a h));
       }
 
@@ -345,8 +346,10 @@ module _ {Val E : Type 0} (history : Val → List E) (caller_of : E → ℕ) (n 
             (served_stays r.serving s.views id v both at refl refl r.served);
         slot = slot_stays history r.now s.homes views' other w spent_view there out' refl
             (slot_stays history r.now s.homes s.views id v both at out out r.slot);
-        spent = each_set (λ (j : ℕ) (a : View E). a.shares ≡ [] → a.ticket ≡ None) views' other spent_view (λ _. refl)
-            (λ j a ne h. each_set (λ (j : ℕ) (a : View E). a.shares ≡ [] → a.ticket ≡ None) s.views id both (λ _. idle)
+        spent = each_set (λ (j : ℕ) (a : View E). a.shares ≡ [] → IsSpent r.now a) views' other spent_view
+            (λ none. is_spent r.now spent_view none refl)
+            (λ j a ne h. each_set (λ (j : ℕ) (a : View E). a.shares ≡ [] → IsSpent r.now a) s.views id both
+            (λ none. is_spent r.now both none idle)
             (λ j a ne h. r.spent j a h) j a h);
       }
 
@@ -392,7 +395,7 @@ module _ {Val E : Type 0} (history : Val → List E) (caller_of : E → ℕ) (n 
       home = λ _. (val, refl, is);
       out = λ j a h is'. absurd (cc (is', (only j a h).2));
     };
-    spent = λ j a h _. (only j a h).1;
+    spent = λ j a h none. is_spent seen a none (only j a h).1;
   }
     where
       first : View E

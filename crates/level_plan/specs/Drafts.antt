@@ -47,7 +47,7 @@ item_of_line (lines.Seats n) = items.Seats
 item_of_line (lines.Stack n) = items.Stack
 item_of_line (lines.Buyin n) = items.Buyin
 item_of_line (lines.Late n) = items.Late
-item_of_line (lines.Blinds small big unit) = items.Blinds
+item_of_line (lines.Blinds blind) = items.Blinds
 item_of_line (lines.Shares shares) = items.Shares
 
 -- A line is wrong where its item was given before (blinds: 40 times), or where what it gives is not lawful.
@@ -58,8 +58,7 @@ is_wrong_line draft (lines.Seats n) = is_some draft.seats || not (is_between few
 is_wrong_line draft (lines.Stack n) = is_some draft.stack || not (is_between 1 greatest_amount n)
 is_wrong_line draft (lines.Buyin n) = is_some draft.buyin || nat_lt greatest_amount n
 is_wrong_line draft (lines.Late n) = is_some draft.late || not (is_between 1 most_levels n)
-is_wrong_line draft (lines.Blinds small big unit) =
-    let blind : Blind = record { small = small; big = big; unit = unit } in
+is_wrong_line draft (lines.Blinds blind) =
     nat_le most_levels (length draft.blinds) || not (is_blind blind && may_follow draft.blinds blind)
 is_wrong_line draft (lines.Shares shares) = is_some draft.shares || not (are_shares shares)
 
@@ -75,8 +74,7 @@ draft_after draft (lines.Seats n) = record draft { seats = Some n }
 draft_after draft (lines.Stack n) = record draft { stack = Some n }
 draft_after draft (lines.Buyin n) = record draft { buyin = Some n }
 draft_after draft (lines.Late n) = record draft { late = Some n }
-draft_after draft (lines.Blinds small big unit) =
-    record draft { blinds = draft.blinds ++ record { small = small; big = big; unit = unit } ∷ [] }
+draft_after draft (lines.Blinds blind) = record draft { blinds = draft.blinds ++ blind ∷ [] }
 draft_after draft (lines.Shares shares) = record draft { shares = Some shares }
 
 -- The plan that the draft's items make, once none is missing.

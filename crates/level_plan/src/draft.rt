@@ -77,14 +77,9 @@ impl PlanDraft {
             PlanLine::Stack(n) => self.stack.is_some() || !is_between(1, GREATEST_AMOUNT, *n),
             PlanLine::Buyin(n) => self.buyin.is_some() || *n > GREATEST_AMOUNT,
             PlanLine::Late(n) => self.late.is_some() || !is_between(1, MOST_LEVELS as u64, *n),
-            PlanLine::Blinds { small, big, unit } => {
-                let blind = Blind {
-                    small: *small,
-                    big: *big,
-                    unit: *unit,
-                };
+            PlanLine::Blinds(blind) => {
                 let blinds = self.blinds.items();
-                blinds.len() >= MOST_LEVELS || !(is_blind(blind) && may_follow(blinds, blind))
+                blinds.len() >= MOST_LEVELS || !(is_blind(*blind) && may_follow(blinds, *blind))
             }
             PlanLine::Shares(shares) => self.shares.is_some() || !are_shares(shares.items()),
         }
@@ -126,11 +121,7 @@ impl PlanDraft {
             PlanLine::Stack(n) => self.stack = Some(*n),
             PlanLine::Buyin(n) => self.buyin = Some(*n),
             PlanLine::Late(n) => self.late = Some(*n),
-            PlanLine::Blinds { small, big, unit } => self.add_level(Blind {
-                small: *small,
-                big: *big,
-                unit: *unit,
-            })?,
+            PlanLine::Blinds(blind) => self.add_level(*blind)?,
             PlanLine::Shares(shares) => self.set_shares(shares)?,
         }
         Ok(())

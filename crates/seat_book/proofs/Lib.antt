@@ -3,6 +3,7 @@ pub mod AllStand
 pub mod Splits
 pub mod Numbers
 pub mod Slots
+pub mod MadeOfSlots
 pub mod Rows
 pub mod Keeping
 pub mod Calls

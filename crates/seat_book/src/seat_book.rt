@@ -1,6 +1,7 @@
 //! The seats of all tables.
 
-ghost use Rattle.std.specs.Prelude.{◌≡◌, ◌<◌, ◌≤◌, ◌*◌, ◌-◌, length, None, Some, IsSome, IfSome, IfOk, option_map};
+ghost use Rattle.std.specs.Prelude.{◌≡◌, ◌<◌, ◌≤◌, ◌*◌, ◌-◌, nat_lt, length, None, Some, IsSome, IfSome, IfOk, option_map};
+ghost use Rattle.std.specs.List.{list_any};
 ghost use Rattle.rulebook.specs.Limits.{most_entries};
 ghost use Rattle.button_blinds.specs.SeatSets.{seat_count, AreSeatsOf};
 ghost use Rattle.seat_book.specs.Places.{IsTableOf, IsPlaceOf};
@@ -8,8 +9,7 @@ ghost use Rattle.seat_book.specs.Players.{players_in, player_at, player_of, plac
 ghost use Rattle.seat_book.specs.Counts.{count_at, greatest_count, least_count};
 ghost use Rattle.seat_book.specs.Tables.{status_at, with_status, IsStatusOf};
 ghost use Rattle.seat_book.specs.Kept.{slot_of};
-ghost use Rattle.std.specs.List.{list_any};
-ghost use Rattle.std.specs.Option.{is_some};
+ghost use Rattle.seat_book.specs.Seatings.{is_race_pending, is_any_playing, is_any_begun, is_round_open, is_not_last};
 
 use crate::{Place, Seated, TableStatus};
 use button_blinds::SeatSet;
@@ -65,6 +65,13 @@ fn table_index(table: u8) -> usize
     ensures { result ≡ table - 1 }
 {
     usize::from(table - 1)
+}
+
+/// Tells whether somebody sits at one of the tables with these counts.
+fn has_players(counts: &[u8]) -> bool
+    ensures { result ≡ list_any (nat_lt 0) counts.now }
+{
+    counts.iter().any(|count| *count > 0)
 }
 
 impl SeatBook {
@@ -261,25 +268,40 @@ impl SeatBook {
         least
     }
 
-    /// Gives how the tables stand, by number.
-    pub fn statuses(&self) -> &[TableStatus]
-        ensures { result.now ≡ self.now.tables }
-    {
-        &self.statuses
-    }
-
     /// Tells whether a chip race is pending at some table.
     pub fn is_race_pending(&self) -> bool
-        ensures { result ≡ list_any (λ status. is_some status.race) self.now.tables }
+        ensures { result ≡ is_race_pending self.now }
     {
         self.statuses.iter().any(|status| status.race.is_some())
     }
 
-    /// Tells whether some table has begun in the round of hand-for-hand that is open.
-    pub fn is_any_begun(&self) -> bool
-        ensures { result ≡ list_any (λ status. status.begun) self.now.tables }
+    /// Tells whether some table plays a hand.
+    pub fn is_any_playing(&self) -> bool
+        ensures { result ≡ is_any_playing self.now }
+    {
+        self.statuses.iter().any(|status| status.playing)
+    }
+
+    /// Tells whether some table has begun in the round of hand-for-hand.
+    fn is_any_begun(&self) -> bool
+        ensures { result ≡ is_any_begun self.now }
     {
         self.statuses.iter().any(|status| status.begun)
+    }
+
+    /// Tells whether hand-for-hand is on and some table has begun in this round.
+    pub fn is_round_open(&self) -> bool
+        ensures { result ≡ is_round_open self.now }
+    {
+        self.hands && self.is_any_begun()
+    }
+
+    /// Tells whether an open table has a higher number.
+    pub fn is_not_last(&self, table: u8) -> bool
+        requires { IsTableOf self.now.table_count table }
+        ensures { result ≡ is_not_last self.now table }
+    {
+        has_players(&self.counts[usize::from(table)..])
     }
 
     /// Tells how a table stands.

@@ -13,7 +13,7 @@ use Rattle.table_engine.specs.Hands.{HandTerms, Streets, all_dealt_on, by_seat, 
 use Rattle.floor_text.specs.declared.refusal.Refusal.TheVariants.{NotDealt}
 use Rattle.rulebook.specs.Checks.{first_that_holds}
 use Rattle.betting_round.specs.ActChecks.{seat_checks}
-use Rattle.table_engine.specs.Acts.{act_checks, acting_seat, done_of_act, is_dealt, limits_of, refusal_of_act, time_act}
+use Rattle.table_engine.specs.Acts.{act_checks, acting_seat, done_of_act, is_dealt, limits_on, refusal_of_act, time_act}
 use Rattle.std.specs.Prelude.{Some, None}
 use Rattle.std.specs.Option.{option_map_or}
 use Rattle.betting_round.specs.declared.bettor.Player.{Player}
@@ -64,7 +64,8 @@ pub refusal-deck : (hand : HandTerms) (deck : List Card) (name : List ℕ) (act 
     → refusal_of_act (redealt hand deck) name act ≡ refusal_of_act hand name act
 unfolding act_checks
 refusal-deck hand deck name act = ap (λ streets. first_that_holds ((NotDealt, not (is_dealt hand.start name))
-    ∷ seat_checks (limits_of hand.start.game) (street_now streets) (acting_seat hand name) act)) (streets-deck hand deck)
+    ∷ seat_checks (limits_on hand.start (streets_of hand)) (street_now streets) (acting_seat hand name) act))
+    (streets-deck hand deck)
 
 pub done-deck : (hand : HandTerms) (deck : List Card) (name : List ℕ) (act : Act)
     → done_of_act (redealt hand deck) name act ≡ done_of_act hand name act
@@ -125,5 +126,6 @@ pub awards-deck : (hand : HandTerms) (deck : List Card) → ShowAlike hand deck
     → showdown_awards (redealt hand deck) ≡ showdown_awards hand
 unfolding showdown_awards
 awards-deck hand deck alike =
-    λ i. awards_of (hands_of hand.start.game (alike.board i) (alike.live i)) hand.start.unit hand.start.marks.button
+    λ i. awards_of (hands_of hand.start.game (alike.board i) (alike.live i)) hand.start.blind.unit
+    hand.start.marks.button
     hand.start.seat_count (layers (puts-deck hand deck i))

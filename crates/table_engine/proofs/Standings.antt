@@ -79,32 +79,34 @@ chips-parts street =
 
 -- The blinds and the unit of a lawful start.
 lawful-tests : (start : HandStart) → IsLawfulStart start
-    → (nat_le 1 start.unit ≡ true) × (nat_le 1 start.small ≡ true) × (nat_le start.small start.big ≡ true) ×
-    (nat_le start.big 1000000000 ≡ true)
+    → (nat_le 1 start.blind.unit ≡ true) × (nat_le 1 start.blind.small ≡ true) ×
+    (nat_le start.blind.small start.blind.big ≡ true) ×
+    (nat_le start.blind.big 1000000000 ≡ true)
 lawful-tests start lawful =
-    let unit = and_parts (nat_le 1 start.unit) _ lawful.blinds in
-    let small = and_parts (nat_le 1 start.small) _ unit.1 in
-    let order = and_parts (nat_le start.small start.big) _ small.1 in
-    let big = and_parts (nat_le start.big 1000000000)
-    (start.small % start.unit == 0 && start.big % start.unit == 0) order.1 in
+    let unit = and_parts (nat_le 1 start.blind.unit) _ lawful.blinds in
+    let small = and_parts (nat_le 1 start.blind.small) _ unit.1 in
+    let order = and_parts (nat_le start.blind.small start.blind.big) _ small.1 in
+    let big = and_parts (nat_le start.blind.big 1000000000)
+    (start.blind.small % start.blind.unit == 0 && start.blind.big % start.blind.unit == 0) order.1 in
     (unit.0, small.0, order.0, big.0)
 
 -- The big blind of a lawful start is at most 1000000000 chips.
-pub lawful-big : (start : HandStart) → IsLawfulStart start → start.big ≤ 1000000000
-lawful-big start lawful = leb-true start.big 1000000000 (lawful-tests start lawful).3
+pub lawful-big : (start : HandStart) → IsLawfulStart start → start.blind.big ≤ 1000000000
+lawful-big start lawful = leb-true start.blind.big 1000000000 (lawful-tests start lawful).3
 
 -- The small blind of a lawful start is at most the big blind.
-pub lawful-small : (start : HandStart) → IsLawfulStart start → start.small ≤ start.big
-lawful-small start lawful = leb-true start.small start.big (lawful-tests start lawful).2
+pub lawful-small : (start : HandStart) → IsLawfulStart start → start.blind.small ≤ start.blind.big
+lawful-small start lawful = leb-true start.blind.small start.blind.big (lawful-tests start lawful).2
 
 -- The unit of a lawful start is at least one chip.
-pub lawful-unit : (start : HandStart) → IsLawfulStart start → 1 ≤ start.unit
-lawful-unit start lawful = leb-true 1 start.unit (lawful-tests start lawful).0
+pub lawful-unit : (start : HandStart) → IsLawfulStart start → 1 ≤ start.blind.unit
+lawful-unit start lawful = leb-true 1 start.blind.unit (lawful-tests start lawful).0
 
 -- The next street may begin where the hand is ready for it.
 pub right-next : (start : HandStart) (standing : Standing) (counted : ℕ) → IsLawfulStart start → IsReady standing
     → counted ≡ standing.before + put_by_all standing.round
-    → IsStreetStart (street_start (next_bettors standing.round) start.marks.button 0 start.big start.unit counted)
+    → IsStreetStart (street_start (next_bettors standing.round) start.marks.button 0 start.blind.big start.blind.unit
+    counted)
 right-next start standing counted lawful ready is =
     let parts = chips-parts standing.round in
     let few = ready.chips in
@@ -123,7 +125,8 @@ ready-start start standing right is before =
 -- The hand stands on its streets and the next.
 pub at-next : (start : HandStart) (streets : Streets) (standing after : Standing) → IsLawfulStart start
     → IsReady standing → 1 ≤ standing.left → IsAt streets standing
-    → after.round ≡ street_after (street_start (next_bettors standing.round) start.marks.button 0 start.big start.unit
+    → after.round ≡ street_after (street_start (next_bettors standing.round) start.marks.button 0 start.blind.big
+    start.blind.unit
     (standing.before + put_by_all standing.round)) []
     → after.before ≡ standing.before + put_by_all standing.round → after.left ≡ standing.left - 1
     → IsAt (with_next_street start streets) after
@@ -133,7 +136,7 @@ at-next start streets standing after lawful ready some at round before left =
     let counted : standing.before + put_by_all standing.round ≡ put_so_far streets = let was = at.before in
     omega arith in
     let bettors = ap next_bettors at.round in
-    let same : street_start (next_bettors standing.round) start.marks.button 0 start.big start.unit
+    let same : street_start (next_bettors standing.round) start.marks.button 0 start.blind.big start.blind.unit
     (standing.before + put_by_all standing.round) ≡ later_street start streets = rw (bettors, counted) in
     record {
       round = round ∙ ap (λ (s : StreetStart). street_after s []) same;

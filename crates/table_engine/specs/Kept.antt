@@ -5,7 +5,7 @@ use Rattle.pot_layers.specs.declared.put.Put.{Put}
 use Rattle.table_engine.specs.declared.standing.Standing.{Standing}
 use Rattle.table_engine.specs.Starts.{IsLawfulStart}
 use Rattle.table_engine.specs.Hands.{HandTerms, players_by_seat, streets_of}
-use Rattle.table_engine.specs.Plays.{IsLawfulPlay, IsTimed}
+use Rattle.table_engine.specs.Plays.{IsLawfulPlay}
 use Rattle.table_engine.specs.Results.{puts_in_hand}
 use Rattle.table_engine.specs.Standings.{IsAt, IsReady}
 
@@ -22,4 +22,3 @@ pub record IsHandKept (hand : HandTerms) (standing : Standing) (tally : List Put
   -- the start is lawful, and the acts are a lawful play of it
   pub lawful : IsLawfulStart hand.start
   pub played : IsLawfulPlay hand
-  pub timed : IsTimed hand

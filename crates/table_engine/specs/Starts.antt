@@ -37,7 +37,7 @@ pub record IsLawfulStart (start : HandStart) : Type 0 where
   -- no two have one name
   pub names : are_distinct bytes_eq (map (λ player. player.name) start.seats) ≡ true
   -- each has a stack above 0 that is a multiple of the unit, and all are far from the end of their type
-  pub stacks : have_playable_stacks start.unit start.seats ≡ true
+  pub stacks : have_playable_stacks start.blind.unit start.seats ≡ true
   pub chips : chips_of start.seats < 2 ^ 53
   -- the button and the blinds are at seats of the table, a player sits in the big mark's seat, and the small mark is
   -- another seat
@@ -45,4 +45,4 @@ pub record IsLawfulStart (start : HandStart) : Type 0 where
   pub big : list_any (λ player. player.seat == start.marks.big) start.seats ≡ true
   pub small : start.marks.small ≢ start.marks.big
   -- the blinds and the unit are lawful
-  pub blinds : is_blind (record { small = start.small; big = start.big; unit = start.unit }) ≡ true
+  pub blinds : is_blind start.blind ≡ true

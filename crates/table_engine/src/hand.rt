@@ -7,7 +7,7 @@ ghost use Rattle.table_engine.specs.Hands.{due_in_hand, due_name, is_over, seat_
 ghost use Rattle.table_engine.specs.Acts.{time_act, refusal_in_seat, refusal_of_act, refusal_of_time, act_in_time, done_in_seat, done_of_act, done_of_time, hand_after, hand_after_time, IsAnswer};
 ghost use Rattle.table_engine.specs.Awards.{awards_in_hand, most_awarded};
 ghost use Rattle.table_engine.specs.Results.{is_won_by_folds, showdown_awards, starting_stacks};
-ghost use Rattle.table_engine.specs.Plays.{IsLawfulPlay, IsCompletePlay, IsTimed};
+ghost use Rattle.table_engine.specs.Plays.{IsLawfulPlay, IsCompletePlay};
 
 use crate::awards::Awards;
 use crate::dealing::{all_live, board_of, dealt_seats};
@@ -81,7 +81,6 @@ impl Hand {
         ensures same { result.now ≡ self.now.start }
         ensures lawful { IsLawfulStart self.now.start }
         ensures played { IsLawfulPlay self.now }
-        ensures timed { IsTimed self.now }
     {
         &self.start
     }
@@ -115,7 +114,6 @@ impl Hand {
     fn seat_of_name(&self, name: Name) -> Option<u8>
         ensures seat { result ≡ seat_of_name self.now.start name }
         ensures played { IsLawfulPlay self.now }
-        ensures timed { IsTimed self.now }
     {
         if let Some(seat) = self.standing.round.due() {
             if self.start.has_in_seat(seat, name) {
@@ -154,9 +152,8 @@ impl Hand {
         ensures done { IfOk result (λ done. done ≡ done_in_seat self.old act seat) }
         ensures err { OnErr result (self.new ≡ self.old) }
         ensures played { IsLawfulPlay self.new }
-        ensures timed { IsTimed self.new }
     {
-        let done = self.standing.check(self.start.game, seat, act)?;
+        let done = self.standing.check(&self.start, seat, act)?;
         self.acts.push(ActOf { name, act, by_time })?;
         let before = self.standing.round.facing(seat).put;
         self.standing.take(seat, act);
@@ -175,7 +172,6 @@ impl Hand {
         ensures done { IfOk result (λ done. done ≡ done_of_act self.old name act) }
         ensures err { OnErr result (self.new ≡ self.old) }
         ensures played { IsLawfulPlay self.new }
-        ensures timed { IsTimed self.new }
     {
         let Some(seat) = self.seat_of_name(name) else {
             return Err(ActFault::No(Refusal::NotDealt));
@@ -204,7 +200,6 @@ impl Hand {
         ensures done { IfOk result (λ done. done ≡ done_of_time self.old) }
         ensures err { OnErr result (self.new ≡ self.old) }
         ensures played { IsLawfulPlay self.new }
-        ensures timed { IsTimed self.new }
     {
         let Some(seat) = self.due_seat() else {
             return Err(ActFault::No(Refusal::HandOver));
@@ -233,7 +228,7 @@ impl Hand {
             &live,
             board_of(&self.start, dealt),
             self.start.game,
-            self.start.unit,
+            self.start.blind.unit,
             self.start.marks.button,
             self.start.seat_count,
         )

@@ -13,7 +13,7 @@ ghost use Rattle.table_engine.specs.Starts.{IsLawfulStart, chips_of, have_playab
 ghost use Rattle.table_engine.specs.Hands.{HandTerms, behind, due_in_hand, due_name, is_over, player_of, put_in_hand, street_of, streets_of};
 ghost use Rattle.floor_text.specs.Refusals.{refusal_number};
 ghost use Rattle.rulebook.specs.Pairs.{are_rising};
-ghost use Rattle.table_engine.specs.Acts.{act_checks, done_of_act, refusal_of_act, time_act};
+ghost use Rattle.table_engine.specs.Acts.{act_checks, done_of_act, hand_after_time, refusal_of_act, refusal_of_time, time_act};
 ghost use Rattle.table_engine.specs.Results.{award, is_won_by_folds, players_after, pot, puts_in_hand, stacks_after_hand, starting_stacks};
 ghost use Rattle.table_engine.specs.Plays.{IsLawfulPlay, are_lawful_after};
 ghost use Rattle.table_engine.specs.declared.start.HandStart.{HandStart};
@@ -36,10 +36,18 @@ pub fn chips_of_a_hand()
         → chips_of (players_after hand) ≡ chips_of hand.start.seats }
 {}
 
-/// Says that each act of a lawful play is refused by no check on the acts before it.
+/// Says that each act of a lawful play is refused by no check on the acts before it. Where it came by a called time, to
+/// call time there is not refused and makes the hand with that act: what wrote the act back as a called time would play
+/// the same hand.
 pub fn acts_of_a_hand()
-    ensures { (hand : HandTerms) (front : List ActOf) (act : ActOf) (back : List ActOf) → IsLawfulPlay hand
+    ensures free { (hand : HandTerms) (front : List ActOf) (act : ActOf) (back : List ActOf) → IsLawfulPlay hand
         → hand.acts ≡ front ++ act ∷ back → refusal_of_act (record hand { acts = front }) act.name act.act ≡ None }
+    ensures called { (hand : HandTerms) (front : List ActOf) (act : ActOf) (back : List ActOf) → IsLawfulPlay hand
+        → hand.acts ≡ front ++ act ∷ back → act.by_time ≡ true
+        → refusal_of_time (record hand { acts = front }) ≡ None }
+    ensures timed { (hand : HandTerms) (front : List ActOf) (act : ActOf) (back : List ActOf) → IsLawfulPlay hand
+        → hand.acts ≡ front ++ act ∷ back → act.by_time ≡ true
+        → hand_after_time (record hand { acts = front }) ≡ record hand { acts = front ++ act ∷ [] } }
 {}
 
 /// Says that as long as a hand is not over somebody is due. He has chips behind, and he may fold, so there is always an
@@ -80,9 +88,9 @@ pub fn players_of_a_hand()
         → map (λ player. player.seat) (players_after hand) ≡ map (λ player. player.seat) hand.start.seats }
     ensures stacks { (hand : HandTerms) → map (λ player. player.stack) (players_after hand) ≡ stacks_after_hand hand }
     ensures whole { (hand : HandTerms) → IsLawfulStart hand.start → IsLawfulPlay hand
-        → list_all (λ player. player.stack % hand.start.unit == 0) (players_after hand) ≡ true }
+        → list_all (λ player. player.stack % hand.start.blind.unit == 0) (players_after hand) ≡ true }
     ensures playable { (hand : HandTerms) → IsLawfulStart hand.start → IsLawfulPlay hand → is_won_by_folds hand ≡ true
-        → have_playable_stacks hand.start.unit (players_after hand) ≡ true }
+        → have_playable_stacks hand.start.blind.unit (players_after hand) ≡ true }
 {}
 
 /// Says that a hand that is over and not won by folds comes to a showdown: a live player has put in chips, so that each

@@ -6,7 +6,7 @@ ghost use Rattle.betting_round.specs.Acts.{done_by};
 ghost use Rattle.betting_round.specs.ActChecks.{act_refusal, facing_in, IsAllowed};
 ghost use Rattle.table_engine.specs.Starts.{IsLawfulStart};
 ghost use Rattle.table_engine.specs.Hands.{Streets, blind_of, posted, lacking, seated, players_by_seat, first_streets, has_ended, with_next_street, dealt_on, with_act};
-ghost use Rattle.table_engine.specs.Acts.{limits_of};
+ghost use Rattle.table_engine.specs.Acts.{limits_of, limits_on};
 ghost use Rattle.table_engine.specs.Standings.{IsAt, IsReady};
 
 use crate::players::{InSlot, fill_slots};
@@ -31,9 +31,9 @@ fn blind_of(start: &HandStart, seat: u8) -> u64
     ensures { result ≡ blind_of start.now seat }
 {
     if seat == start.marks.big {
-        start.big
+        start.blind.big
     } else if seat == start.marks.small {
-        start.small
+        start.blind.small
     } else {
         0
     }
@@ -127,14 +127,14 @@ impl Standing {
     {
         let bettors = all_seated(start);
         let counted = all_lacking(start, start.seats.items());
-        let opening = start.big;
+        let opening = start.blind.big;
         Standing {
             round: Round::start(
                 &bettors,
                 start.marks.big,
                 opening,
-                start.big,
-                start.unit,
+                start.blind.big,
+                start.blind.unit,
                 counted,
             ),
             before: 0,
@@ -160,8 +160,8 @@ impl Standing {
                 &bettors,
                 start.marks.button,
                 0,
-                start.big,
-                start.unit,
+                start.blind.big,
+                start.blind.unit,
                 counted,
             ),
             before: counted,
@@ -188,14 +188,16 @@ impl Standing {
         self.deal_on(start)
     }
 
-    /// Tells what an act of a seat comes to, by the limits of the game, or why it is refused.
-    pub fn check(&self, game: Game, seat: u8, act: Act) -> Result<Done, Refusal>
-        ensures ok { OnOk result (act_refusal (limits_of game) self.now.round seat act ≡ None) }
+    /// Tells what an act of a seat comes to, by the limits of the hand, or why it is refused.
+    pub fn check(&self, start: &HandStart, seat: u8, act: Act) -> Result<Done, Refusal>
+        ensures ok { OnOk result ((streets : Streets) → IsAt streets self.now
+            → act_refusal (limits_on start.now streets) self.now.round seat act ≡ None) }
         ensures allowed { OnOk result (IsAllowed self.now.round seat act) }
         ensures done { IfOk result (λ done. done ≡ done_by (facing_in self.now.round seat) act) }
-        ensures err { IfErr result (λ refusal. act_refusal (limits_of game) self.now.round seat act ≡ Some refusal) }
+        ensures err { IfErr result (λ refusal. (streets : Streets) → IsAt streets self.now
+            → act_refusal (limits_on start.now streets) self.now.round seat act ≡ Some refusal) }
     {
-        check(&self.round, game, seat, act)
+        check(&self.round, start.game, seat, act)
     }
 
     /// Takes an act of a seat that is not refused.

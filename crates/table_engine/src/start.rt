@@ -7,6 +7,7 @@ ghost use Rattle.table_engine.specs.Results.{with_stack};
 use button_blinds::Marks;
 use card_set::{Deck, Game};
 use floor_text::{List, Name};
+use level_plan::Blind;
 use std::alloc::{AllocError, Global};
 
 /// A player who is dealt in.
@@ -44,12 +45,8 @@ pub struct HandStart {
     pub seat_count: u8,
     /// The seats that have the button, the small and the big blind.
     pub marks: Marks,
-    /// The small blind, in chips.
-    pub small: u64,
-    /// The big blind, in chips.
-    pub big: u64,
-    /// The smallest denomination in play, in chips.
-    pub unit: u64,
+    /// The blinds, and the unit of the chips in play.
+    pub blind: Blind,
     /// Which game is played.
     pub game: Game,
     /// The deck from which the cards are dealt.
@@ -68,9 +65,7 @@ impl HandStart {
             seats: List::from_vec(seats),
             seat_count: self.seat_count,
             marks: self.marks,
-            small: self.small,
-            big: self.big,
-            unit: self.unit,
+            blind: self.blind,
             game: self.game,
             deck: self.deck,
         })

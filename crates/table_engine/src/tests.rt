@@ -6,6 +6,7 @@ use betting_round::{Act, Done};
 use button_blinds::Marks;
 use card_set::{Deck, Game, read_row};
 use floor_text::{List, Name, Refusal};
+use level_plan::Blind;
 use std::alloc::Global;
 use std::process::Abort;
 use std::test::Fail;
@@ -47,9 +48,7 @@ fn start_of(
     ensures seats { result.seats ≡ seats.items }
     ensures table { result.seat_count ≡ seat_count }
     ensures marks { result.marks ≡ marks }
-    ensures small { result.small ≡ 100 }
-    ensures big { result.big ≡ 200 }
-    ensures unit { result.unit ≡ unit }
+    ensures blind { result.blind ≡ record { small = 100; big = 200; unit = unit } }
 {
     HandStart {
         table: 1,
@@ -57,9 +56,11 @@ fn start_of(
         seats: List::from_vec(seats),
         seat_count,
         marks,
-        small: 100,
-        big: 200,
-        unit,
+        blind: Blind {
+            small: 100,
+            big: 200,
+            unit,
+        },
         game,
         deck,
     }

@@ -43,7 +43,8 @@ begun-effect book hand (events.Settle table) = by_hand hand
     by_hand None = omega arith
     by_hand (Some hand) = omega arith
 begun-effect book hand events.Stop =
-    let same = left-void_first (λ book. book.begun) (record { same = λ book table payees. refl }) book book.plan.tables in
+    let same = left-void_first (λ book. book.begun)
+    (record { same = λ book table payees. refl }) book book.plan.tables in
     omega (arith, same)
 begun-effect book hand _ = omega arith
 
@@ -105,7 +106,8 @@ begins-numbered before table row taken later after = by_play state.play refl
     by_play None at = let none : No NoPlan ≡ Ok = rw at at taken in absurd cc
     by_play (Some play) at =
         let accepted = ap is_accepted taken in
-        let next : (state_after state (events.Begin table row)).play ≡ Some (play_effect play (events.Begin table row)) =
+        let next : (state_after state (events.Begin table row)).play
+        ≡ Some (play_effect play (events.Begin table row)) =
         rw (accepted, at) refl in
         let is = same_Some (play_effect play (events.Begin table row)) later (sym next ∙ after) in
         let free = not_refused state play (events.Begin table row) at taken in
@@ -127,7 +129,8 @@ level-effect book hand (events.Settle table) = by_hand hand
     by_hand None = omega arith
     by_hand (Some hand) = omega arith
 level-effect book hand events.Stop =
-    let same = left-void_first (λ book. book.level) (record { same = λ book table payees. refl }) book book.plan.tables in
+    let same = left-void_first (λ book. book.level)
+    (record { same = λ book table payees. refl }) book book.plan.tables in
     omega (arith, same)
 level-effect book hand _ = omega arith
 

@@ -31,7 +31,7 @@ pub fn units_follow_the_level()
         IsRaceTo unit (status_at play.book.seating.tables table).unit)) }
 {}
 
-/// Says that a level changes no hand that is out and no stack at rest.
+/// Says that a level changes no hand that is played and no stack at rest.
 pub fn a_level_changes_no_hand()
     ensures hands { (play : PlayState) (table : ℕ) → hand_at (play_after play Level) table ≡ hand_at play table }
     ensures players { (play : PlayState)

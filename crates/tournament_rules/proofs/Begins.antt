@@ -87,7 +87,7 @@ may_begin book table row free =
       fresh = not-true _ round.0;
     }
 
--- No start is out at a table where no hand is played.
+-- The book has no start for a table where no hand is played.
 pub none_started : (book : BookState) (table : ℕ) → IsValid book → is_playing book table ≡ false
     → start_at book.started table ≡ None
 none_started book table valid rests =
@@ -272,7 +272,8 @@ valid_begun book table row valid free =
           let kept = valid.chips in
           let gone = rest-dealt_in table next.waiting players in
           let play = play_changed book.started table (Some start) within in
-          let none : chips_of_start (start_at book.started table) ≡ 0 = ap chips_of_start (none_started book table valid may.rests) in
+          let none : chips_of_start (start_at book.started table)
+          ≡ 0 = ap chips_of_start (none_started book table valid may.rests) in
           omega (arith, kept, gone, play, none);
       units = units_kept book.plan book.level book.added tables (with_status tables table status) players
           (dealt_in table next.waiting players) valid.units keeps

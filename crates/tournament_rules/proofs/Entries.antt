@@ -98,7 +98,7 @@ unit_of_many status count (suc below) there =
     let range = table_range 1 count (suc below) there in
     ap (λ (status : TableStatus). status.unit) (get_or-replicate count below status fresh_status (omega arith))
 
--- No hand is out where none is.
+-- No hand is played where none has started.
 pub start_none : (count table : ℕ) → start_at (replicate count None) table ≡ None
 start_none count table = get_or-repeated count table None
 
@@ -170,7 +170,8 @@ valid_first plan right =
 
     none_started : (count : ℕ)
         → sum_by (λ start. sum_by (λ player. player.stack) (starters_of start)) (replicate count None) ≡ 0
-    none_started count = rw (sum_by-replicate (λ start. sum_by (λ player. player.stack) (starters_of start))) (omega arith)
+    none_started count = rw (sum_by-replicate (λ start. sum_by (λ player. player.stack) (starters_of start)))
+        (omega arith)
 
 -- An entry keeps its number when another follows.
 slice_get-more : {A : Type 0} (items : List A) (i : ℕ) (item new : A) → slice_get items i ≡ Some item

@@ -1,5 +1,5 @@
--- A tournament whose plan is whole is valid after each event: its book is, and each hand that is out is a lawful play
--- of its start.
+-- A tournament whose plan is whole is valid after each event: its book is, and each hand that is played is a lawful
+-- play of its start.
 use Rattle.std.proofs.Common.{◌≡◌, ◌∙◌, refl, sym, ap, subst, ℕ, ◌+◌, ◌<◌, true, false, ◌==◌, List, [], ◌∷◌, ◌++◌, length, inl, inr, arith, length-set}
 use Rattle.std.specs.Prelude.{replicate, slice_set, Option, Some, None, option_map, option_and_then}
 use Rattle.std.specs.Option.{option_map_or, ForSome}
@@ -37,11 +37,11 @@ use Rattle.tournament_rules.proofs.Levels.{valid_leveled}
 use Rattle.tournament_rules.proofs.Races.{valid_raced}
 use Rattle.tournament_rules.proofs.Rounds.{valid_with_hands, valid_round_ended}
 
--- the hand of a start that is out, and its acts
+-- the hand of a start, if there is one, and its acts
 abbrev hand_from : Option HandStart → List ActOf → Option HandTerms
 hand_from start acts = option_map (λ start. record { start = start; acts = acts }) start
 
--- The hand that is out at a table, if one is, is a lawful play of its start.
+-- The hand that is played at a table, if one is, is a lawful play of its start.
 abbrev IsLawfulAt : List (Option HandStart) → List (List ActOf) → ℕ → Type 0
 IsLawfulAt started acts table = ForSome (hand_from (start_at started table) (acts_at acts table)) IsLawfulPlay
 
@@ -53,7 +53,7 @@ at_each P table here elsewhere other = elim (cases_Bool (table == other)) [
   | inr differ ↦ elsewhere other differ
 ]
 
--- The hands that are out are lawful plays once the start and the acts at a table are others.
+-- The hands that are played are lawful plays once the start and the acts at a table are others.
 plays_changed : (started : List (Option HandStart)) (acts : List (List ActOf)) (table : ℕ) (start : Option HandStart)
     (new : List ActOf) → table < length started → table < length acts → ((other : ℕ) → IsLawfulAt started acts other)
     → ForSome (hand_from start new) IsLawfulPlay
@@ -121,9 +121,10 @@ play_acted play table name act valid none free =
     by_start (Some start) acts free lawful =
         let hand : HandTerms = record { start = start; acts = acts } in
         some_so IsLawfulPlay _
-        (lawful_play-more hand (record { name = name; act = act; by_time = false }) (lawful hand refl) free)
+        (lawful_play-more hand (record { name = name; act = act; by_time = false }) (lawful hand refl) free
+        (λ by_time. absurd cc))
 
--- the acts of a hand once time is called, where one is out
+-- the acts of a hand once time is called, where one is played
 abbrev acts_in_time : Option HandTerms → List ActOf
 acts_in_time hand = option_map_or (λ hand. (hand_after_time hand).acts) hand []
 
@@ -158,7 +159,7 @@ play_timed play table valid none free =
 abbrev settled_at : PlayState → ℕ → HandTerms → PlayState
 settled_at play table hand = record { book = settled play.book hand; acts = slice_set play.acts table [] }
 
--- After a settle of the hand with the start that is out.
+-- After a settle of the hand with the start that the book has.
 settled_from : (play : PlayState) (table : ℕ) (start : HandStart) → IsValidPlay play
     → start_at play.book.started table ≡ Some start
     → is_over (record { start = start; acts = acts_at play.acts table }) ≡ true

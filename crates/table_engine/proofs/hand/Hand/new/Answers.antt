@@ -1,5 +1,5 @@
 use Rattle.std.proofs.Common.{◌∙◌, sym, arith, rules}
-use Rattle.table_engine.proofs.Plays.{lawful_play-none, timed-none}
+use Rattle.table_engine.proofs.Plays.{lawful_play-none}
 use Rattle.table_engine.proofs.Puts.{begun-few, puts-begun}
 use Rattle.table_engine.proofs.Standings.{streets-none}
 use Rattle.table_engine.proofs.hand.Hand.new.Goals as goal
@@ -21,5 +21,4 @@ invariant_of-result c = record {
   room = search rules;
   lawful = c.requires;
   played = rw (c.from_vec.ensures, c.in-Ok-with_capacity.ensures.items) (lawful_play-none c.args.start);
-  timed = rw (c.from_vec.ensures, c.in-Ok-with_capacity.ensures.items) (timed-none c.args.start);
 }
