@@ -134,7 +134,8 @@ all_so P test so busts all =
 abbrev busts_between : BookState → BookState → List Bust
 busts_between earlier later = drop (length earlier.busts) later.busts
 
-busts_between-more : (earlier later : BookState) (grows : Grows earlier later) → busts_between earlier later ≡ grows.more
+busts_between-more : (earlier later : BookState) (grows : Grows earlier later)
+    → busts_between earlier later ≡ grows.more
 busts_between-more earlier later grows =
     ap (drop (length earlier.busts)) grows.is ∙ drop-append_seam earlier.busts grows.more
 
