@@ -118,11 +118,9 @@ round_kept group play event kind free is =
         by_hand None = refl
         by_hand (Some hand) =
             ap (λ (hands : Bool). if hands then play.book.group else play.book.group + 1) is.on
-    by_event (events.Hands on) stays = absurd cc
-    by_event events.Round stays = absurd cc
     by_event events.Stop stays = left-void_first (λ book. book.group) (record { same = λ book table payees. refl })
         play.book play.book.plan.tables
-    by_event _ stays = refl
+    by_event _ stays = cc
 
 -- What a test tells of all of a list.
 all_so : (P : Bust → Type 0) (test : Bust → Bool) → ((bust : Bust) → test bust ≡ true → P bust) → (busts : List Bust)
@@ -134,7 +132,8 @@ all_so P test so busts all =
 abbrev busts_between : BookState → BookState → List Bust
 busts_between earlier later = drop (length earlier.busts) later.busts
 
-busts_between-more : (earlier later : BookState) (grows : Grows earlier later) → busts_between earlier later ≡ grows.more
+busts_between-more : (earlier later : BookState) (grows : Grows earlier later)
+    → busts_between earlier later ≡ grows.more
 busts_between-more earlier later grows =
     ap (drop (length earlier.busts)) grows.is ∙ drop-append_seam earlier.busts grows.more
 

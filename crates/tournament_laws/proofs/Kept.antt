@@ -172,11 +172,9 @@ hands_kept book hand events.Level same =
         ≡ book.seating.hands
     by_units true = refl
     by_units false = refl
-hands_kept book hand (events.Hands on) same = absurd cc
-hands_kept book hand events.Round same = absurd cc
 hands_kept book hand events.Stop same =
     left-void_first (λ book. book.seating.hands) (record { same = λ book table payees. refl }) book book.plan.tables
-hands_kept book hand _ same = refl
+hands_kept book hand _ same = cc
 
 -- What is so of a tournament, and stays so at each accepted event but those that a test picks, is so after a list of
 -- events in which none of these is accepted.

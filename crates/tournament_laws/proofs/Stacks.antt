@@ -139,11 +139,6 @@ weight-all number book table (name ∷ names) (place ∷ places) valid may =
 weight-effect : (number : ℕ) (play : PlayState) (event : Event) → IsValidPlay play → refusal_of play event ≡ None
     → moves_chips event ≡ false
     → weight_in number (play_effect play event).book.seating.players ≡ weight_in number play.book.seating.players
-weight-effect number play (events.Enter name table seat) valid none kind = absurd cc
-weight-effect number play (events.Begin table row) valid none kind = absurd cc
-weight-effect number play (events.Settle table) valid none kind = absurd cc
-weight-effect number play (events.Race table row) valid none kind = absurd cc
-weight-effect number play events.Stop valid none kind = absurd cc
 weight-effect number play (events.Balance from to) valid none kind =
     by_move (balance_move play.book.seating from to)
   where
@@ -167,7 +162,7 @@ weight-effect number play events.Level valid none kind =
         else play.book.seating).players ≡ weight_in number play.book.seating.players
     by_units true = refl
     by_units false = refl
-weight-effect number play _ valid none kind = refl
+weight-effect number play _ valid none kind = cc
 
 -- An event that moves no chips leaves all stacks.
 pub stack-kept : (number : ℕ) (play : PlayState) (event : Event) → IsValidPlay play → refusal_of play event ≡ None

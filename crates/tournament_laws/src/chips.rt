@@ -3,16 +3,16 @@
 ghost use Rattle.std.specs.Prelude.{◌≡◌, ◌≢◌, ◌+◌, ◌<◌, ◌%◌, List, [], ◌∷◌, true, false, map, ℕ, length};
 ghost use Rattle.std.specs.List.{All};
 ghost use Rattle.std.specs.Option.{ForSome};
+ghost use Rattle.card_set.specs.declared.card.CardRow.{CardRow};
+ghost use Rattle.seat_book.specs.Tables.{status_at};
 ghost use Rattle.floor_events.specs.declared.event.Event.{Event};
 ghost use Rattle.floor_events.specs.declared.answer.Answer.TheVariants.{Ok};
-ghost use Rattle.seat_book.specs.Tables.{status_at};
+ghost use Rattle.floor_events.specs.declared.event.Event.TheVariants.{Race, Enter, Begin, Settle};
 ghost use Rattle.tournament_rules.specs.Players.{is_in_hand, is_among};
 ghost use Rattle.tournament_rules.specs.Checks.{is_over_for_all};
 ghost use Rattle.tournament_rules.specs.States.{State, first_state, answer_to, state_after, run, players_of};
 ghost use Rattle.tournament_rules.specs.Chips.{sold, removed, added, rest, play, sold_by, rest_in, rest_at};
 ghost use Rattle.tournament_rules.specs.Kinds.{is_entry, is_race};
-ghost use Rattle.floor_events.specs.declared.event.Event.TheVariants.{Race, Enter, Begin, Settle};
-ghost use Rattle.card_set.specs.declared.card.CardRow.{CardRow};
 ghost use Rattle.tournament_rules.specs.Racing.{race_at};
 ghost use Rattle.tournament_rules.specs.Books.{start_at, starters_of};
 ghost use Rattle.tournament_rules.specs.Dealing.{next_start};
@@ -26,8 +26,8 @@ pub fn chips_are_kept()
         ≡ sold (run first_state events) + added (run first_state events) }
 {}
 
-/// Chips are sold by an entry alone, and races alone take chips away and give some: what is sold, removed or added is
-/// the same after every other event, and after each that is refused.
+/// Says that chips are sold by an entry alone, and that races alone take chips away and give some: what is sold, removed
+/// or added is the same after every other event, and after each that is refused.
 pub fn entries_and_races_alone_change_the_chips()
     ensures sold { (state : State) (event : Event) → is_entry event ≡ false
         → sold (state_after state event) ≡ sold state }

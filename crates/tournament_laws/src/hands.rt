@@ -3,22 +3,21 @@
 ghost use Rattle.std.specs.Prelude.{ℕ, ◌≡◌, ◌≢◌, List, true, Some, map, filter, is_some, ◌+◌, option_map, false};
 ghost use Rattle.std.specs.Option.{ForSome};
 ghost use Rattle.card_set.specs.declared.card.CardRow.{CardRow};
-ghost use Rattle.floor_events.specs.declared.event.Event.{Event};
-ghost use Rattle.floor_events.specs.declared.event.Event.TheVariants.{Begin, Time, Settle};
-ghost use Rattle.floor_events.specs.declared.answer.Answer.TheVariants.{Ok};
 ghost use Rattle.seat_book.specs.Players.{sits_at};
 ghost use Rattle.table_engine.specs.Starts.{IsLawfulStart};
 ghost use Rattle.table_engine.specs.Plays.{IsLawfulPlay};
+ghost use Rattle.table_engine.specs.Hands.{is_over};
+ghost use Rattle.floor_events.specs.declared.event.Event.{Event};
+ghost use Rattle.floor_events.specs.declared.event.Event.TheVariants.{Begin, Time, Settle};
+ghost use Rattle.floor_events.specs.declared.answer.Answer.TheVariants.{Ok};
 ghost use Rattle.tournament_rules.specs.Books.{start_at, starters_of};
 ghost use Rattle.tournament_rules.specs.Players.{is_among, is_in_hand, start_seat};
 ghost use Rattle.tournament_rules.specs.Dealing.{next_start};
 ghost use Rattle.tournament_rules.specs.States.{PlayState, first_state, hand_at, act_table, play_after, answer_to, run, state_after};
-ghost use Rattle.tournament_rules.specs.Chips.{play};
 ghost use Rattle.tournament_rules.specs.Valid.{without_stack};
 ghost use Rattle.tournament_rules.specs.Checks.{is_playing};
 ghost use Rattle.tournament_rules.specs.Kinds.{is_begin};
 ghost use Rattle.tournament_laws.specs.Accepted.{how_many_accepted};
-ghost use Rattle.table_engine.specs.Hands.{is_over};
 
 /// Says that after any list of events, a hand that begins starts lawfully.
 pub fn starts_are_lawful()

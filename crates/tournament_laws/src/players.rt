@@ -3,24 +3,23 @@
 ghost use Rattle.std.specs.Prelude.{ℕ, ◌≡◌, ◌≢◌, ◌+◌, ◌<◌, nat_le, List, true, false, Some, length, take, drop, count_by, slice_get};
 ghost use Rattle.std.specs.List.{All};
 ghost use Rattle.std.specs.Option.{ForSome};
+ghost use Rattle.std.specs.Str.{bytes_eq};
 ghost use Rattle.rulebook.specs.Pairs.{is_pairwise, are_distinct};
 ghost use Rattle.card_set.specs.declared.card.Card.{Card};
 ghost use Rattle.betting_round.specs.declared.act.Act.{Act};
+ghost use Rattle.place_list.specs.Places.{place_of};
+ghost use Rattle.seat_book.specs.Players.{is_numbered, are_in_order};
 ghost use Rattle.floor_events.specs.declared.event.Event.{Event};
 ghost use Rattle.floor_events.specs.declared.event.Event.TheVariants.{Act as Acts, Settle, Enter};
 ghost use Rattle.floor_events.specs.declared.answer.Answer.TheVariants.{Ok};
-ghost use Rattle.seat_book.specs.Players.{is_numbered, are_in_order};
 ghost use Rattle.tournament_rules.specs.Books.{start_at, starters_of};
 ghost use Rattle.tournament_rules.specs.Players.{is_among};
 ghost use Rattle.tournament_rules.specs.Dealing.{next_start};
 ghost use Rattle.tournament_rules.specs.States.{first_state, answer_to, state_after, run, players_of};
-ghost use Rattle.tournament_rules.specs.Chips.{play};
 ghost use Rattle.tournament_rules.specs.Kinds.{ends_round};
-ghost use Rattle.tournament_laws.specs.Accepted.{is_any_accepted};
 ghost use Rattle.tournament_rules.specs.Valid.{is_bust_of};
-ghost use Rattle.std.specs.Str.{bytes_eq};
 ghost use Rattle.tournament_rules.specs.Checks.{is_over_for_all};
-ghost use Rattle.place_list.specs.Places.{place_of};
+ghost use Rattle.tournament_laws.specs.Accepted.{is_any_accepted};
 
 /// Says that after any list of events, lawful or not, the players are listed by table, at one table in rising seat, and
 /// no two of them sit in one seat.

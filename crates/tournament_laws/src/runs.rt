@@ -7,7 +7,6 @@ ghost use Rattle.floor_events.specs.declared.event.Event.{Event};
 ghost use Rattle.floor_events.specs.declared.event.Event.TheVariants.{Go, Stop};
 ghost use Rattle.floor_events.specs.declared.answer.Answer.TheVariants.{Ok};
 ghost use Rattle.tournament_rules.specs.States.{first_state, first_play, act_table, answer_to, answers, answers_in_play, run_in_play, state_after, run, State};
-ghost use Rattle.tournament_rules.specs.Chips.{play};
 ghost use Rattle.tournament_rules.specs.Report.{book_report, report_of};
 ghost use Rattle.tournament_rules.specs.Apart.{first_apart, answers_apart, run_apart, seen_of};
 ghost use Rattle.tournament_laws.specs.Orders.{is_of_hands, HaveOneOrder};

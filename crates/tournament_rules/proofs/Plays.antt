@@ -19,12 +19,12 @@ use Rattle.table_engine.proofs.Plays.{lawful_play-none, lawful_play-more}
 use Rattle.table_engine.proofs.TurnLaws.{lawful_play-time}
 use Rattle.floor_events.specs.declared.event.Event.{Event}
 use Rattle.floor_events.specs.declared.event.Event.TheVariants as events
-use Rattle.tournament_rules.specs.Books.{start_at}
+use Rattle.tournament_rules.specs.Books.{BookState, start_at}
 use Rattle.tournament_rules.specs.Checks.{book_refusal}
 use Rattle.tournament_rules.specs.Dealing.{next_start}
 use Rattle.tournament_rules.specs.Effects.{settled, stopped_book}
 use Rattle.tournament_rules.specs.States.{PlayState, first_play, acts_at, hand_at, refusal_of, play_effect}
-use Rattle.tournament_rules.specs.Valid.{IsValidPlay, IsStartAt}
+use Rattle.tournament_rules.specs.Valid.{IsValid, IsValidPlay, IsStartAt}
 use Rattle.tournament_rules.specs.Apart.{hand_refusal}
 use Rattle.tournament_rules.proofs.Fitting.{table_range, other_number, table_started}
 use Rattle.tournament_rules.proofs.Ends.{left-void_first, valid_settled, valid_stopped, none_started-stopped}
@@ -214,17 +214,26 @@ play_stopped play valid = record {
     nobody : (start : Option HandStart) (acts : List ActOf) → start ≡ None → ForSome (hand_from start acts) IsLawfulPlay
     nobody start acts none = rw none (λ hand is. absurd cc)
 
+-- After an order of the book, which leaves the hands as they are, where the book is valid after it.
+ordered : (play : PlayState) (event : Event) (after : BookState) → IsValidPlay play → refusal_of play event ≡ None
+    → (book_refusal play.book event ≡ None → IsValid after) → after.plan.tables ≡ play.book.plan.tables
+    → after.started ≡ play.book.started → IsValidPlay (record { book = after; acts = play.acts })
+ordered play event after valid none book tables started = record {
+  book = book (passed-parts play event none).0;
+  room = valid.room ∙ ap (λ (tables : ℕ). tables + 1) (sym tables);
+  plays = λ table. subst (λ (started : List (Option HandStart)). IsLawfulAt started play.acts table) (sym started)
+      (valid.plays table);
+}
+
 -- An event that is not refused leaves a tournament valid.
 pub play_keeps : (play : PlayState) (event : Event) → IsValidPlay play → refusal_of play event ≡ None
     → IsValidPlay (play_effect play event)
 play_keeps play (events.Plan line) valid none =
     absurd (plan_late play.book line (passed-parts play (events.Plan line) none).0)
 play_keeps play events.Go valid none = absurd (go_late play.book (passed-parts play events.Go none).0)
-play_keeps play (events.Enter name table seat) valid none = record {
-  book = valid_entered play.book name table seat valid.book (passed-parts play (events.Enter name table seat) none).0;
-  room = valid.room;
-  plays = valid.plays;
-}
+play_keeps play (events.Enter name table seat) valid none =
+    ordered play (events.Enter name table seat) _ valid none
+    (valid_entered play.book name table seat valid.book) refl refl
 play_keeps play (events.Begin table row) valid none =
     play_begun play table row valid (passed-parts play (events.Begin table row) none).0
 play_keeps play (events.Act table name act) valid none =
@@ -236,37 +245,19 @@ play_keeps play (events.Time table) valid none =
 play_keeps play (events.Settle table) valid none =
     let parts = passed-parts play (events.Settle table) none in
     play_settled play table valid parts.0 parts.1
-play_keeps play (events.Balance from to) valid none = record {
-  book = valid_balanced play.book from to valid.book (passed-parts play (events.Balance from to) none).0;
-  room = valid.room;
-  plays = valid.plays;
-}
-play_keeps play (events.Break table places names) valid none = record {
-  book = valid_broken play.book table places names valid.book
-      (passed-parts play (events.Break table places names) none).0;
-  room = valid.room;
-  plays = valid.plays;
-}
-play_keeps play events.Level valid none = record {
-  book = valid_leveled play.book valid.book (passed-parts play events.Level none).0;
-  room = valid.room;
-  plays = valid.plays;
-}
-play_keeps play (events.Race table row) valid none = record {
-  book = valid_raced play.book table row valid.book (passed-parts play (events.Race table row) none).0;
-  room = valid.room;
-  plays = valid.plays;
-}
-play_keeps play (events.Hands on) valid none = record {
-  book = valid_with_hands play.book on valid.book;
-  room = valid.room;
-  plays = valid.plays;
-}
-play_keeps play events.Round valid none = record {
-  book = valid_round_ended play.book valid.book;
-  room = valid.room;
-  plays = valid.plays;
-}
+play_keeps play (events.Balance from to) valid none =
+    ordered play (events.Balance from to) _ valid none (valid_balanced play.book from to valid.book) refl refl
+play_keeps play (events.Break table places names) valid none =
+    ordered play (events.Break table places names) _ valid none
+    (valid_broken play.book table places names valid.book) refl refl
+play_keeps play events.Level valid none =
+    ordered play events.Level _ valid none (valid_leveled play.book valid.book) refl refl
+play_keeps play (events.Race table row) valid none =
+    ordered play (events.Race table row) _ valid none (valid_raced play.book table row valid.book) refl refl
+play_keeps play (events.Hands on) valid none =
+    ordered play (events.Hands on) _ valid none (λ free. valid_with_hands play.book on valid.book) refl refl
+play_keeps play events.Round valid none =
+    ordered play events.Round _ valid none (λ free. valid_round_ended play.book valid.book) refl refl
 play_keeps play events.Stop valid none = play_stopped play valid
 
 -- A tournament is valid before any entry.
