@@ -1,4 +1,4 @@
-//! How a hand stands: its street, and what came before it.
+//! The betting of a hand as it stands: its street, and what came before it.
 
 ghost use Rattle.std.specs.Prelude.{◌≡◌, ◌+◌, ◌<◌, ◌≤◌, ◌^◌, None, Some, option_map, map, sum_by, IfOk, OnOk, IfErr};
 ghost use Rattle.std.specs.Option.{is_some};
@@ -7,7 +7,7 @@ ghost use Rattle.betting_round.specs.ActChecks.{act_refusal, facing_in, IsAllowe
 ghost use Rattle.table_engine.specs.Starts.{IsLawfulStart};
 ghost use Rattle.table_engine.specs.Hands.{Streets, blind_of, posted, lacking, seated, players_by_seat, first_streets, has_ended, with_next_street, dealt_on, with_act};
 ghost use Rattle.table_engine.specs.Acts.{limits_of, limits_on};
-ghost use Rattle.table_engine.specs.Standings.{IsAt, IsReady};
+ghost use Rattle.table_engine.specs.Running.{IsAt, IsReady};
 
 use crate::players::{InSlot, fill_slots};
 use crate::start::{HandStart, StartSeat};
@@ -15,9 +15,9 @@ use betting_round::{Act, Bettor, Done, NoLimit, PotLimit, Round};
 use card_set::Game;
 use floor_text::Refusal;
 
-/// How a hand stands. Three streets may follow the first.
+/// The betting of a hand as it stands. Three streets may follow the first.
 #[derive(Clone, Copy, Debug)]
-pub struct Standing {
+pub struct Betting {
     /// The last street that has begun.
     pub round: Round,
     /// What was put in on the streets before, in chips.
@@ -117,9 +117,9 @@ fn check(round: &Round, game: Game, seat: u8, act: Act) -> Result<Done, Refusal>
     }
 }
 
-impl Standing {
+impl Betting {
     /// Makes a hand as it stands before the first act, on its first street.
-    pub fn first(start: &HandStart) -> Standing
+    pub fn first(start: &HandStart) -> Betting
         requires { IsLawfulStart start.now }
         ensures at { IsAt (first_streets start.now) result }
         ensures ready { IsReady result }
@@ -128,7 +128,7 @@ impl Standing {
         let bettors = all_seated(start);
         let counted = all_lacking(start, start.seats.items());
         let opening = start.blind.big;
-        Standing {
+        Betting {
             round: Round::start(
                 &bettors,
                 start.marks.big,
@@ -155,7 +155,7 @@ impl Standing {
     {
         let counted = self.before + self.round.put();
         let bettors = self.round.next_bettors();
-        *self = Standing {
+        *self = Betting {
             round: Round::start(
                 &bettors,
                 start.marks.button,

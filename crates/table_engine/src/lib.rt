@@ -11,12 +11,12 @@
 #![tactic(auto)]
 
 mod awards;
+mod betting;
 mod dealing;
 mod hand;
 mod laws;
 mod players;
 mod record;
-mod standing;
 mod start;
 mod telling;
 

@@ -7,8 +7,8 @@ ghost use Rattle.table_engine.specs.Starts.{IsLawfulStart};
 ghost use Rattle.table_engine.specs.Hands.{players_by_seat};
 ghost use Rattle.table_engine.specs.Tellings.{first_put, told};
 
+use crate::betting::posted;
 use crate::players::{InSlot, fill_slots};
-use crate::standing::posted;
 use crate::start::{HandStart, StartSeat};
 use betting_round::Act;
 use pot_layers::{PotTally, Put};
