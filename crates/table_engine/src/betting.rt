@@ -5,7 +5,7 @@ ghost use Rattle.std.specs.Option.{is_some};
 ghost use Rattle.betting_round.specs.Acts.{done_by};
 ghost use Rattle.betting_round.specs.ActChecks.{act_refusal, facing_in, IsAllowed};
 ghost use Rattle.table_engine.specs.Starts.{IsLawfulStart};
-ghost use Rattle.table_engine.specs.Hands.{Streets, blind_of, posted, lacking, seated, players_by_seat, first_streets, has_ended, with_next_street, dealt_on, with_act};
+ghost use Rattle.table_engine.specs.Hands.{Streets, lacking, seated, players_by_seat, first_streets, has_ended, with_next_street, dealt_on, with_act};
 ghost use Rattle.table_engine.specs.Acts.{limits_of, limits_on};
 ghost use Rattle.table_engine.specs.Running.{IsAt, IsReady};
 
@@ -26,39 +26,20 @@ pub struct Betting {
     pub left: u8,
 }
 
-/// Gives the blind that is due of a seat, in chips.
-fn blind_of(start: &HandStart, seat: u8) -> u64
-    ensures { result ≡ blind_of start.now seat }
-{
-    if seat == start.marks.big {
-        start.blind.big
-    } else if seat == start.marks.small {
-        start.blind.small
-    } else {
-        0
-    }
-}
-
-/// Tells what a player posts, in chips.
-pub(crate) fn posted(start: &HandStart, player: &StartSeat) -> u64
-    ensures posted { result ≡ posted start.now player.now }
-    ensures covered { result ≤ player.now.stack }
-{
-    player.stack.min(blind_of(start, player.seat))
-}
-
 /// Tells what a player's blind lacks because his stack is short, in chips.
 fn lacking(start: &HandStart, player: &StartSeat) -> u64
     ensures { result ≡ lacking start.now player.now }
 {
-    blind_of(start, player.seat).saturating_sub(posted(start, player))
+    start
+        .blind_of(player.seat)
+        .saturating_sub(start.posted(player))
 }
 
 /// Gives a player of the start as he begins the hand.
 fn seated(start: &HandStart, player: &StartSeat) -> Bettor
     ensures { result ≡ seated start.now player.now }
 {
-    let put = posted(start, player);
+    let put = start.posted(player);
     Bettor {
         seat: player.seat,
         put,

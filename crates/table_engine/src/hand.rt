@@ -1,14 +1,14 @@
 //! A hand that is played.
 
-ghost use Rattle.std.specs.Prelude.{◌≡◌, ◌<◌, ◌^◌, [], ◌∷◌, ◌++◌, Some, None, IsTrue, false, true, sum, is_none, option_map, IfSome, IfOk, IfErr, OnOk, OnErr};
+ghost use Rattle.std.specs.Prelude.{◌≡◌, ◌<◌, ◌≤◌, ◌^◌, [], ◌∷◌, ◌++◌, Some, None, IsTrue, false, true, sum, is_none, option_map, IfSome, IfOk, IfErr, OnOk, OnErr};
 ghost use Rattle.table_engine.specs.Starts.{IsLawfulStart};
 ghost use Rattle.betting_round.specs.ActChecks.{facing_in};
 ghost use Rattle.betting_round.specs.Limits.{AreFewChips};
-ghost use Rattle.table_engine.specs.Hands.{due_in_hand, due_name, is_over, seat_of_name, street_of};
+ghost use Rattle.table_engine.specs.Hands.{due_in_hand, due_name, is_live, is_over, seat_of_name, street_of, streets_of};
 ghost use Rattle.table_engine.specs.Acts.{act_in_time, done_of_act, done_of_time, hand_after, hand_after_time, refusal_of_act, refusal_of_time, time_act, IsAnswer};
 ghost use Rattle.table_engine.specs.Accepted.{IsAccepted};
 ghost use Rattle.table_engine.specs.Awards.{awards_in_hand, most_awarded};
-ghost use Rattle.table_engine.specs.Results.{is_won_by_folds, showdown_awards, starting_stacks};
+ghost use Rattle.table_engine.specs.Results.{award, is_won_by_folds, showdown_awards, starting_stacks};
 ghost use Rattle.table_engine.specs.Plays.{IsLawfulPlay, IsCompletePlay};
 
 use crate::awards::Awards;
@@ -16,12 +16,12 @@ use crate::betting::Betting;
 use crate::dealing::{all_live, board_of, dealt_seats};
 use crate::players::{pay, players_by_seat};
 use crate::record::{Accepted, ActFault, ActOf, HandRecord};
-use crate::start::HandStart;
+use crate::start::{HandStart, StartSeat};
 use crate::telling::{first_puts, tell};
 use betting_round::{Act, Done, Facing};
 use floor_text::{List, Name, Refusal};
 use pot_layers::PotTally;
-use showdown::award;
+use showdown::award as award_pots;
 use std::alloc::{AllocError, Global};
 use std::marker::Model;
 
@@ -284,7 +284,7 @@ impl Hand {
         let players = players_by_seat(&self.start);
         let dealt = dealt_seats(&self.start, &players);
         let live = all_live(&self.start, &players, dealt, &self.betting.round);
-        award(
+        award_pots(
             &self.tally.pots(),
             &live,
             board_of(&self.start, dealt),
@@ -305,6 +305,33 @@ impl Hand {
             return Awards::Sole(self.betting.before + self.betting.round.put());
         }
         Awards::BySeat(self.showdown_awards())
+    }
+
+    /// Tells whether a player is live. He is until he folds.
+    pub fn is_live(&self, player: &StartSeat) -> bool
+        ensures { result ≡ is_live self.now player.now }
+    {
+        match self.betting.round.bettor(player.seat) {
+            Some(bettor) => bettor.live,
+            None => false,
+        }
+    }
+
+    /// Tells how many streets may still begin: 3 before the flop, and none once the river has begun.
+    pub fn streets_left(&self) -> u8
+        ensures { result ≡ (streets_of self.now).left }
+    {
+        self.betting.left
+    }
+
+    /// Tells what a player of a hand that is over gets, in chips. It takes no memory.
+    pub fn award(&self, player: &StartSeat) -> u64
+        requires over { IsTrue (is_over self.now) }
+        requires first { 1 ≤ player.now.seat }
+        requires last { player.now.seat ≤ 10 }
+        ensures { result ≡ award self.now player.now }
+    {
+        self.awards().award_in(player.seat, self.is_live(player))
     }
 
     /// Ends a hand that is over: where one player alone is live he gets everything, else each pot goes to the best

@@ -7,7 +7,6 @@ ghost use Rattle.table_engine.specs.Starts.{IsLawfulStart};
 ghost use Rattle.table_engine.specs.Hands.{players_by_seat};
 ghost use Rattle.table_engine.specs.Tellings.{first_put, told};
 
-use crate::betting::posted;
 use crate::players::{InSlot, fill_slots};
 use crate::start::{HandStart, StartSeat};
 use betting_round::Act;
@@ -18,7 +17,7 @@ impl InSlot for Put {
     ghost made = { λ start player. first_put start (Some player) };
 
     fn make(start: &HandStart, player: &StartSeat) -> Put {
-        Put::live(posted(start, player))
+        Put::live(start.posted(player))
     }
 }
 
