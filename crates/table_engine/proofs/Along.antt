@@ -15,7 +15,7 @@ use Rattle.table_engine.specs.Starts.{IsLawfulStart}
 use Rattle.table_engine.proofs.Plays.{lawful_play-more, lawful_play-none}
 use Rattle.table_engine.proofs.Refusals.{refused-in_seat, refused-without_seat}
 use Rattle.table_engine.proofs.Sound.{IsSound, sound-act, sound-first, sound-next, sound-play}
-use Rattle.table_engine.proofs.Standings.{streets-more, streets-none}
+use Rattle.table_engine.proofs.Running.{streets-more, streets-none}
 
 -- What holds before any act is kept where a street that has ended is followed by the next, and by each act that is not
 -- refused.

@@ -54,7 +54,7 @@ chips-players hand lawful play over =
     after ∙ sym stacks ∙ chips-after hand lawful play over ∙ start
 
 -- What a player gets, as the hand works it out.
-award-is : (hand : HandTerms) (player : StartSeat)
+pub award-is : (hand : HandTerms) (player : StartSeat)
     → award_in (awards_in_hand hand) player.seat (is_live hand player) ≡ award hand player
 award-is hand player =
     elim (cases_Bool (is_won_by_folds hand)) [ inl won ↦ rw won refl | inr many ↦ rw many refl ]

@@ -30,7 +30,7 @@ use Rattle.table_engine.proofs.Chips.{stands}
 use Rattle.table_engine.proofs.Plays.{lawful_play-more, lawful_play-none}
 use Rattle.table_engine.proofs.Refusals.{refused-in_seat}
 use Rattle.table_engine.proofs.Sound.{IsSound, placed-is, sound-play}
-use Rattle.table_engine.proofs.Standings.{streets-more, streets-none}
+use Rattle.table_engine.proofs.Running.{streets-more, streets-none}
 use Rattle.table_engine.proofs.Starts.{player_of-seat}
 
 -- Nothing is put in where nobody is dealt in.

@@ -28,17 +28,17 @@ use Rattle.betting_round.specs.WhoIsDue.{player_at}
 use Rattle.betting_round.proofs.Acted.{Acts, still, still-falls, who-acts}
 use Rattle.betting_round.proofs.Steps.{map_at, street_start_is, street_stepped, sum_map, sum_set}
 use Rattle.table_engine.specs.declared.record.ActOf.{ActOf}
-use Rattle.table_engine.specs.declared.standing.Standing.{Standing}
+use Rattle.table_engine.specs.declared.betting.Betting.{Betting}
 use Rattle.table_engine.specs.declared.start.HandStart.{HandStart}
 use Rattle.table_engine.specs.declared.start.StartSeat.{StartSeat}
 use Rattle.table_engine.specs.Acts.{limits_of, limits_on, refusal_in_seat, refusal_of_act}
 use Rattle.table_engine.specs.Hands.{HandTerms, StreetPlayed, Streets, dealt_on, first_street, first_streets, has_ended, later_street, player_of, players_by_seat, posted, put_from, put_on, seat_of_name, seated, street_now, streets_of, with_act, with_next_street}
 use Rattle.table_engine.specs.Plays.{IsLawfulPlay, are_lawful_after}
-use Rattle.table_engine.specs.Standings.{IsAt, IsReady}
+use Rattle.table_engine.specs.Running.{IsAt, IsReady}
 use Rattle.table_engine.specs.Starts.{IsLawfulStart, chips_of}
 use Rattle.table_engine.proofs.BySeat.{along-at, along-past, player_in-there, sum-of_start}
 use Rattle.table_engine.proofs.Refusals.{refused-in_seat, refused-without_seat}
-use Rattle.table_engine.proofs.Standings.{lawful-small, ready-act, ready-start, right-next, somes-street, streets-more, streets-none}
+use Rattle.table_engine.proofs.Running.{lawful-small, ready-act, ready-start, right-next, somes-street, streets-more, streets-none}
 use Rattle.table_engine.proofs.Starts.{right-first}
 use Rattle.table_engine.proofs.WholeUnits.{amount-whole, blinds-lawful, found-playable, posted-whole}
 
@@ -62,14 +62,14 @@ AreThere start (played ∷ streets) =
     (map is_some (street_after played.start played.acts).players
     ≡ map is_some (players_by_seat start)) × AreThere start streets
 
--- A hand that stands on these streets.
-abbrev pub standing_on : Streets → Standing
-standing_on streets = record { round = street_now streets; before = sum_by put_on streets.before; left = streets.left }
+-- The betting that stands for these streets.
+abbrev pub betting_on : Streets → Betting
+betting_on streets = record { round = street_now streets; before = sum_by put_on streets.before; left = streets.left }
 
 -- What holds of the streets of a lawful play after so many acts.
 pub record IsSound (start : HandStart) (streets : Streets) (acts : ℕ) : Type 0 where
   pub right : IsStreetStart streets.last.start
-  pub ready : IsReady (standing_on streets)
+  pub ready : IsReady (betting_on streets)
   pub unit : (street_now streets).unit ≡ start.blind.unit
   pub there : map is_some (street_now streets).players ≡ map is_some (players_by_seat start)
   pub earlier : AreThere start streets.before
@@ -195,7 +195,7 @@ sound-act start streets acts seat act sound free =
     let falls = still-falls limits street seat act now acted (least-of_game start.game _) sound.full his.met in
     let sums = sum_set (seat - 1) still now (moved put_in now act) street.players acted.sits in
     let same = ap (λ (s : Street). sum_over still s.players) is in
-    let at : IsAt streets (standing_on streets) = record {
+    let at : IsAt streets (betting_on streets) = record {
       round = refl;
       before = refl;
       left = refl;
@@ -210,7 +210,7 @@ sound-act start streets acts seat act sound free =
     let short = sound.short in
     record {
       right = sound.right;
-      ready = ready-act limits streets (standing_on streets) (standing_on after) seat act at sound.ready free refl refl;
+      ready = ready-act limits streets (betting_on streets) (betting_on after) seat act at sound.ready free refl refl;
       unit = ap (λ (s : Street). s.unit) is ∙ sound.unit;
       there = somes-street streets.last.start (entry ∷ streets.last.acts)
           ∙ sym (somes-street streets.last.start streets.last.acts) ∙ sound.there;
@@ -345,7 +345,7 @@ sound-next start streets acts lawful sound some =
     let street = street_now streets in
     let next = later_street start streets in
     let began = street_start_is next in
-    let right : IsStreetStart next = right-next start (standing_on streets) next.counted lawful sound.ready
+    let right : IsStreetStart next = right-next start (betting_on streets) next.counted lawful sound.ready
     (omega arith) in
     let all = sum_by-cons put_on streets.last streets.before in
     let blinds = blinds-lawful start lawful in
@@ -365,7 +365,7 @@ sound-next start streets acts lawful sound some =
     let short = sound.short in
     record {
       right = right;
-      ready = ready-start next (standing_on (with_next_street start streets)) right refl (omega arith);
+      ready = ready-start next (betting_on (with_next_street start streets)) right refl (omega arith);
       unit = ap (λ (s : Street). s.unit) began;
       there = somes-street next [] ∙ somes-made at_next_street street.players ∙ sound.there;
       earlier = (sound.there, sound.earlier);
@@ -476,7 +476,7 @@ sound-first start lawful =
     let ten : length (players_by_seat start) * 2 ≡ 20 = refl in
     record {
       right = right;
-      ready = ready-start first (standing_on (first_streets start)) right refl (omega arith);
+      ready = ready-start first (betting_on (first_streets start)) right refl (omega arith);
       unit = ap (λ (s : Street). s.unit) began;
       there = somes-street first [] ∙ somes-made (seated start) (players_by_seat start);
       earlier = tt;

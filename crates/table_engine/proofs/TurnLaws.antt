@@ -23,7 +23,7 @@ use Rattle.table_engine.proofs.DueNames.{due_name-none, due-named, seat-of_named
 use Rattle.table_engine.proofs.Plays.{lawful_play-each, lawful_play-more, lawful_play-timed}
 use Rattle.table_engine.proofs.Refusals.{refused-in_seat, refused-without_seat}
 use Rattle.table_engine.proofs.Sound.{sound-play}
-use Rattle.table_engine.proofs.Standings.{streets-more}
+use Rattle.table_engine.proofs.Running.{streets-more}
 
 -- Somebody is due as long as the hand is not over.
 pub due-somebody : (hand : HandTerms) → IsLawfulStart hand.start → IsLawfulPlay hand → is_over hand ≡ false

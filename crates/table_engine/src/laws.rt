@@ -117,8 +117,11 @@ pub fn cards_do_not_bet()
 
 /// Says that the checks of an act stand in rising number, so that the first that holds is the lowest.
 pub fn checks_of_an_act_rise()
-    ensures rise { (hand : HandTerms) (name : List ℕ) (act : Act)
+    ensures { (hand : HandTerms) (name : List ℕ) (act : Act)
         → are_rising (map (λ check. refusal_number check.0) (act_checks hand name act)) ≡ true }
-    ensures whole { (hand : HandTerms) → is_over hand ≡ true → is_won_by_folds hand ≡ false
-        → (streets_of hand).left ≡ 0 }
+{}
+
+/// Says that a hand that is over and not won by folds has come to its last street: none is left to begin.
+pub fn a_showdown_has_the_whole_board()
+    ensures { (hand : HandTerms) → is_over hand ≡ true → is_won_by_folds hand ≡ false → (streets_of hand).left ≡ 0 }
 {}

@@ -1,7 +1,7 @@
 //! How a hand starts.
 
-ghost use Rattle.std.specs.Prelude.{◌≡◌, Some, IsTrue, IfOk};
-ghost use Rattle.table_engine.specs.Hands.{seat_of_name, name_in_seat};
+ghost use Rattle.std.specs.Prelude.{◌≡◌, ◌≤◌, Some, IsTrue, IfOk};
+ghost use Rattle.table_engine.specs.Hands.{blind_of, name_in_seat, posted, seat_of_name};
 ghost use Rattle.table_engine.specs.Results.{with_stack};
 
 use button_blinds::Marks;
@@ -69,6 +69,27 @@ impl HandStart {
             game: self.game,
             deck: self.deck,
         })
+    }
+
+    /// Gives the blind that is due of a seat, in chips.
+    pub fn blind_of(&self, seat: u8) -> u64
+        ensures { result ≡ blind_of self.now seat }
+    {
+        if seat == self.marks.big {
+            self.blind.big
+        } else if seat == self.marks.small {
+            self.blind.small
+        } else {
+            0
+        }
+    }
+
+    /// Tells what a player posts, in chips: the lesser of his stack and the blind that is due of his seat.
+    pub fn posted(&self, player: &StartSeat) -> u64
+        ensures posted { result ≡ posted self.now player.now }
+        ensures covered { result ≤ player.now.stack }
+    {
+        player.stack.min(self.blind_of(player.seat))
     }
 
     /// Gives the seat of the player of this name.

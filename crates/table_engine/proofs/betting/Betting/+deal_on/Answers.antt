@@ -1,7 +1,7 @@
 use Rattle.std.proofs.Common.{◌∙◌, sym}
 use Rattle.table_engine.specs.Hands.{with_next_street}
-use Rattle.table_engine.proofs.Standings.{at-ended, at-open}
-use Rattle.table_engine.proofs.standing.Standing.+deal_on.Goals as goal
+use Rattle.table_engine.proofs.Running.{at-ended, at-open}
+use Rattle.table_engine.proofs.betting.Betting.+deal_on.Goals as goal
 
 pub returns-then-not-has_ended-clause-at : goal.returns-then-not-has_ended-clause-at
 returns-then-not-has_ended-clause-at t c = λ streets at. at-open c.args.start.now streets c.args.self.now

@@ -1,13 +1,13 @@
-//! How a hand stands: its street, and what came before it.
+//! The betting of a hand as it stands: its street, and what came before it.
 
 ghost use Rattle.std.specs.Prelude.{◌≡◌, ◌+◌, ◌<◌, ◌≤◌, ◌^◌, None, Some, option_map, map, sum_by, IfOk, OnOk, IfErr};
 ghost use Rattle.std.specs.Option.{is_some};
 ghost use Rattle.betting_round.specs.Acts.{done_by};
 ghost use Rattle.betting_round.specs.ActChecks.{act_refusal, facing_in, IsAllowed};
 ghost use Rattle.table_engine.specs.Starts.{IsLawfulStart};
-ghost use Rattle.table_engine.specs.Hands.{Streets, blind_of, posted, lacking, seated, players_by_seat, first_streets, has_ended, with_next_street, dealt_on, with_act};
+ghost use Rattle.table_engine.specs.Hands.{Streets, lacking, seated, players_by_seat, first_streets, has_ended, with_next_street, dealt_on, with_act};
 ghost use Rattle.table_engine.specs.Acts.{limits_of, limits_on};
-ghost use Rattle.table_engine.specs.Standings.{IsAt, IsReady};
+ghost use Rattle.table_engine.specs.Running.{IsAt, IsReady};
 
 use crate::players::{InSlot, fill_slots};
 use crate::start::{HandStart, StartSeat};
@@ -15,9 +15,9 @@ use betting_round::{Act, Bettor, Done, NoLimit, PotLimit, Round};
 use card_set::Game;
 use floor_text::Refusal;
 
-/// How a hand stands. Three streets may follow the first.
+/// The betting of a hand as it stands. Three streets may follow the first.
 #[derive(Clone, Copy, Debug)]
-pub struct Standing {
+pub struct Betting {
     /// The last street that has begun.
     pub round: Round,
     /// What was put in on the streets before, in chips.
@@ -26,39 +26,20 @@ pub struct Standing {
     pub left: u8,
 }
 
-/// Gives the blind that is due of a seat, in chips.
-fn blind_of(start: &HandStart, seat: u8) -> u64
-    ensures { result ≡ blind_of start.now seat }
-{
-    if seat == start.marks.big {
-        start.blind.big
-    } else if seat == start.marks.small {
-        start.blind.small
-    } else {
-        0
-    }
-}
-
-/// Tells what a player posts, in chips.
-pub(crate) fn posted(start: &HandStart, player: &StartSeat) -> u64
-    ensures posted { result ≡ posted start.now player.now }
-    ensures covered { result ≤ player.now.stack }
-{
-    player.stack.min(blind_of(start, player.seat))
-}
-
 /// Tells what a player's blind lacks because his stack is short, in chips.
 fn lacking(start: &HandStart, player: &StartSeat) -> u64
     ensures { result ≡ lacking start.now player.now }
 {
-    blind_of(start, player.seat).saturating_sub(posted(start, player))
+    start
+        .blind_of(player.seat)
+        .saturating_sub(start.posted(player))
 }
 
 /// Gives a player of the start as he begins the hand.
 fn seated(start: &HandStart, player: &StartSeat) -> Bettor
     ensures { result ≡ seated start.now player.now }
 {
-    let put = posted(start, player);
+    let put = start.posted(player);
     Bettor {
         seat: player.seat,
         put,
@@ -117,9 +98,9 @@ fn check(round: &Round, game: Game, seat: u8, act: Act) -> Result<Done, Refusal>
     }
 }
 
-impl Standing {
+impl Betting {
     /// Makes a hand as it stands before the first act, on its first street.
-    pub fn first(start: &HandStart) -> Standing
+    pub fn first(start: &HandStart) -> Betting
         requires { IsLawfulStart start.now }
         ensures at { IsAt (first_streets start.now) result }
         ensures ready { IsReady result }
@@ -128,7 +109,7 @@ impl Standing {
         let bettors = all_seated(start);
         let counted = all_lacking(start, start.seats.items());
         let opening = start.blind.big;
-        Standing {
+        Betting {
             round: Round::start(
                 &bettors,
                 start.marks.big,
@@ -155,7 +136,7 @@ impl Standing {
     {
         let counted = self.before + self.round.put();
         let bettors = self.round.next_bettors();
-        *self = Standing {
+        *self = Betting {
             round: Round::start(
                 &bettors,
                 start.marks.button,

@@ -1,6 +1,6 @@
 use Rattle.std.proofs.Common.{refl}
-use Rattle.table_engine.proofs.Standings.{at-act, ready-act, there-act}
-use Rattle.table_engine.proofs.standing.Standing.take.Goals as goal
+use Rattle.table_engine.proofs.Running.{at-act, ready-act, there-act}
+use Rattle.table_engine.proofs.betting.Betting.take.Goals as goal
 
 pub returns-clause-at : goal.returns-clause-at
 returns-clause-at c = λ streets at.

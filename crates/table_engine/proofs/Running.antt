@@ -1,4 +1,4 @@
--- How a hand stands after each step: where the next street begins, and after an act.
+-- The betting of a hand after each step: where the next street begins, and after an act.
 use Rattle.std.proofs.Common.{◌≡◌, ◌≢◌, ◌∙◌, ℕ, zero, suc, ◌+◌, ◌-◌, ◌%◌, ◌≤◌, true, false, List, [], ◌∷◌, ◌++◌, map, Some, None, refl, ap, sym, arith}
 use Rattle.std.specs.Prelude.{Option, ◌==◌, ◌&&◌, nat_le, option_map, reverse}
 use Rattle.std.specs.Option.{is_some}
@@ -17,10 +17,10 @@ use Rattle.std.proofs.lemmas.List.{map-append, reverse-append}
 use Rattle.rulebook.proofs.Found.{somes-made}
 use Rattle.table_engine.specs.declared.record.ActOf.{ActOf}
 use Rattle.table_engine.specs.declared.start.HandStart.{HandStart}
-use Rattle.table_engine.specs.declared.standing.Standing.{Standing}
+use Rattle.table_engine.specs.declared.betting.Betting.{Betting}
 use Rattle.table_engine.specs.Starts.{IsLawfulStart}
 use Rattle.table_engine.specs.Hands.{Streets, all_dealt_on, by_seat, dealt_on, first_streets, has_ended, later_street, put_on, put_so_far, seat_of_name, street_now, streets_after, streets_of, with_act, with_next_street}
-use Rattle.table_engine.specs.Standings.{IsAt, IsReady}
+use Rattle.table_engine.specs.Running.{IsAt, IsReady}
 
 -- Where a street has not ended no other begins.
 pub dealt_on-open : (start : HandStart) (left : ℕ) (streets : Streets) → has_ended (street_now streets) ≡ false
@@ -103,62 +103,62 @@ pub lawful-unit : (start : HandStart) → IsLawfulStart start → 1 ≤ start.bl
 lawful-unit start lawful = leb-true 1 start.blind.unit (lawful-tests start lawful).0
 
 -- The next street may begin where the hand is ready for it.
-pub right-next : (start : HandStart) (standing : Standing) (counted : ℕ) → IsLawfulStart start → IsReady standing
-    → counted ≡ standing.before + put_by_all standing.round
-    → IsStreetStart (street_start (next_bettors standing.round) start.marks.button 0 start.blind.big start.blind.unit
+pub right-next : (start : HandStart) (betting : Betting) (counted : ℕ) → IsLawfulStart start → IsReady betting
+    → counted ≡ betting.before + put_by_all betting.round
+    → IsStreetStart (street_start (next_bettors betting.round) start.marks.button 0 start.blind.big start.blind.unit
     counted)
-right-next start standing counted lawful ready is =
-    let parts = chips-parts standing.round in
+right-next start betting counted lawful ready is =
+    let parts = chips-parts betting.round in
     let few = ready.chips in
     let big = lawful-big start lawful in
     let unit = lawful-unit start lawful in
     record { seated = ready.seated; chips = omega arith; opening = omega arith; big = omega arith; unit = omega arith }
 
 -- A hand on a street that has just begun is ready for the next.
-pub ready-start : (start : StreetStart) (standing : Standing) → IsStreetStart start
-    → standing.round ≡ street_after start [] → standing.before ≤ start.counted → IsReady standing
-ready-start start standing right is before =
+pub ready-start : (start : StreetStart) (betting : Betting) → IsStreetStart start
+    → betting.round ≡ street_after start [] → betting.before ≤ start.counted → IsReady betting
+ready-start start betting right is before =
     let chips = ap chips_on is ∙ chips-start start in
     let few = right.chips in
     record { seated = rw is (seated-next start [] right.seated); chips = omega arith }
 
 -- The hand stands on its streets and the next.
-pub at-next : (start : HandStart) (streets : Streets) (standing after : Standing) → IsLawfulStart start
-    → IsReady standing → 1 ≤ standing.left → IsAt streets standing
-    → after.round ≡ street_after (street_start (next_bettors standing.round) start.marks.button 0 start.blind.big
+pub at-next : (start : HandStart) (streets : Streets) (betting after : Betting) → IsLawfulStart start
+    → IsReady betting → 1 ≤ betting.left → IsAt streets betting
+    → after.round ≡ street_after (street_start (next_bettors betting.round) start.marks.button 0 start.blind.big
     start.blind.unit
-    (standing.before + put_by_all standing.round)) []
-    → after.before ≡ standing.before + put_by_all standing.round → after.left ≡ standing.left - 1
+    (betting.before + put_by_all betting.round)) []
+    → after.before ≡ betting.before + put_by_all betting.round → after.left ≡ betting.left - 1
     → IsAt (with_next_street start streets) after
-at-next start streets standing after lawful ready some at round before left =
-    let put : put_by_all standing.round ≡ put_on streets.last = ap put_by_all at.round in
+at-next start streets betting after lawful ready some at round before left =
+    let put : put_by_all betting.round ≡ put_on streets.last = ap put_by_all at.round in
     let all = sum_by-cons put_on streets.last streets.before in
-    let counted : standing.before + put_by_all standing.round ≡ put_so_far streets = let was = at.before in
+    let counted : betting.before + put_by_all betting.round ≡ put_so_far streets = let was = at.before in
     omega arith in
     let bettors = ap next_bettors at.round in
-    let same : street_start (next_bettors standing.round) start.marks.button 0 start.blind.big start.blind.unit
-    (standing.before + put_by_all standing.round) ≡ later_street start streets = rw (bettors, counted) in
+    let same : street_start (next_bettors betting.round) start.marks.button 0 start.blind.big start.blind.unit
+    (betting.before + put_by_all betting.round) ≡ later_street start streets = rw (bettors, counted) in
     record {
       round = round ∙ ap (λ (s : StreetStart). street_after s []) same;
       before = before ∙ counted ∙ sym all;
       left = left ∙ ap (λ (n : ℕ). n - 1) at.left;
-      right = rw (← same) (right-next start standing (standing.before + put_by_all standing.round) lawful ready refl);
+      right = rw (← same) (right-next start betting (betting.before + put_by_all betting.round) lawful ready refl);
     }
 
 -- The hand stands on its streets after an act that is not refused.
-pub at-act : (streets : Streets) (standing after : Standing) (seat : ℕ) (act : Act) → IsAt streets standing
+pub at-act : (streets : Streets) (betting after : Betting) (seat : ℕ) (act : Act) → IsAt streets betting
     → after.round ≡ street_after streets.last.start (record { seat = seat; act = act } ∷ streets.last.acts)
-    → after.before ≡ standing.before → after.left ≡ standing.left
+    → after.before ≡ betting.before → after.left ≡ betting.left
     → IsAt (with_act streets (record { seat = seat; act = act })) after
-at-act streets standing after seat act at round before left =
+at-act streets betting after seat act at round before left =
     record { round = round; before = before ∙ at.before; left = left ∙ at.left; right = at.right }
 
 -- The hand is ready for the next street after an act that is not refused.
-pub ready-act : (limits : Limits) (streets : Streets) (standing after : Standing) (seat : ℕ) (act : Act)
-    → IsAt streets standing → IsReady standing → act_refusal limits standing.round seat act ≡ None
+pub ready-act : (limits : Limits) (streets : Streets) (betting after : Betting) (seat : ℕ) (act : Act)
+    → IsAt streets betting → IsReady betting → act_refusal limits betting.round seat act ≡ None
     → after.round ≡ street_after streets.last.start (record { seat = seat; act = act } ∷ streets.last.acts)
-    → after.before ≡ standing.before → IsReady after
-ready-act limits streets standing after seat act at ready accepted round before =
+    → after.before ≡ betting.before → IsReady after
+ready-act limits streets betting after seat act at ready accepted round before =
     let entry : SeatAct = record { seat = seat; act = act } in
     let free : act_refusal limits (street_now streets) seat act ≡ None = rw (← at.round) accepted in
     let kept = chips-kept limits streets.last.start streets.last.acts entry at.right free in
@@ -172,11 +172,11 @@ ready-act limits streets standing after seat act at ready accepted round before 
     }
 
 -- Somebody is in each slot after an act where one was before it.
-pub there-act : (streets : Streets) (standing : Standing) (after : Street) (seat : ℕ) (act : Act)
-    → IsAt streets standing
+pub there-act : (streets : Streets) (betting : Betting) (after : Street) (seat : ℕ) (act : Act)
+    → IsAt streets betting
     → after ≡ street_after streets.last.start (record { seat = seat; act = act } ∷ streets.last.acts)
-    → map is_some after.players ≡ map is_some standing.round.players
-there-act streets standing after seat act at round =
+    → map is_some after.players ≡ map is_some betting.round.players
+there-act streets betting after seat act at round =
     ap (λ (s : Street). map is_some s.players) round
     ∙ somes-street streets.last.start (record { seat = seat; act = act } ∷ streets.last.acts)
     ∙ sym (somes-street streets.last.start streets.last.acts)
@@ -204,17 +204,17 @@ streets-more start acts act seat found =
     ap (streets_after start) list
 
 -- A hand whose street has not ended stands on the same streets.
-pub at-open : (start : HandStart) (streets : Streets) (standing : Standing) → has_ended standing.round ≡ false
-    → IsAt streets standing → IsAt (dealt_on start standing.left streets) standing
-at-open start streets standing open_ at =
-    let same = dealt_on-open start standing.left streets (ap has_ended (sym at.round) ∙ open_) in rw same at
+pub at-open : (start : HandStart) (streets : Streets) (betting : Betting) → has_ended betting.round ≡ false
+    → IsAt streets betting → IsAt (dealt_on start betting.left streets) betting
+at-open start streets betting open_ at =
+    let same = dealt_on-open start betting.left streets (ap has_ended (sym at.round) ∙ open_) in rw same at
 
 -- A hand whose street has ended stands on the streets that begin after the next.
-pub at-ended : (start : HandStart) (streets : Streets) (standing next after : Standing) → standing.left ≢ 0
-    → has_ended standing.round ≡ true → next.left + 1 ≡ standing.left → IsAt streets standing
+pub at-ended : (start : HandStart) (streets : Streets) (betting next after : Betting) → betting.left ≢ 0
+    → has_ended betting.round ≡ true → next.left + 1 ≡ betting.left → IsAt streets betting
     → IsAt (dealt_on start next.left (with_next_street start streets)) after
-    → IsAt (dealt_on start standing.left streets) after
-at-ended start streets standing next after some ended left at rest =
-    let same = dealt_on-ended start standing.left streets (omega arith) (ap has_ended (sym at.round) ∙ ended) in
-    let one : standing.left - 1 ≡ next.left = omega arith in
+    → IsAt (dealt_on start betting.left streets) after
+at-ended start streets betting next after some ended left at rest =
+    let same = dealt_on-ended start betting.left streets (omega arith) (ap has_ended (sym at.round) ∙ ended) in
+    let one : betting.left - 1 ≡ next.left = omega arith in
     rw (same, one) rest

@@ -4,8 +4,8 @@ use Rattle.std.specs.Option.{is_some}
 use Rattle.rulebook.proofs.Found.{somes-made}
 use Rattle.betting_round.specs.declared.street.Street.{Street}
 use Rattle.betting_round.specs.StreetActs.{at_next_street}
-use Rattle.table_engine.proofs.Standings.{at-next, ready-start, right-next, somes-street}
-use Rattle.table_engine.proofs.standing.Standing.begin_next.Goals as goal
+use Rattle.table_engine.proofs.Running.{at-next, ready-start, right-next, somes-street}
+use Rattle.table_engine.proofs.betting.Betting.begin_next.Goals as goal
 
 pub start-requires : goal.start-requires
 start-requires c = rw (c.next_bettors-bettors.ensures, c.put.ensures.put)

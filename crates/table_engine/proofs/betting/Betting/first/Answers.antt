@@ -5,9 +5,9 @@ use Rattle.rulebook.proofs.Found.{somes-made}
 use Rattle.betting_round.specs.declared.street.Street.{Street}
 use Rattle.table_engine.specs.Hands.{lacking, players_by_seat, seated}
 use Rattle.table_engine.proofs.BySeat.{sum-of_start}
-use Rattle.table_engine.proofs.Standings.{ready-start, somes-street}
+use Rattle.table_engine.proofs.Running.{ready-start, somes-street}
 use Rattle.table_engine.proofs.Starts.{few-lacking, right-first}
-use Rattle.table_engine.proofs.standing.Standing.first.Goals as goal
+use Rattle.table_engine.proofs.betting.Betting.first.Goals as goal
 
 pub all_lacking-counted-requires : goal.all_lacking-counted-requires
 all_lacking-counted-requires c =

@@ -2,7 +2,7 @@ use Rattle.std.proofs.Common.{◌∙◌, refl, Some, None, arith}
 use Rattle.std.specs.Prelude.{option_map}
 use Rattle.table_engine.specs.Hands.{players_by_seat, seated}
 use Rattle.table_engine.proofs.BySeat.{lawful-seats, map-slots}
-use Rattle.table_engine.proofs.standing.all_seated.Goals as goal
+use Rattle.table_engine.proofs.betting.all_seated.Goals as goal
 
 pub fill_slots-requires : goal.fill_slots-requires
 fill_slots-requires c =
