@@ -29,7 +29,12 @@ fn bust(seats: &mut SeatBook, busts: &mut PlaceList, player: StartSeat, group: u
 }
 
 /// Puts out the players whom a hand leaves without chips, in one group.
-pub(crate) fn bust_players(seats: &mut SeatBook, busts: &mut PlaceList, done: &HandRecord, group: u64)
+pub(crate) fn bust_players(
+    seats: &mut SeatBook,
+    busts: &mut PlaceList,
+    done: &HandRecord,
+    group: u64,
+)
     requires play { IsCompletePlay done.now }
     requires may { MayGoOut done.now.start.seats seats.old.players busts.old }
     ensures seats { seats.new ≡ record seats.old {
