@@ -10,7 +10,7 @@ ghost use Rattle.tournament_rules.specs.Effects.{with_hands, round_ended};
 use crate::BookFault;
 use crate::book::Book;
 use floor_text::Refusal;
-use hand_rounds::{close_round, may_close, may_switch, switch};
+use hand_rounds::{end_round, may_close, may_switch, set_hands};
 
 /// Gives the group of those who go out next, where hand-for-hand is on or off: the same, or a later one.
 pub(crate) fn group_after(hands: bool, group: u64) -> u64
@@ -39,7 +39,7 @@ impl Book {
         ensures err { OnErr result (self.new ≡ self.old) }
     {
         self.check_hands(on)?;
-        switch(&mut self.seats, on)?;
+        set_hands(&mut self.seats, on);
         self.group = group_after(on, self.group);
         self.accepted += 1;
         Ok(())
@@ -63,7 +63,7 @@ impl Book {
         ensures err { OnErr result (self.new ≡ self.old) }
     {
         self.check_end_round()?;
-        close_round(&mut self.seats)?;
+        end_round(&mut self.seats);
         self.group += 1;
         self.accepted += 1;
         Ok(())

@@ -186,10 +186,8 @@ break_lawful book table places names valid may = record {
   lawful = record {
     free = free_table book table valid may.opened may.rests;
     last = λ other at above.
-        let tables = valid.tables.tables in
-        let listed : IsTableOf book.plan.tables other = subst (λ (n : ℕ). IsTableOf n other) tables at in
-        let none = no_table (λ other. is_open book.seating.players other && nat_lt table other) book.plan.tables other
-        may.last listed in
+        let none = no_table (λ other. is_open book.seating.players other && nat_lt table other) book.seating.table_count
+        other may.last at in
         first_fails (is_open book.seating.players other) (nat_lt table other) none (lt-ltb table other above);
     fill = (may.drawn.fill, (may.drawn.is, may.drawn.right.places));
     players = may.drawn.right.players;

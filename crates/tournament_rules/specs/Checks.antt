@@ -103,11 +103,15 @@ not_playing_checks book table = (Playing, is_playing book table) ∷ []
 abbrev pub no_race_checks : BookState → List Check
 no_race_checks book = (RaceDue, is_race_pending book.seating) ∷ []
 
--- a hand may begin at that table
-abbrev pub table_checks : BookState → ℕ → List Check
-table_checks book table = open_table_checks book table ++ not_playing_checks book table ++
+-- that table has enough players: more than one, and it is not halted
+abbrev pub enough_checks : BookState → ℕ → List Check
+enough_checks book table =
     (Lone, count_at book.seating.players table == 1) ∷
     (Halted, is_halted book.seating table) ∷ []
+
+-- a hand may begin at that table
+abbrev pub table_checks : BookState → ℕ → List Check
+table_checks book table = open_table_checks book table ++ not_playing_checks book table ++ enough_checks book table
 
 -- the row is a deck
 abbrev pub deck_checks : CardRow → List Check
