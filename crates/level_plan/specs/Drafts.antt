@@ -10,7 +10,8 @@ use Rattle.level_plan.specs.declared.line.PlanLine.{PlanLine}
 use Rattle.level_plan.specs.declared.line.PlanLine.TheVariants as lines
 use Rattle.level_plan.specs.declared.line.PlanFault.{PlanFault}
 use Rattle.level_plan.specs.declared.line.PlanFault.TheVariants as faults
-use Rattle.level_plan.specs.Limits.{fewest_seats, greatest_amount, most_levels, most_seats, most_tables}
+use Rattle.rulebook.specs.Limits.{most_seats, most_tables}
+use Rattle.level_plan.specs.Limits.{fewest_seats, greatest_amount, most_levels}
 use Rattle.level_plan.specs.declared.plan.Blind.{Blind}
 use Rattle.level_plan.specs.Items.{is_between, is_blind, may_follow, are_levels, are_shares}
 use Rattle.level_plan.specs.Plans.{PlanTerms, unit_of_level}

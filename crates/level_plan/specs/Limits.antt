@@ -1,17 +1,9 @@
 -- The bounds of a plan's items. This project's own.
 use Rattle.std.specs.Prelude.{ℕ}
 
--- A tournament has at most 64 tables.
-abbrev pub most_tables : ℕ
-most_tables = 64
-
 -- A table has at least 2 seats.
 abbrev pub fewest_seats : ℕ
 fewest_seats = 2
-
--- A table has at most 10 seats.
-abbrev pub most_seats : ℕ
-most_seats = 10
 
 -- A stack, a buy-in, a blind and a unit are each at most 1,000,000,000 chips.
 abbrev pub greatest_amount : ℕ

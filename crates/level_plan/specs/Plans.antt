@@ -2,7 +2,8 @@
 use Rattle.std.specs.Prelude.{ℕ, ◌-◌, ◌%◌, Bool, ◌==◌, ◌&&◌, nat_le, List, length, slice_get}
 use Rattle.std.specs.Option.{option_map_or}
 use Rattle.card_set.specs.declared.game.Game.{Game}
-use Rattle.level_plan.specs.Limits.{fewest_seats, greatest_amount, most_levels, most_seats, most_tables}
+use Rattle.rulebook.specs.Limits.{most_seats, most_tables}
+use Rattle.level_plan.specs.Limits.{fewest_seats, greatest_amount, most_levels}
 use Rattle.level_plan.specs.declared.plan.Blind.{Blind}
 use Rattle.level_plan.specs.Items.{is_between, are_levels, are_shares}
 

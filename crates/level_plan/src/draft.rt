@@ -6,12 +6,13 @@ ghost use Rattle.level_plan.specs.Limits.{most_levels};
 ghost use Rattle.level_plan.specs.Drafts.{empty_draft, is_wrong_line, item_of_line, line_fault, draft_after, go_fault, plan_of, IsFault};
 ghost use Rattle.level_plan.specs.Plans.{is_right};
 
-use crate::bounds::{FEWEST_SEATS, GREATEST_AMOUNT, MOST_LEVELS, MOST_SEATS, MOST_TABLES};
+use crate::bounds::{FEWEST_SEATS, GREATEST_AMOUNT, MOST_LEVELS};
 use crate::checks::{are_shares, is_between, is_blind, may_follow, unit_of_level};
 use crate::line::{PlanFault, PlanItem, PlanLine};
 use crate::plan::{Blind, Plan};
 use card_set::Game;
 use floor_text::List;
+use rulebook::{MOST_SEATS, MOST_TABLES};
 use std::alloc::{AllocError, Global};
 use std::marker::Model;
 

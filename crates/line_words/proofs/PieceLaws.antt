@@ -12,7 +12,7 @@ use Rattle.card_set.proofs.Steps.{bind_found}
 use Rattle.seat_book.specs.declared.place.Place.{Place}
 use Rattle.seat_book.specs.Places.{is_place_of}
 use Rattle.line_words.specs.Words.{pieces_of}
-use Rattle.line_words.specs.Limits.{greatest_table, greatest_seat}
+use Rattle.rulebook.specs.Limits.{most_tables, most_seats}
 use Rattle.line_words.specs.Fields.{◌>>=◌, each_of, few_of, AreFew, name_of, IsLineName, place_at, place_of, place_text, IsLinePlace, members_of, list_text, next_by, last_by}
 use Rattle.line_words.proofs.FieldLaws.{IsField, IsRest, test_found, number_field, name_field, next_found, next_again, last_field}
 use Rattle.line_words.proofs.WordSplits.{is_byte}
@@ -93,10 +93,10 @@ pub record IsMember {A : Type 0} (read : List ℕ → Option A) (write : A → L
 pub name_member : IsMember name_of (λ name. name) IsLineName
 name_member = record { field = name_field; commaless = name_lacks 44 (omega arith) }
 
-table_number : (n : ℕ) → n ≤ greatest_table → IsLineNumber n
+table_number : (n : ℕ) → n ≤ most_tables → IsLineNumber n
 table_number n few = omega (arith, few)
 
-seat_number : (n : ℕ) → n ≤ greatest_seat → IsLineNumber n
+seat_number : (n : ℕ) → n ≤ most_seats → IsLineNumber n
 seat_number n few = omega (arith, few)
 
 place_lacks : (byte : ℕ) → byte < 46 → (place : Place) → IsLinePlace place
@@ -115,12 +115,12 @@ place_word place fits =
     ) refl)
 
 -- the test of a place, and what it tells
-fits_there : (place : Place) → is_place_of greatest_table greatest_seat place ≡ true → IsLinePlace place
+fits_there : (place : Place) → is_place_of most_tables most_seats place ≡ true → IsLinePlace place
 fits_there place h =
-    let both = and_parts (leb 1 place.table && leb place.table greatest_table)
-    (leb 1 place.seat && leb place.seat greatest_seat) h in
-    let table = and_parts (leb 1 place.table) (leb place.table greatest_table) both.0 in
-    let seat = and_parts (leb 1 place.seat) (leb place.seat greatest_seat) both.1 in
+    let both = and_parts (leb 1 place.table && leb place.table most_tables)
+    (leb 1 place.seat && leb place.seat most_seats) h in
+    let table = and_parts (leb 1 place.table) (leb place.table most_tables) both.0 in
+    let seat = and_parts (leb 1 place.seat) (leb place.seat most_seats) both.1 in
     record {
       table = record { first = grind (arith, nat_tests, table.0); last = grind (arith, nat_tests, table.1) };
       first = grind (arith, nat_tests, seat.0);
@@ -135,7 +135,7 @@ place_found word place h =
     seat) place h in
     let second = bind_found (last_by number_of first.0.1) (λ seat. place_at first.0.0 seat) place first.2 in
     let here : Place = record { table = first.0.0; seat = second.0 } in
-    let test = test_found (is_place_of greatest_table greatest_seat here) (Some here) place second.2 in
+    let test = test_found (is_place_of most_tables most_seats here) (Some here) place second.2 in
     let table = next_found number_of decimal IsLineNumber number_field (pieces_of 46 word) first.0 first.1 in
     let seat = (last_field number_field).found first.0.1 second.0 second.1 in
     let pieces : pieces_of 46 word ≡ decimal first.0.0 ∷ decimal second.0 ∷ [] = table.spelling
@@ -144,7 +144,7 @@ place_found word place h =
     subst (λ (p : Place). (word ≡ place_text p) × IsLinePlace p) (same_Some here place test.1)
     (text, fits_there here test.0)
 
-place_test : (place : Place) → IsLinePlace place → is_place_of greatest_table greatest_seat place ≡ true
+place_test : (place : Place) → IsLinePlace place → is_place_of most_tables most_seats place ≡ true
 place_test place fits = grind (arith, nat_tests, fits.table.first, fits.table.last, fits.first, fits.last)
 
 place_again : (place : Place) → IsLinePlace place → place_of (place_text place) ≡ Some place

@@ -12,7 +12,7 @@ use Rattle.betting_round.specs.declared.act.Act.{Act}
 use Rattle.betting_round.specs.declared.act.Act.TheVariants.{Fold, Check, Call, AllIn, Bet, Raise}
 use Rattle.seat_book.specs.declared.place.Place.{Place}
 use Rattle.seat_book.specs.Places.{IsPlaceOf, is_place_of}
-use Rattle.line_words.specs.Limits.{greatest_table, greatest_seat}
+use Rattle.rulebook.specs.Limits.{most_tables, most_seats}
 use Rattle.line_words.specs.Words.{pieces_of}
 
 -- a step, and what follows where it found something
@@ -124,13 +124,13 @@ AreFew most Fits items = (1 ≤ length items) × (length items ≤ most) × AllB
 
 -- a place that a line may hold: one of the seats 1 to 10 at one of the tables 1 to 64
 abbrev pub IsLinePlace : Place → Type 0
-IsLinePlace place = IsPlaceOf greatest_table greatest_seat place
+IsLinePlace place = IsPlaceOf most_tables most_seats place
 
 -- the place of these numbers, where there is one
 abbrev pub place_at : ℕ → ℕ → Option Place
 place_at table seat =
     let place : Place = record { table = table; seat = seat } in
-    if is_place_of greatest_table greatest_seat place then Some place else None
+    if is_place_of most_tables most_seats place then Some place else None
 
 -- the place that a word is: the number of a table and that of a seat, with a point between them
 unfoldable pub place_of : List ℕ → Option Place

@@ -5,11 +5,11 @@ ghost use Rattle.floor_text.specs.Numbers.{number_of};
 ghost use Rattle.card_set.specs.Cards.{row_of};
 ghost use Rattle.line_words.specs.Fields.{name_of, game_of, switch_of, meaning, act_list, amount_list, place_at, place_of};
 
-use crate::limits::{GREATEST_SEAT, GREATEST_TABLE};
 use crate::words::LineWords;
 use betting_round::Act;
 use card_set::{CardRow, Game, read_row};
 use floor_text::{Name, read_number};
+use rulebook::{MOST_SEATS, MOST_TABLES};
 use seat_book::Place;
 
 /// The byte between the numbers of a place.
@@ -97,7 +97,7 @@ fn read_game(word: &[u8]) -> Option<Game>
 fn place_at(table: u64, seat: u64) -> Option<Place>
     ensures { result ≡ place_at table seat }
 {
-    if (1..=GREATEST_TABLE).contains(&table) && (1..=GREATEST_SEAT).contains(&seat) {
+    if (1..=MOST_TABLES).contains(&table) && (1..=MOST_SEATS).contains(&seat) {
         Some(Place {
             table: table as u8,
             seat: seat as u8,

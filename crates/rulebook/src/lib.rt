@@ -12,5 +12,5 @@ mod limits;
 mod seat_order;
 
 pub use laws::{limits_are_the_rules, search_is_the_walk};
-pub use limits::MOST_ENTRIES;
+pub use limits::{MOST_ENTRIES, MOST_SEATS, MOST_TABLES};
 pub use seat_order::{seat_after, seat_before};

@@ -2,7 +2,8 @@
 use Rattle.std.specs.Prelude.{◌≡◌, ◌≤◌, ◌<◌, ℕ, ◌+◌, ◌*◌, ◌%◌, Bool, true, ◌==◌, List, count_by, None, is_some}
 use Rattle.std.specs.List.{list_all}
 use Rattle.std.specs.Option.{ForSome}
-use Rattle.level_plan.specs.Limits.{greatest_amount, most_seats, most_tables}
+use Rattle.rulebook.specs.Limits.{most_seats, most_tables}
+use Rattle.level_plan.specs.Limits.{greatest_amount}
 use Rattle.level_plan.specs.Items.{is_between, is_next_unit}
 use Rattle.level_plan.specs.Plans.{PlanTerms, unit_of_level}
 use Rattle.seat_book.specs.declared.seated.Seated.{Seated}
