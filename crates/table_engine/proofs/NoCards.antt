@@ -1,7 +1,8 @@
 -- Betting does not depend on the deck of the start.
-use Rattle.std.proofs.Common.{◌≡◌, ◌∙◌, ℕ, zero, suc, true, false, List, [], ◌∷◌, ◌++◌, map, refl, ap}
+use Rattle.std.proofs.Common.{◌≡◌, ◌∙◌, ℕ, zero, suc, true, false, List, [], ◌∷◌, ◌++◌, map, refl, ap, sym}
 use Rattle.std.specs.Prelude.{Bool, not, Option, reverse, is_none, ◌&&◌}
 use Rattle.card_set.specs.declared.card.Card.{Card}
+use Rattle.card_set.specs.Decks.{IsDeck}
 use Rattle.floor_text.specs.declared.refusal.Refusal.{Refusal}
 use Rattle.betting_round.specs.StreetActs.{SeatAct}
 use Rattle.betting_round.specs.declared.act.Act.{Act}
@@ -26,7 +27,7 @@ use Rattle.table_engine.specs.Results.{award, is_won_by_folds, live_in_hand, liv
 use Rattle.showdown.specs.Awards.{awards_of}
 use Rattle.showdown.specs.Hands.{hands_of}
 use Rattle.pot_layers.specs.Layers.{layers}
-use Rattle.table_engine.specs.Plays.{are_lawful_after}
+use Rattle.table_engine.specs.Plays.{AreTimedAfter, IsLawfulPlay, are_lawful_after}
 use Rattle.table_engine.specs.Starts.{IsLawfulStart}
 
 -- A start with another deck.
@@ -85,8 +86,9 @@ lawful-deck start deck before (act ∷ acts) =
       lawful-deck start deck (before ++ act ∷ []) acts,
     )
 
-pub start-deck : (start : HandStart) (deck : List Card) → IsLawfulStart start → IsLawfulStart (with_deck start deck)
-start-deck start deck lawful = record {
+pub start-deck : (start : HandStart) (deck : List Card) → IsLawfulStart start → IsDeck deck
+    → IsLawfulStart (with_deck start deck)
+start-deck start deck lawful is = record {
   two = lawful.two;
   some_seats = lawful.some_seats;
   most_seats = lawful.most_seats;
@@ -101,6 +103,23 @@ start-deck start deck lawful = record {
   big = lawful.big;
   small = lawful.small;
   blinds = lawful.blinds;
+  deck = is;
+}
+
+-- Acts that came by called times are those of called times, whatever the deck is.
+timed-deck : (start : HandStart) (deck : List Card) (before acts : List ActOf) → AreTimedAfter start before acts
+    → AreTimedAfter (with_deck start deck) before acts
+timed-deck start deck before [] timed = tt
+timed-deck start deck before (act ∷ acts) timed = (
+  λ by_time. timed.0 by_time ∙ sym (time-deck (record { start = start; acts = before }) deck),
+  timed-deck start deck (before ++ act ∷ []) acts timed.1,
+)
+
+-- A lawful play of a start is one of the start with another deck.
+pub play-deck : (hand : HandTerms) (deck : List Card) → IsLawfulPlay hand → IsLawfulPlay (redealt hand deck)
+play-deck hand deck play = record {
+  acts = lawful-deck hand.start deck [] hand.acts ∙ play.acts;
+  timed = timed-deck hand.start deck [] hand.acts play.timed;
 }
 
 pub live-deck : (hand : HandTerms) (deck : List Card) (player : StartSeat)

@@ -6,6 +6,7 @@ use Rattle.rulebook.specs.Pairs.{are_rising, are_distinct}
 use Rattle.rulebook.specs.Limits.{most_entries}
 use Rattle.level_plan.specs.Items.{is_between, is_blind}
 use Rattle.button_blinds.specs.Marks.{AreMarksOf}
+use Rattle.card_set.specs.Decks.{IsDeck}
 use Rattle.table_engine.specs.declared.start.HandStart.{HandStart}
 use Rattle.table_engine.specs.declared.start.StartSeat.{StartSeat}
 
@@ -46,3 +47,5 @@ pub record IsLawfulStart (start : HandStart) : Type 0 where
   pub small : start.marks.small ≢ start.marks.big
   -- the blinds and the unit are lawful
   pub blinds : is_blind start.blind ≡ true
+  -- no card of the deck comes twice
+  pub deck : IsDeck start.deck

@@ -4,12 +4,15 @@ ghost use Rattle.std.specs.Prelude.{◌≡◌, ◌+◌, ◌%◌, ◌==◌, ◌<�
 ghost use Rattle.std.specs.List.{list_all};
 ghost use Rattle.betting_round.specs.declared.act.Act.TheVariants as acts;
 ghost use Rattle.betting_round.specs.declared.act.Act.{Act};
+ghost use Rattle.card_choices.specs.Choices.{AreDistinct};
 ghost use Rattle.card_set.specs.declared.card.Card.{Card};
+ghost use Rattle.card_set.specs.Decks.{IsDeck};
 ghost use Rattle.pot_layers.specs.Layers.{is_contested, layers};
 ghost use Rattle.pot_layers.specs.PotTests.{total_of};
 ghost use Rattle.table_engine.specs.declared.record.ActOf.{ActOf};
 ghost use Rattle.table_engine.specs.declared.start.StartSeat.{StartSeat};
 ghost use Rattle.table_engine.specs.Starts.{IsLawfulStart, chips_of, have_playable_stacks};
+ghost use Rattle.table_engine.specs.Deals.{dealt_cards};
 ghost use Rattle.table_engine.specs.Hands.{HandTerms, behind, due_in_hand, due_name, is_over, player_of, put_in_hand, street_of, streets_of};
 ghost use Rattle.floor_text.specs.Refusals.{refusal_number};
 ghost use Rattle.rulebook.specs.Pairs.{are_rising};
@@ -100,6 +103,13 @@ pub fn showdown_of_a_hand()
         → is_won_by_folds hand ≡ false → is_contested (puts_in_hand hand) ≡ true }
 {}
 
+/// Says that a hand has a deck, and that no card is dealt twice: all hole cards of all players, the board and the burned
+/// cards are different cards, so no two players hold the same card, and none holds one of the board.
+pub fn cards_of_a_hand()
+    ensures deck { (start : HandStart) → IsLawfulStart start → IsDeck start.deck }
+    ensures apart { (start : HandStart) → IsLawfulStart start → AreDistinct (dealt_cards start) }
+{}
+
 /// Says that betting does not depend on cards.
 pub fn cards_do_not_bet()
     ensures due { (hand : HandTerms) (deck : List Card)
@@ -113,6 +123,10 @@ pub fn cards_do_not_bet()
     ensures refusal { (hand : HandTerms) (deck : List Card) (name : List ℕ) (act : Act)
         → refusal_of_act (record hand { start = record hand.start { deck = deck } }) name act
         ≡ refusal_of_act hand name act }
+    ensures start { (start : HandStart) (deck : List Card) → IsLawfulStart start → IsDeck deck
+        → IsLawfulStart (record start { deck = deck }) }
+    ensures lawful { (hand : HandTerms) (deck : List Card) → IsLawfulPlay hand
+        → IsLawfulPlay (record hand { start = record hand.start { deck = deck } }) }
 {}
 
 /// Says that the checks of an act stand in rising number, so that the first that holds is the lowest.

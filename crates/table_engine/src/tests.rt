@@ -1,4 +1,5 @@
 ghost use Rattle.std.specs.Prelude.{◌≡◌, ◌+◌, ◌<◌, ◌≤◌, ◌^◌, true, [], ◌∷◌, IfOk};
+ghost use Rattle.card_set.specs.Decks.{IsDeck};
 ghost use Rattle.table_engine.specs.Starts.{is_playable_stack};
 
 use super::*;
@@ -48,6 +49,7 @@ fn start_of(
     ensures seats { result.seats ≡ seats.items }
     ensures table { result.seat_count ≡ seat_count }
     ensures marks { result.marks ≡ marks }
+    ensures deck { IsDeck result.deck }
     ensures blind { result.blind ≡ record { small = 100; big = 200; unit = unit } }
 {
     HandStart {

@@ -42,4 +42,5 @@ new-requires c =
       big = rw (seats, start.marks);
       small = rw start.marks (λ same. cc);
       blinds = rw start.blind;
+      deck = start.deck;
     }
