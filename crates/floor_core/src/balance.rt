@@ -57,7 +57,7 @@ impl Book {
     }
 
     /// Makes the checks of a balance, and gives the move of the player who leaves the one table for the other.
-    fn check_balance(&self, from: u64, to: u64) -> Result<Move, Refusal>
+    pub(crate) fn check_balance(&self, from: u64, to: u64) -> Result<Move, Refusal>
         ensures checked { IsChecked (all_balance_checks self.now from to) result }
         ensures move_ { IfOk result (λ move_. balance_move self.now.seating from to ≡ Some move_) }
         ensures sits { IfOk result (λ move_. option_map (λ seated. seated.player)

@@ -1,6 +1,6 @@
 //! A hand begins.
 
-ghost use Rattle.std.specs.Prelude.{◌≡◌, ◌≤◌, ◌<◌, ◌^◌, ◌&&◌, ◌++◌, ◌∷◌, [], true, not, length, is_some, if◌then◌else◌, IfOk, OnOk, OnErr};
+ghost use Rattle.std.specs.Prelude.{◌≡◌, ◌≤◌, ◌<◌, ◌^◌, ◌&&◌, ◌++◌, ◌∷◌, [], true, not, length, is_some, if◌then◌else◌, None, Some, IfOk, IfErr, OnOk, OnErr};
 ghost use Rattle.rulebook.specs.Checks.{IsChecked};
 ghost use Rattle.button_blinds.specs.Marks.{AreMarksOf};
 ghost use Rattle.seat_book.specs.Places.{IsTableOf, IsPlaceOf};
@@ -101,7 +101,7 @@ fn deal_in(seats: &mut SeatBook, table: u8, waiting: &SeatSet)
 
 impl Book {
     /// Makes the checks of a hand's begin, and gives the table's number and the deck.
-    fn check_begin(&self, table: u64, row: &CardRow) -> Result<Ready, Refusal>
+    fn ready(&self, table: u64, row: &CardRow) -> Result<Ready, Refusal>
         ensures checked { IsChecked (begin_checks self.now table row.now) result }
         ensures same { IfOk result (λ ready. ready.table ≡ table) }
         ensures deck { IfOk result (λ ready. ready.deck ≡ row.now.cards) }
@@ -113,6 +113,17 @@ impl Book {
         self.check_turn(table)?;
         let deck = check_deck(row)?;
         Ok(Ready { table, deck })
+    }
+
+    /// Checks that a hand may begin at a table, with a row that is a deck, and changes nothing: it begins where memory
+    /// does not run out.
+    #[tactic(auto, unfolding(tournament_rules::specs::Checks::book_refusal))]
+    pub fn check_begin(&self, table: u64, row: &CardRow) -> Result<(), Refusal>
+        ensures ok { OnOk result (book_refusal self.now (events.Begin table row.now) ≡ None) }
+        ensures err { IfErr result (λ refusal. book_refusal self.now (events.Begin table row.now) ≡ Some refusal) }
+    {
+        self.ready(table, row)?;
+        Ok(())
     }
 
     /// Finds the marks of the next hand at a table, and who waits.
@@ -176,7 +187,7 @@ impl Book {
         ensures within { OnOk result (table < length self.old.started) }
         ensures err { OnErr result (self.new ≡ self.old) }
     {
-        let Ready { table, deck } = self.check_begin(table, row)?;
+        let Ready { table, deck } = self.ready(table, row)?;
         let next = self.next_at(table);
         let start = self.next_start(table, &next, deck)?;
         let own = start.copy(self.alloc)?;

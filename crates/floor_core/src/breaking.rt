@@ -29,7 +29,12 @@ impl Book {
     }
 
     /// Makes the checks of a break, and gives the table's number.
-    fn check_break(&self, table: u64, places: &[Place], names: &[Name]) -> Result<u8, Refusal>
+    pub(crate) fn check_break(
+        &self,
+        table: u64,
+        places: &[Place],
+        names: &[Name],
+    ) -> Result<u8, Refusal>
         ensures checked { IsChecked (break_checks self.now table places.now names.now) result }
         ensures same { IfOk result (λ number. number ≡ table) }
         ensures within { IfOk result (IsTableOf self.now.seating.table_count) }

@@ -7,7 +7,7 @@ ghost use Rattle.seat_book.specs.Counts.{count_at};
 ghost use Rattle.balance_rule.specs.Halting.{is_halted};
 ghost use Rattle.table_engine.specs.declared.start.HandStart.{HandStart};
 ghost use Rattle.tournament_rules.specs.Books.{has_table, has_seat_number, start_at};
-ghost use Rattle.tournament_rules.specs.Checks.{is_table_open, may_be_entered, is_taken, is_not_fewest, going_checks, newcomer_checks, seat_checks, over_checks, entry_checks, open_table_checks, not_playing_checks, no_race_checks, enough_checks, table_checks, deck_checks, due_checks, known_checks, playing_checks, leaving_checks, round_checks, both_open_checks, draw_checks};
+ghost use Rattle.tournament_rules.specs.Checks.{is_table_open, may_be_entered, is_taken, is_not_fewest, going_checks, newcomer_checks, seat_checks, over_checks, entry_checks, room_checks, open_table_checks, not_playing_checks, no_race_checks, enough_checks, table_checks, deck_checks, due_checks, known_checks, playing_checks, leaving_checks, round_checks, both_open_checks, draw_checks};
 
 use crate::book::Book;
 use balance_rule::halted;
@@ -15,6 +15,7 @@ use break_draw::{check_draw, fill_seats};
 use card_set::{CardRow, Deck};
 use floor_text::{Name, Refusal};
 use hand_rounds::may_begin;
+use rulebook::MOST_ENTRIES;
 use seat_book::Place;
 
 /// A table that is ready for a hand or a race, with the deck for it.
@@ -182,6 +183,16 @@ impl Book {
             return Err(Refusal::LateClosed);
         }
         self.check_not_over()
+    }
+
+    /// Checks that there is room in the entry list.
+    pub(crate) fn check_room(&self) -> Result<(), Refusal>
+        ensures { IsChecked (room_checks self.now.entries) result }
+    {
+        if self.entries.len() as usize >= MOST_ENTRIES {
+            return Err(Refusal::ListFull);
+        }
+        Ok(())
     }
 
     /// Makes a table's number of a number of a line, where such a table is open.

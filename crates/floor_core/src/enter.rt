@@ -35,7 +35,7 @@ fn enlist(entries: &mut EntryList, name: Name) -> Result<u32, BookFault>
 
 impl Book {
     /// Makes the checks of an entry but for the list's room, and gives the place where the player sits down.
-    fn check_enter(&self, name: Name, table: u64, seat: u64) -> Result<Place, Refusal>
+    pub(crate) fn check_enter(&self, name: Name, table: u64, seat: u64) -> Result<Place, Refusal>
         ensures checked { IsChecked (enter_checks self.now name table seat) result }
         ensures same { IfOk result (λ place. place ≡ record { table = table; seat = seat }) }
         ensures within { IfOk result (IsPlaceOf self.now.seating.table_count self.now.seating.seat_count) }

@@ -74,7 +74,7 @@ impl Book {
     }
 
     /// Makes the checks of the next level.
-    fn check_level(&self) -> Result<(), Refusal>
+    pub(crate) fn check_level(&self) -> Result<(), Refusal>
         ensures { IsChecked (level_checks self.now) result }
     {
         self.check_going()?;

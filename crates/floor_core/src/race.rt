@@ -105,7 +105,7 @@ impl Book {
     }
 
     /// Makes the checks of a chip race, and gives the table's number and the deck.
-    fn check_race(&self, table: u64, row: &CardRow) -> Result<Ready, Refusal>
+    pub(crate) fn check_race(&self, table: u64, row: &CardRow) -> Result<Ready, Refusal>
         ensures checked { IsChecked (race_checks self.now table row.now) result }
         ensures same { IfOk result (λ ready. ready.table ≡ table) }
         ensures deck { IfOk result (λ ready. ready.deck ≡ row.now.cards) }

@@ -22,7 +22,7 @@ pub(crate) fn group_after(hands: bool, group: u64) -> u64
 
 impl Book {
     /// Makes the checks of a switch of hand-for-hand.
-    fn check_hands(&self, on: bool) -> Result<(), Refusal>
+    pub(crate) fn check_hands(&self, on: bool) -> Result<(), Refusal>
         ensures { IsChecked (hands_checks self.now on) result }
     {
         self.check_going()?;
@@ -46,7 +46,7 @@ impl Book {
     }
 
     /// Makes the checks of the end of a round.
-    fn check_end_round(&self) -> Result<(), Refusal>
+    pub(crate) fn check_end_round(&self) -> Result<(), Refusal>
         ensures { IsChecked (end_round_checks self.now) result }
     {
         self.check_going()?;

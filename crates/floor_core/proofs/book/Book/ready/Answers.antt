@@ -4,7 +4,7 @@ use Rattle.rulebook.proofs.Checks.{first_that_holds-later}
 use Rattle.tournament_rules.specs.Checks.{going_checks, table_checks, due_checks, deck_checks, begin_checks}
 use Rattle.floor_core.proofs.Joins.{checked_on}
 use Rattle.floor_core.proofs.MoveChecks.{found_second}
-use Rattle.floor_core.proofs.book.Book.check_begin.Goals as goal
+use Rattle.floor_core.proofs.book.Book.ready.Goals as goal
 
 pub returns-in_err-check_turn-clause-checked : goal.returns-in_err-check_turn-clause-checked
 returns-in_err-check_turn-clause-checked c =
