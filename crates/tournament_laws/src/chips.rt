@@ -26,8 +26,8 @@ pub fn chips_are_kept()
         ≡ sold (run first_state events) + added (run first_state events) }
 {}
 
-/// Says that chips are sold by an entry alone, and that races alone take chips away and give some: what is sold, removed
-/// or added is the same after every other event, and after each that is refused.
+/// Says that chips are sold by an entry alone, and that races alone take chips away and give some: what is sold,
+/// removed or added is the same after every other event, and after each that is refused.
 pub fn entries_and_races_alone_change_the_chips()
     ensures sold { (state : State) (event : Event) → is_entry event ≡ false
         → sold (state_after state event) ≡ sold state }
