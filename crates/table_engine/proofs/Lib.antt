@@ -20,3 +20,4 @@ pub mod Starts
 pub mod Tabled
 pub mod TurnLaws
 pub mod WholeUnits
+mod Uncalled

@@ -1,29 +1,22 @@
 -- Betting does not depend on the deck of the start.
-use Rattle.std.proofs.Common.{◌≡◌, ◌∙◌, ℕ, zero, suc, true, false, List, [], ◌∷◌, ◌++◌, map, refl, ap, sym}
-use Rattle.std.specs.Prelude.{Bool, not, Option, reverse, is_none, ◌&&◌}
+use Rattle.std.proofs.Common.{◌≡◌, ◌∙◌, ℕ, zero, suc, List, [], ◌∷◌, ◌++◌, map, refl, ap, sym}
+use Rattle.std.specs.Prelude.{not, Option, reverse}
 use Rattle.card_set.specs.declared.card.Card.{Card}
 use Rattle.card_set.specs.Decks.{IsDeck}
-use Rattle.floor_text.specs.declared.refusal.Refusal.{Refusal}
 use Rattle.betting_round.specs.StreetActs.{SeatAct}
 use Rattle.betting_round.specs.declared.act.Act.{Act}
-use Rattle.betting_round.specs.declared.act.Done.{Done}
 use Rattle.table_engine.specs.declared.record.ActOf.{ActOf}
 use Rattle.table_engine.specs.declared.start.HandStart.{HandStart}
 use Rattle.table_engine.specs.declared.start.StartSeat.{StartSeat}
-use Rattle.table_engine.specs.Hands.{HandTerms, Streets, all_dealt_on, by_seat, dealt_on, due_in_hand, due_name, first_streets, has_ended, is_over, put_in_hand, behind, street_now, street_of, streets_after, streets_of, with_act, with_next_street}
+use Rattle.table_engine.specs.Hands.{HandTerms, Streets, all_dealt_on, by_seat, dealt_on, due_name, first_streets, put_in_hand, street_now, streets_after, streets_of, with_act, with_next_street}
 use Rattle.floor_text.specs.declared.refusal.Refusal.TheVariants.{NotDealt}
 use Rattle.rulebook.specs.Checks.{first_that_holds}
 use Rattle.betting_round.specs.ActChecks.{seat_checks}
 use Rattle.table_engine.specs.Acts.{act_checks, acting_seat, done_of_act, is_dealt, limits_on, refusal_of_act, time_act}
 use Rattle.std.specs.Prelude.{Some, None}
-use Rattle.std.specs.Option.{option_map_or}
-use Rattle.betting_round.specs.declared.bettor.Player.{Player}
-use Rattle.betting_round.specs.declared.street.Street.{Street}
-use Rattle.betting_round.specs.WhoIsDue.{player_in}
-use Rattle.showdown.specs.declared.live.Live.{Live}
-use Rattle.table_engine.specs.Deals.{board_of, tabled}
+use Rattle.table_engine.specs.Deals.{board_of}
 use Rattle.table_engine.specs.Hands.{is_live, players_by_seat}
-use Rattle.table_engine.specs.Results.{award, is_won_by_folds, live_in_hand, live_on, pot, put_at, puts_in_hand, showdown_awards, stack_after_hand, stacks_after_hand}
+use Rattle.table_engine.specs.Results.{live_in_hand, put_at, puts_in_hand, showdown_awards}
 use Rattle.showdown.specs.Awards.{awards_of}
 use Rattle.showdown.specs.Hands.{hands_of}
 use Rattle.pot_layers.specs.Layers.{layers}

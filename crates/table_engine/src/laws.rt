@@ -1,6 +1,6 @@
 //! Laws of a hand: over every lawful start and every lawful play of it.
 
-ghost use Rattle.std.specs.Prelude.{◌≡◌, ◌+◌, ◌%◌, ◌==◌, ◌<◌, ◌≤◌, ℕ, List, [], ◌∷◌, ◌++◌, Some, None, IsSome, false, true, map, nat_le, length, sum, sum_by};
+ghost use Rattle.std.specs.Prelude.{◌≡◌, ◌+◌, ◌%◌, ◌==◌, ◌<◌, ◌≤◌, ℕ, List, [], ◌∷◌, ◌++◌, Some, None, IsSome, false, true, map, nat_le, length, slice_index_or, sum, sum_by};
 ghost use Rattle.std.specs.List.{list_all};
 ghost use Rattle.betting_round.specs.declared.act.Act.TheVariants as acts;
 ghost use Rattle.betting_round.specs.declared.act.Act.{Act};
@@ -8,12 +8,12 @@ ghost use Rattle.card_choices.specs.Choices.{AreDistinct};
 ghost use Rattle.card_set.specs.declared.card.Card.{Card};
 ghost use Rattle.card_set.specs.Decks.{IsDeck};
 ghost use Rattle.pot_layers.specs.Layers.{is_contested, layers};
-ghost use Rattle.pot_layers.specs.PotTests.{total_of};
+ghost use Rattle.pot_layers.specs.PotTests.{are_others_within, total_of};
 ghost use Rattle.table_engine.specs.declared.record.ActOf.{ActOf};
 ghost use Rattle.table_engine.specs.declared.start.StartSeat.{StartSeat};
 ghost use Rattle.table_engine.specs.Starts.{IsLawfulStart, chips_of, have_playable_stacks};
 ghost use Rattle.table_engine.specs.Deals.{dealt_cards};
-ghost use Rattle.table_engine.specs.Hands.{HandTerms, behind, due_in_hand, due_name, is_over, player_of, put_in_hand, street_of, streets_of};
+ghost use Rattle.table_engine.specs.Hands.{HandTerms, behind, due_in_hand, due_name, is_live, is_over, player_of, players_by_seat, put_in_hand, street_of, streets_of};
 ghost use Rattle.floor_text.specs.Refusals.{refusal_number};
 ghost use Rattle.rulebook.specs.Pairs.{are_rising};
 ghost use Rattle.table_engine.specs.Acts.{act_checks, done_of_act, hand_after_time, refusal_of_act, refusal_of_time, time_act};
@@ -108,6 +108,15 @@ pub fn showdown_of_a_hand()
 pub fn cards_of_a_hand()
     ensures deck { (start : HandStart) → IsLawfulStart start → IsDeck start.deck }
     ensures apart { (start : HandStart) → IsLawfulStart start → AreDistinct (dealt_cards start) }
+{}
+
+/// Says that an uncalled bet comes back to its player. What a live player has put in above the height that any other
+/// player reached is among what he gets, where one player alone is live and at a showdown.
+pub fn an_uncalled_bet_comes_back()
+    ensures { (hand : HandTerms) (index height : ℕ) (player : StartSeat) → IsLawfulStart hand.start → IsLawfulPlay hand
+        → is_over hand ≡ true → slice_index_or (players_by_seat hand.start) index None ≡ Some player
+        → is_live hand player ≡ true → are_others_within (puts_in_hand hand) index height ≡ true
+        → put_in_hand hand player ≤ height + award hand player }
 {}
 
 /// Says that betting does not depend on cards.

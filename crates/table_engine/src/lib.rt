@@ -8,9 +8,9 @@
 //! the hand for what is faced and awarded (`facing`, `award`).
 //!
 //! Laws of every lawful play: `chips_of_a_hand` at each moment, `acts_of_a_hand`, `turns_of_a_hand`,
-//! `levels_of_a_hand`, `length_of_a_hand`, `showdown_of_a_hand`, and `players_of_a_hand` of the players and their
-//! stacks after it. Of every hand: `checks_of_an_act_rise`, `a_showdown_has_the_whole_board`, `cards_of_a_hand` and
-//! `cards_do_not_bet`.
+//! `levels_of_a_hand`, `length_of_a_hand`, `showdown_of_a_hand`, `an_uncalled_bet_comes_back`, and `players_of_a_hand`
+//! of the players and their stacks after it. Of every hand: `checks_of_an_act_rise`, `a_showdown_has_the_whole_board`,
+//! `cards_of_a_hand` and `cards_do_not_bet`.
 #![tactic(auto)]
 
 mod awards;
@@ -25,9 +25,9 @@ mod telling;
 
 pub use hand::Hand;
 pub use laws::{
-    a_showdown_has_the_whole_board, acts_of_a_hand, cards_do_not_bet, cards_of_a_hand,
-    checks_of_an_act_rise, chips_of_a_hand, length_of_a_hand, levels_of_a_hand, players_of_a_hand,
-    showdown_of_a_hand, turns_of_a_hand,
+    a_showdown_has_the_whole_board, acts_of_a_hand, an_uncalled_bet_comes_back, cards_do_not_bet,
+    cards_of_a_hand, checks_of_an_act_rise, chips_of_a_hand, length_of_a_hand, levels_of_a_hand,
+    players_of_a_hand, showdown_of_a_hand, turns_of_a_hand,
 };
 pub use record::{ActFault, ActOf, HandRecord};
 pub use start::{HandStart, StartSeat};

@@ -1,5 +1,5 @@
 use Rattle.std.proofs.Common.{[]}
-use Rattle.table_engine.proofs.NoCards.{awards-deck, due-deck, refusal-deck, put-deck, done-deck, time-deck, lawful-deck, play-deck, start-deck}
+use Rattle.table_engine.proofs.NoCards.{due-deck, refusal-deck, done-deck, time-deck, lawful-deck, play-deck, start-deck}
 use Rattle.table_engine.proofs.laws.cards_do_not_bet.Goals as goal
 
 pub returns-clause-due : goal.returns-clause-due

@@ -1,7 +1,6 @@
-use Rattle.std.proofs.Common.{◌≡◌, ◌∙◌, ap}
+use Rattle.std.proofs.Common.{◌∙◌, ap}
 use Rattle.table_engine.specs.declared.awards.Awards.{Awards}
 use Rattle.table_engine.specs.Awards.{award_in}
-use Rattle.table_engine.specs.Hands.{is_live}
 use Rattle.table_engine.proofs.ChipsAfter.{award-is}
 use Rattle.table_engine.proofs.hand.Hand.award.Goals as goal
 
