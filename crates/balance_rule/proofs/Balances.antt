@@ -13,12 +13,12 @@ use Rattle.seat_book.specs.declared.seated.Seated.{Seated}
 use Rattle.seat_book.specs.Places.{comes_before, IsTableOf}
 use Rattle.seat_book.specs.Players.{sits_at, sits_in, is_numbered, player_of, sit_down, lifted, are_apart}
 use Rattle.seat_book.specs.Counts.{count_at, is_open, greatest_count, least_count}
-use Rattle.seat_book.specs.Seatings.{Seating, IsSeating}
+use Rattle.seat_book.specs.Seatings.{Seating, IsSeating, is_race_pending, is_round_open}
 use Rattle.rulebook.proofs.Passing.{filter-all}
 use Rattle.balance_rule.specs.declared.balance.Move.{Move}
 use Rattle.balance_rule.specs.EmptySeats.{worst_empty_seat}
 use Rattle.balance_rule.specs.Balance.{next_big_seat, next_big_player, move_to, balance_move, balance_checks, reseated, after_move}
-use Rattle.balance_rule.specs.Moves.{Balance, IsLawfulMove, IsFreeTable, is_race_pending, is_round_open}
+use Rattle.balance_rule.specs.Moves.{Balance, IsLawfulMove, IsFreeTable}
 use Rattle.balance_rule.proofs.Movers.{found-numbered, found-place}
 use Rattle.balance_rule.proofs.Extremes.{greatest-above, least-below}
 

@@ -1,12 +1,10 @@
 -- Lawful moves: a balance of two tables, and the break of one. This project's own.
-use Rattle.std.specs.Prelude.{◌≡◌, ◌<◌, ◌≤◌, ◌+◌, ℕ, Bool, true, false, ◌&&◌, List, Some, IsPermutation}
-use Rattle.std.specs.List.{list_any}
-use Rattle.std.specs.Option.{is_some}
+use Rattle.std.specs.Prelude.{◌≡◌, ◌<◌, ◌≤◌, ◌+◌, ℕ, true, false, List, Some, IsPermutation}
 use Rattle.seat_book.specs.declared.place.Place.{Place}
 use Rattle.seat_book.specs.Places.{IsTableOf}
 use Rattle.seat_book.specs.Counts.{count_at, is_open}
 use Rattle.seat_book.specs.Tables.{status_at}
-use Rattle.seat_book.specs.Seatings.{Seating}
+use Rattle.seat_book.specs.Seatings.{Seating, is_race_pending, is_round_open}
 use Rattle.balance_rule.specs.declared.balance.Move.{Move}
 use Rattle.balance_rule.specs.Balance.{balance_move}
 use Rattle.balance_rule.specs.Filling.{fill_seats, names_at}
@@ -16,14 +14,6 @@ use Rattle.balance_rule.specs.Filling.{fill_seats, names_at}
 pub data FloorMove : Type 0 where
   Balance : ℕ → ℕ → Move → FloorMove
   Break : ℕ → List Place → List (List ℕ) → FloorMove
-
--- A chip race is pending at some table.
-abbrev pub is_race_pending : Seating → Bool
-is_race_pending seating = list_any (λ status. is_some status.race) seating.tables
-
--- Hand-for-hand is on, and some table has begun in this round.
-abbrev pub is_round_open : Seating → Bool
-is_round_open seating = seating.hands && list_any (λ status. status.begun) seating.tables
 
 -- A table has at least one player, and plays no hand.
 pub record IsFreeTable (seating : Seating) (table : ℕ) : Type 0 where

@@ -1,6 +1,7 @@
 //! The balance of two tables.
 
 ghost use Rattle.std.specs.Prelude.{◌≡◌, ◌<◌, IsTrue, Some, None, IfOk};
+ghost use Rattle.rulebook.specs.Limits.{most_entries};
 ghost use Rattle.rulebook.specs.Checks.{IsChecked};
 ghost use Rattle.seat_book.specs.Places.{IsTableOf, IsPlaceOf};
 ghost use Rattle.seat_book.specs.Players.{player_at, place_of};
@@ -10,7 +11,6 @@ ghost use Rattle.balance_rule.specs.Balance.{balance_checks, balance_move};
 use crate::worst_seat;
 use button_blinds::next_big;
 use floor_text::Refusal;
-use rulebook::MOST_ENTRIES;
 use seat_book::{Place, SeatBook};
 
 /// The move of a player from his place to another.
@@ -34,7 +34,7 @@ pub fn balance_order(book: &SeatBook, from: u8, to: u8) -> Result<Move, Refusal>
     requires to_open { IsTrue (is_open book.now.players to) }
     ensures checked { IsChecked (balance_checks book.now from to) result }
     ensures move_ { IfOk result (λ move_. balance_move book.now from to ≡ Some move_) }
-    ensures entry { IfOk result (λ move_. move_.player < MOST_ENTRIES) }
+    ensures entry { IfOk result (λ move_. move_.player < most_entries) }
     ensures sits { IfOk result (λ move_. place_of book.now.players move_.player ≡ Some move_.from) }
     ensures place { IfOk result (λ move_. IsPlaceOf book.now.table_count book.now.seat_count move_.to) }
     ensures empty { IfOk result (λ move_. player_at book.now.players move_.to ≡ None) }

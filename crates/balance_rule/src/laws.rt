@@ -4,10 +4,10 @@ ghost use Rattle.std.specs.Prelude.{◌≡◌, ◌≢◌, ◌≤◌, ◌+◌, �
 ghost use Rattle.rulebook.specs.Checks.{first_that_holds};
 ghost use Rattle.seat_book.specs.Places.{IsTableOf};
 ghost use Rattle.seat_book.specs.Counts.{count_at, is_open};
-ghost use Rattle.seat_book.specs.Seatings.{Seating, IsSeating};
+ghost use Rattle.seat_book.specs.Seatings.{Seating, IsSeating, is_race_pending, is_round_open};
 ghost use Rattle.balance_rule.specs.declared.balance.Move.{Move};
 ghost use Rattle.balance_rule.specs.Balance.{balance_checks, balance_move, after_move};
-ghost use Rattle.balance_rule.specs.Moves.{Balance, IsFreeTable, IsLawfulMove, is_race_pending, is_round_open};
+ghost use Rattle.balance_rule.specs.Moves.{Balance, IsFreeTable, IsLawfulMove};
 
 /// Says that a lawful balance goes from a fullest open table to one with the fewest players, and narrows the gap
 /// between them: the one has one player fewer and the other one more, all others have as many as before, and the other

@@ -9,6 +9,7 @@ mod balance;
 mod empty_seats;
 mod halting;
 mod laws;
+mod names;
 #[cfg(test)]
 mod tests;
 
@@ -19,3 +20,4 @@ pub use laws::{
     a_balance_is_never_turned_round, a_balance_narrows_the_gap, a_checked_balance_is_lawful,
     a_lawful_balance_is_checked,
 };
+pub use names::names_at;

@@ -1,5 +1,5 @@
 -- Why an act is refused, from the checks of the turn and then of the act.
-use Rattle.std.proofs.Common.{◌≡◌, ◌∙◌, ◌-◌, ◌≤◌, ℕ, false, Some, None, refl, arith}
+use Rattle.std.proofs.Common.{◌≡◌, ◌∙◌, ◌-◌, ◌≤◌, ℕ, zero, suc, lit<, false, Some, None, refl, arith}
 use Rattle.std.specs.Prelude.{Option, IfSome, ◌==◌}
 use Rattle.std.proofs.lemmas.Bool.Decides.{nat_tests}
 use Rattle.floor_text.specs.declared.refusal.Refusal.{Refusal}
@@ -37,9 +37,18 @@ pub player_in-at : (players : _) (seat : ℕ) → 1 ≤ seat → player_in playe
 player_in-at players seat low = let no : (seat == 0) ≡ false = grind (arith, nat_tests) in rw no
 
 -- What a player faces on a street that is kept is few chips.
-pub few_facing : (street : Street) (seat : ℕ) → 1 ≤ seat → IsStreetKept street → AreFewChips (facing_in street seat)
-few_facing street seat low kept = by_slot (player_at street.players seat) refl
+pub few_facing : (street : Street) (seat : ℕ) → IsStreetKept street → AreFewChips (facing_in street seat)
+few_facing street zero kept =
+    let pot = kept.pot in
+    record { level = kept.level; full = kept.full; pot = omega arith; stack = lit< tt }
+few_facing street (suc below) kept = by_slot (player_at street.players seat) refl
   where
+    seat : ℕ
+    seat = suc below
+
+    low : 1 ≤ seat
+    low = omega arith
+
     by_slot : (slot : Option Player) → player_at street.players seat ≡ slot → AreFewChips (facing_in street seat)
     by_slot None none =
         let there = player_in-at street.players seat low ∙ none in

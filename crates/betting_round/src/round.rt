@@ -5,6 +5,7 @@ ghost use Rattle.betting_round.specs.Acts.{done_by};
 ghost use Rattle.betting_round.specs.StreetActs.{IsStreetStart, StreetStart, SeatAct, next_bettors, put_by_all, street_start, street_after};
 ghost use Rattle.betting_round.specs.WhoIsDue.{player_in, is_one_live, due_seat};
 ghost use Rattle.betting_round.specs.ActChecks.{facing_in, act_refusal, IsAllowed};
+ghost use Rattle.betting_round.specs.Limits.{AreFewChips};
 
 use crate::act::{Act, Done};
 use crate::bettor::{Bettor, all_at_next_street};
@@ -93,9 +94,12 @@ impl Round {
         self.due
     }
 
-    /// Tells what the player in a seat faces. Where nobody sits, nothing is put in and nothing behind.
+    /// Tells what the player in a seat faces. Where nobody sits, nothing is put in and nothing behind. The chips are so
+    /// few that bounds of a bet can be asked of them.
+    #[tactic(auto, using(crate::proofs::ActRefusals::few_facing))]
     pub fn facing(&self, seat: u8) -> Facing
-        ensures { result ≡ facing_in self.now seat }
+        ensures facing { result ≡ facing_in self.now seat }
+        ensures few { AreFewChips result }
     {
         self.street.facing(seat)
     }

@@ -3,7 +3,7 @@ use Rattle.std.specs.Prelude.{◌≡◌, ◌≤◌, ℕ, Bool, true, false, nat_
 use Rattle.std.specs.List.{list_any}
 use Rattle.std.specs.Str.{bytes_eq}
 use Rattle.rulebook.specs.Pairs.{are_distinct}
-use Rattle.rulebook.specs.declared.limits.TheConstants.{MOST_ENTRIES}
+use Rattle.rulebook.specs.Limits.{most_entries}
 use Rattle.entry_list.specs.declared.entries.EntryFault.{EntryFault}
 use Rattle.entry_list.specs.declared.entries.EntryFault.TheVariants.{Known, Full, NoMemory}
 
@@ -13,7 +13,7 @@ is_known entries name = list_any (bytes_eq name) entries
 
 -- Whether the list has no room: there are 640 names.
 abbrev pub is_full : List (List ℕ) → Bool
-is_full entries = nat_le MOST_ENTRIES (length entries)
+is_full entries = nat_le most_entries (length entries)
 
 -- The number of a name: its index in the list.
 abbrev pub number_of : List (List ℕ) → List ℕ → Option ℕ
@@ -27,5 +27,5 @@ IsEntryFault entries name NoMemory = (is_known entries name ≡ false) × (is_fu
 
 -- What holds of an entry list at every moment: there are at most 640 names, and none comes twice.
 pub record IsEntries (entries : List (List ℕ)) : Type 0 where
-  pub few : length entries ≤ MOST_ENTRIES
+  pub few : length entries ≤ most_entries
   pub distinct : are_distinct bytes_eq entries ≡ true

@@ -44,27 +44,27 @@ first-all unit players from (status ∷ tables) =
     (sym (add-one from)))
 
 -- the seats once so many tables are announced
-pub raised_so_far : ℕ → Seating → ℕ → Seating
-raised_so_far unit seating below =
+pub announced_so_far : ℕ → Seating → ℕ → Seating
+announced_so_far unit seating below =
     record seating { tables = announced_first unit seating.players below 1 seating.tables }
 
 -- Before any table all stand as they do.
-pub announced-none : (unit : ℕ) (seating : Seating) → seating ≡ raised_so_far unit seating 0
-unfolding raised_so_far announced_first
+pub announced-none : (unit : ℕ) (seating : Seating) → seating ≡ announced_so_far unit seating 0
+unfolding announced_so_far announced_first
 announced-none unit seating = refl
 
 -- As many tables stay.
 pub announced-count : (unit : ℕ) (seating : Seating) (below : ℕ)
-    → (raised_so_far unit seating below).table_count ≡ seating.table_count
-unfolding raised_so_far
+    → (announced_so_far unit seating below).table_count ≡ seating.table_count
+unfolding announced_so_far
 announced-count unit seating below = refl
 
 -- One table more is announced.
 pub announced-next : (unit : ℕ) (before now next : Seating) (below : ℕ) → below < length before.tables
-    → now ≡ raised_so_far unit before below
+    → now ≡ announced_so_far unit before below
     → next ≡ with_table now (below + 1) (announced_table unit (is_open now.players (below + 1)))
-    → next ≡ raised_so_far unit before (below + 1)
-unfolding raised_so_far
+    → next ≡ announced_so_far unit before (below + 1)
+unfolding announced_so_far
 announced-next unit before now next below within now_is next_is =
     let players = before.players in
     let so_far = announced_first unit players below 1 before.tables in
@@ -75,16 +75,16 @@ announced-next unit before now next below within now_is next_is =
     next_is
     ∙ (ap (λ (seats : Seating). with_table seats (below + 1) (announced_table unit (is_open seats.players (below + 1))))
     now_is
-    ∙ (ap (λ (n : ℕ). with_table (raised_so_far unit before below) n (announced_table unit (is_open players n)))
+    ∙ (ap (λ (n : ℕ). with_table (announced_so_far unit before below) n (announced_table unit (is_open players n)))
     (add-one below)
     ∙ (ap (λ (tables : List TableStatus). record before { tables = tables }) more
-    ∙ ap (λ (n : ℕ). raised_so_far unit before n) (sym (add-one below)))))
+    ∙ ap (λ (n : ℕ). announced_so_far unit before n) (sym (add-one below)))))
 
 -- All tables are announced.
 pub announced-all : (unit : ℕ) (before now : Seating) (below : ℕ) → below ≡ length before.tables
-    → now ≡ raised_so_far unit before below → now ≡ announced unit before
-unfolding raised_so_far
+    → now ≡ announced_so_far unit before below → now ≡ announced unit before
+unfolding announced_so_far
 announced-all unit before now below all now_is =
-    now_is ∙ (ap (raised_so_far unit before) all
+    now_is ∙ (ap (announced_so_far unit before) all
     ∙ ap (λ (tables : List TableStatus). record before { tables = tables })
     (first-all unit before.players 1 before.tables))

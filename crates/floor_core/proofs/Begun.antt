@@ -128,9 +128,7 @@ pub start_state : (book : BookState) (table : ℕ) (deck : List Card) (next : Ne
       seats = seats;
       seat_count = seat_count;
       marks = next.marks;
-      small = blind.small;
-      big = blind.big;
-      unit = blind.unit;
+      blind = blind;
       game = game;
       deck = deck;
     }

@@ -7,7 +7,7 @@ use Rattle.std.proofs.lemmas.List.{take_more, append-nil, get_or-map, map-append
 use Rattle.std.proofs.lemmas.List.Elements.{filter-append}
 use Rattle.std.proofs.lemmas.List.Folds.{list_any_at}
 use Rattle.std.proofs.lemmas.List.Sums.{AllPass-from_list_all, list_all-from_AllPass}
-use Rattle.rulebook.specs.declared.limits.TheConstants.{MOST_ENTRIES}
+use Rattle.rulebook.specs.Limits.{most_entries}
 use Rattle.place_list.specs.declared.bust.Bust.{Bust}
 use Rattle.seat_book.specs.Players.{is_numbered, lifted}
 use Rattle.seat_book.specs.Seatings.{Seating}
@@ -19,7 +19,7 @@ use Rattle.tournament_rules.specs.Books.{BookState, start_at}
 use Rattle.tournament_rules.specs.Players.{paid, put_back, stayed}
 use Rattle.tournament_rules.specs.Effects.{bust_of}
 use Rattle.tournament_rules.specs.Valid.{IsValid, AreOnce, is_bust_of}
-use Rattle.tournament_rules.proofs.Outs.{MayLeave, may_leave, once-leaves}
+use Rattle.tournament_rules.proofs.InOrBust.{MayLeave, may_leave, once-leaves}
 use Rattle.tournament_rules.proofs.Leaving.{stayed-none, stayed-more, still_sits, starter_sits, sits_paid, later_differs}
 use Rattle.tournament_rules.proofs.Restacked.{count_changed}
 use Rattle.tournament_rules.proofs.Paying.{paid-stacks}
@@ -61,7 +61,7 @@ pub record IsBustSoFar (players : List StartSeat) (test : StartSeat → Bool) (g
   pub seats : now ≡ seated_as before (stayed (filter test (take index players)) before.players)
   pub busts : out_now ≡ started ++ map (bust_of group) (filter test (take index players))
   pub entries : List (List ℕ)
-  pub few : length entries ≤ MOST_ENTRIES
+  pub few : length entries ≤ most_entries
   pub once : AreOnce entries now.players out_now
 
 -- Before any player nobody went out.

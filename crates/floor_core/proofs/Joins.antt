@@ -1,7 +1,7 @@
 -- Checks that are joined, and errors that are handed on.
 use Rattle.std.proofs.Common.{◌≡◌, ◌∙◌, refl, sym, ap, subst, ℕ, Bool, true, false, List, ◌++◌}
 use Rattle.std.specs.Prelude.{Option, Some, None, Result, Ok, Err}
-use Rattle.std.specs.Result.{IsErr, IsErrAnd}
+use Rattle.std.specs.Result.{IsErr, IsErrAnd, IfErr, OnOk}
 use Rattle.rulebook.specs.Checks.{first_that_holds, IsChecked}
 use Rattle.rulebook.proofs.Checks.{first_that_holds-later, first_that_holds-sooner}
 use Rattle.floor_text.specs.declared.refusal.Refusal.{Refusal}
@@ -18,6 +18,25 @@ pub checked_on : {A T : Type 0} (checks : List (A × Bool)) (found : A) (result 
     → IsChecked checks result
 checked_on checks found (Ok value) holds error same = let never : false ≡ true = error in absurd cc
 checked_on checks found (Err other) holds error same = holds ∙ ap Some (sym same)
+
+-- A refusal that is handed on is the one that there is.
+pub refused_on : {T : Type 0} (refusal : Option Refusal) (found : Refusal) (result : Result T Refusal) → refusal
+    ≡ Some found → IsErr result → IsErrAnd result (λ error. error ≡ found)
+    → IfErr result (λ error. refusal ≡ Some error)
+refused_on refusal found (Ok value) is error same = let never : false ≡ true = error in absurd cc
+refused_on refusal found (Err other) is error same = is ∙ ap Some (sym same)
+
+-- Where the checks that a refusal comes from pass, there is none.
+pub passed_on : {T : Type 0} (refusal : Option Refusal) (checks : List (Refusal × Bool)) (result : Result T Refusal)
+    → refusal ≡ first_that_holds checks → IsChecked checks result → OnOk result (refusal ≡ None)
+passed_on refusal checks (Ok value) same is = same ∙ is
+passed_on refusal checks (Err found) same is = tt
+
+-- Where one of the checks that a refusal comes from holds, it is that of the first.
+pub held_on : {T : Type 0} (refusal : Option Refusal) (checks : List (Refusal × Bool)) (result : Result T Refusal)
+    → refusal ≡ first_that_holds checks → IsChecked checks result → IfErr result (λ error. refusal ≡ Some error)
+held_on refusal checks (Ok value) same is = tt
+held_on refusal checks (Err found) same is = same ∙ is
 
 -- A refusal that is handed on is the answer.
 pub answered_no : {T : Type 0} (refusal : Option Refusal) (found : Refusal) (result : Result T ActFault) → refusal

@@ -7,7 +7,7 @@ use Rattle.std.proofs.lemmas.Bool.{and_parts, ltb-true}
 use Rattle.std.proofs.lemmas.Bool.Decides.{nat_tests}
 use Rattle.std.proofs.lemmas.Option.{same_Some}
 use Rattle.rulebook.specs.Pairs.{are_distinct}
-use Rattle.rulebook.specs.declared.limits.TheConstants.{MOST_ENTRIES}
+use Rattle.rulebook.specs.Limits.{most_entries}
 use Rattle.rulebook.proofs.Passing.{find-none, none-find}
 use Rattle.rulebook.proofs.Tests.{find-all, list_all-filtered}
 use Rattle.seat_book.specs.declared.place.Place.{Place}
@@ -53,10 +53,10 @@ called-sits seating table name (Some player) lawful is =
 -- Whoever is found by a name at a table has the number of an entry.
 pub called-entry : (seating : Seating) (table : ℕ) (name : List ℕ) (found : Option Seated) → IsSeating seating
     → found ≡ find (is_called name) (players_at seating.players table)
-    → IfSome found (λ player. player.player < MOST_ENTRIES)
+    → IfSome found (λ player. player.player < most_entries)
 called-entry seating table name None lawful is = tt
 called-entry seating table name (Some player) lawful is =
-    ltb-true player.player MOST_ENTRIES (find-all (is_numbered player.player) is_entry seating.players player
+    ltb-true player.player most_entries (find-all (is_numbered player.player) is_entry seating.players player
     (named-found seating.players table name player lawful.apart (sym is)) lawful.entries)
 
 -- Once the player of a name took the first of free places, the others are free.

@@ -5,7 +5,7 @@ use Rattle.std.proofs.lemmas.Bool.{and_parts, and_from}
 use Rattle.std.proofs.lemmas.List.{take_all}
 use Rattle.std.proofs.lemmas.List.Sums.{fold_more}
 use Rattle.std.specs.List.{list_all}
-use Rattle.rulebook.specs.declared.limits.TheConstants.{MOST_ENTRIES}
+use Rattle.rulebook.specs.Limits.{most_entries}
 use Rattle.seat_book.specs.Seatings.{Seating, IsSeating}
 use Rattle.table_engine.specs.declared.start.StartSeat.{StartSeat}
 use Rattle.table_engine.specs.Results.{with_stack, with_stacks}
@@ -75,12 +75,12 @@ payees_with_stacks players stacks same payable = record {
     numbers (player ∷ players) (stack ∷ stacks) same = ap (◌∷◌ player.player) (numbers players stacks (omega arith))
 
     tested : (players : List StartSeat) (stacks : List ℕ) → length stacks ≡ length players
-        → list_all (λ payee. nat_lt payee.player MOST_ENTRIES) players ≡ true
-        → list_all (λ payee. nat_lt payee.player MOST_ENTRIES) (with_stacks players stacks) ≡ true
+        → list_all (λ payee. nat_lt payee.player most_entries) players ≡ true
+        → list_all (λ payee. nat_lt payee.player most_entries) (with_stacks players stacks) ≡ true
     tested [] stacks same all = refl
     tested (player ∷ players) [] same all = absurd (omega arith)
     tested (player ∷ players) (stack ∷ stacks) same all =
-        let parts = and_parts (nat_lt player.player MOST_ENTRIES)
-        (list_all (λ payee. nat_lt payee.player MOST_ENTRIES) players) all in
-        and_from (nat_lt player.player MOST_ENTRIES) (list_all (λ payee. nat_lt payee.player MOST_ENTRIES)
+        let parts = and_parts (nat_lt player.player most_entries)
+        (list_all (λ payee. nat_lt payee.player most_entries) players) all in
+        and_from (nat_lt player.player most_entries) (list_all (λ payee. nat_lt payee.player most_entries)
         (with_stacks players stacks)) parts.0 (tested players stacks (omega arith) parts.1)

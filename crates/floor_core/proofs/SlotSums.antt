@@ -1,9 +1,8 @@
 -- What is summed over slots, of which some are empty, and over the players in them.
-use Rattle.std.proofs.Common.{◌≡◌, refl, subst, ℕ, zero, suc, ◌+◌, ◌<◌, List, [], ◌∷◌, ◌++◌, length, take, get_or, Option, Some, None, arith, sum_by, map}
-use Rattle.std.proofs.lemmas.List.{take_more, map-append}
+use Rattle.std.proofs.Common.{◌≡◌, refl, subst, ℕ, zero, suc, ◌<◌, List, [], ◌∷◌, length, get_or, Option, Some, None, arith, sum_by}
 use Rattle.std.specs.Option.{option_map_or}
 use Rattle.std.specs.List.{All}
-use Rattle.std.proofs.lemmas.List.Elements.{All-head, All-tail, filter_map-append}
+use Rattle.std.proofs.lemmas.List.Elements.{All-head, All-tail}
 use Rattle.std.proofs.lemmas.List.Sums.{sum_by-cons}
 use Rattle.seat_book.specs.declared.seated.Seated.{Seated}
 use Rattle.seat_book.specs.Players.{players_in}
@@ -34,15 +33,3 @@ held P (Some other ∷ slots) zero fallback player all within is = let same : ot
 held P (None ∷ slots) (suc i) fallback player all within is = held P slots i fallback player all (omega arith) is
 held P (Some other ∷ slots) (suc i) fallback player all within is =
     held P slots i fallback player (All-tail P other (players_in slots) all) (omega arith) is
-
--- What is made of the players in one slot more.
-pub mapped-more : {A : Type 0} (f : Seated → A) (slots : List (Option Seated)) (i : ℕ)
-    (fallback slot : Option Seated) → i < length slots → get_or slots i fallback ≡ slot
-    → map f (players_in (take (i + 1) slots)) ≡ map f (players_in (take i slots)) ++ map f (players_in (slot ∷ []))
-mapped-more f slots i fallback slot within is =
-    rw (
-      take_more slots i fallback within,
-      is,
-      filter_map-append (λ slot. slot) (take i slots) (slot ∷ []),
-      map-append f (players_in (take i slots)) (players_in (slot ∷ [])),
-    )

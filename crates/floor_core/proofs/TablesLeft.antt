@@ -4,7 +4,7 @@ use Rattle.std.proofs.Math.Nat.{sub-zero}
 use Rattle.std.specs.Prelude.{◌&&◌, ◌||◌, nat_lt}
 use Rattle.std.specs.List.{list_any}
 use Rattle.rulebook.specs.Seats.{walk}
-use Rattle.seat_book.specs.Counts.{count_at, is_open, table_numbers}
+use Rattle.seat_book.specs.Counts.{count_at, table_numbers}
 use Rattle.tournament_rules.specs.Books.{BookState}
 use Rattle.tournament_rules.specs.Checks.{may_be_entered}
 use Rattle.seat_book.proofs.TableWalks.{any-next, tables-over}
@@ -18,10 +18,6 @@ abbrev pub has_fewer : BookState → ℕ → ℕ → Bool
 has_fewer book table other =
     may_be_entered book other
     && nat_lt (count_at book.seating.players other) (count_at book.seating.players table)
-
--- a table is open and has a higher number than another
-abbrev pub is_open_above : BookState → ℕ → ℕ → Bool
-is_open_above book table other = is_open book.seating.players other && nat_lt table other
 
 -- At first all are left.
 pub left-first : (test : ℕ → Bool) (tables : ℕ) → any_left test tables 0 ≡ list_any test (table_numbers tables)

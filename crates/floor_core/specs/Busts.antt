@@ -2,7 +2,7 @@
 use Rattle.std.specs.Prelude.{◌≡◌, ◌≤◌, ℕ, true, ◌==◌, nat_lt, List, length, map}
 use Rattle.std.specs.List.{list_any, list_all}
 use Rattle.rulebook.specs.Pairs.{are_distinct}
-use Rattle.rulebook.specs.declared.limits.TheConstants.{MOST_ENTRIES}
+use Rattle.rulebook.specs.Limits.{most_entries}
 use Rattle.place_list.specs.declared.bust.Bust.{Bust}
 use Rattle.seat_book.specs.declared.seated.Seated.{Seated}
 use Rattle.seat_book.specs.Players.{is_numbered}
@@ -13,8 +13,8 @@ use Rattle.tournament_rules.specs.Valid.{AreOnce}
 -- those who entered, and these are not too many.
 pub record MayGoOut (players : List StartSeat) (seated : List Seated) (busts : List Bust) : Type 0 where
   pub entries : List (List ℕ)
-  pub few : length entries ≤ MOST_ENTRIES
+  pub few : length entries ≤ most_entries
   pub once : AreOnce entries seated busts
   pub apart : are_distinct (λ one other. one == other) (map (λ player. player.player) players) ≡ true
-  pub listed : list_all (λ player. nat_lt player.player MOST_ENTRIES) players ≡ true
+  pub listed : list_all (λ player. nat_lt player.player most_entries) players ≡ true
   pub sit : list_all (λ player. list_any (is_numbered player.player) seated) players ≡ true

@@ -4,22 +4,12 @@ ghost use Rattle.std.specs.Prelude.{◌≡◌, ◌<◌, length, Some, IfOk, IsSo
 ghost use Rattle.table_engine.specs.declared.start.HandStart.{HandStart};
 ghost use Rattle.rulebook.specs.Checks.{IsChecked};
 ghost use Rattle.tournament_rules.specs.Books.{start_at};
-ghost use Rattle.tournament_rules.specs.Checks.{known_checks, before_act_checks, before_hand_checks};
+ghost use Rattle.tournament_rules.specs.Checks.{before_act_checks, before_hand_checks};
 
 use crate::book::Book;
 use floor_text::{Name, Refusal};
 
 impl Book {
-    /// Checks that somebody of that name entered.
-    fn check_known(&self, name: Name) -> Result<(), Refusal>
-        ensures { IsChecked (known_checks self.now name) result }
-    {
-        if self.entries.find(name).is_none() {
-            return Err(Refusal::NameUnknown);
-        }
-        Ok(())
-    }
-
     /// Makes the checks of an act before those of the hand, and gives the table's number.
     pub(crate) fn check_act(&self, table: u64, name: Name) -> Result<u8, Refusal>
         ensures checked { IsChecked (before_act_checks self.now table name) result }

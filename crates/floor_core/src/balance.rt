@@ -1,40 +1,31 @@
 //! Two tables are balanced.
 
-ghost use Rattle.std.specs.Prelude.{◌≡◌, ◌<◌, ◌≤◌, ◌^◌, ◌&&◌, ◌++◌, ◌∷◌, [], not, Some, None, option_map, IfOk, OnOk, OnErr};
+ghost use Rattle.std.specs.Prelude.{◌≡◌, ◌<◌, ◌≤◌, ◌^◌, ◌++◌, Some, None, option_map, IfOk, OnOk, OnErr};
+ghost use Rattle.rulebook.specs.Limits.{most_entries};
 ghost use Rattle.rulebook.specs.Checks.{IsChecked};
 ghost use Rattle.seat_book.specs.Places.{IsTableOf, IsPlaceOf};
 ghost use Rattle.seat_book.specs.Players.{player_at, player_of};
 ghost use Rattle.seat_book.specs.Counts.{count_at};
 ghost use Rattle.balance_rule.specs.Balance.{balance_move};
 ghost use Rattle.table_engine.specs.Acts.{IsAnswer};
-ghost use Rattle.floor_text.specs.declared.refusal.Refusal.TheVariants as refusals;
 ghost use Rattle.floor_events.specs.declared.event.Event.TheVariants as events;
-ghost use Rattle.tournament_rules.specs.Checks.{is_table_open, going_checks, leaving_checks, all_balance_checks, book_refusal};
+ghost use Rattle.tournament_rules.specs.Checks.{going_checks, both_open_checks, leaving_checks, all_balance_checks, book_refusal};
 ghost use Rattle.tournament_rules.specs.Effects.{balanced};
 
 use crate::BookFault;
 use crate::book::Book;
+use crate::checks::OpenTables;
 use crate::moving::reseat;
 use balance_rule::{Move, balance_order};
 use floor_text::Refusal;
-use rulebook::MOST_ENTRIES;
 use seat_book::{SeatBook, Seated};
-
-/// The two tables of a balance, which are open.
-#[derive(Clone, Copy)]
-struct OpenTables {
-    /// The number of the table that a player leaves.
-    from: u8,
-    /// The number of the table where he sits down.
-    to: u8,
-}
 
 /// Gives the player of a move, who sits where it begins.
 fn mover(seats: &SeatBook, move_: Move) -> Seated
     requires within { IsPlaceOf seats.now.table_count seats.now.seat_count move_.from }
     requires sits { option_map (λ seated. seated.player) (player_at seats.now.players move_.from) ≡ Some move_.player }
     ensures player { player_at seats.now.players move_.from ≡ Some result }
-    ensures entry { result.player < MOST_ENTRIES }
+    ensures entry { result.player < most_entries }
     ensures number { result.player ≡ move_.player }
     ensures place { result.place ≡ move_.from }
 {
@@ -48,31 +39,10 @@ fn mover(seats: &SeatBook, move_: Move) -> Seated
 }
 
 impl Book {
-    /// Checks that both tables are open, and gives their numbers.
-    fn check_both_open(&self, from: u64, to: u64) -> Result<OpenTables, Refusal>
-        ensures checked { IsChecked
-            ((refusals.NoTable, not (is_table_open self.now from && is_table_open self.now to)) ∷ []) result }
-        ensures from { IfOk result (λ tables. tables.from ≡ from) }
-        ensures to { IfOk result (λ tables. tables.to ≡ to) }
-        ensures from_within { IfOk result (λ tables. IsTableOf self.now.seating.table_count tables.from) }
-        ensures to_within { IfOk result (λ tables. IsTableOf self.now.seating.table_count tables.to) }
-        ensures from_open { IfOk result (λ tables. 1 ≤ count_at self.now.seating.players tables.from) }
-        ensures to_open { IfOk result (λ tables. 1 ≤ count_at self.now.seating.players tables.to) }
-    {
-        let Some(from) = self.open_table(from) else {
-            return Err(Refusal::NoTable);
-        };
-        let Some(to) = self.open_table(to) else {
-            return Err(Refusal::NoTable);
-        };
-        Ok(OpenTables { from, to })
-    }
-
     /// Makes the checks of a balance before those of the counts, and gives the tables' numbers.
     fn check_to_balance(&self, from: u64, to: u64) -> Result<OpenTables, Refusal>
         ensures checked { IsChecked (going_checks self.now
-            ++ (refusals.NoTable, not (is_table_open self.now from && is_table_open self.now to))
-            ∷ leaving_checks self.now from) result }
+            ++ both_open_checks self.now from to ++ leaving_checks self.now from) result }
         ensures from { IfOk result (λ tables. tables.from ≡ from) }
         ensures to { IfOk result (λ tables. tables.to ≡ to) }
         ensures from_within { IfOk result (λ tables. IsTableOf self.now.seating.table_count tables.from) }
@@ -87,7 +57,7 @@ impl Book {
     }
 
     /// Makes the checks of a balance, and gives the move of the player who leaves the one table for the other.
-    fn check_balance(&self, from: u64, to: u64) -> Result<Move, Refusal>
+    pub(crate) fn check_balance(&self, from: u64, to: u64) -> Result<Move, Refusal>
         ensures checked { IsChecked (all_balance_checks self.now from to) result }
         ensures move_ { IfOk result (λ move_. balance_move self.now.seating from to ≡ Some move_) }
         ensures sits { IfOk result (λ move_. option_map (λ seated. seated.player)

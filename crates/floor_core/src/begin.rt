@@ -1,6 +1,6 @@
 //! A hand begins.
 
-ghost use Rattle.std.specs.Prelude.{◌≡◌, ◌≤◌, ◌<◌, ◌^◌, ◌&&◌, ◌++◌, ◌∷◌, [], true, not, length, is_some, if◌then◌else◌, IfOk, OnOk, OnErr};
+ghost use Rattle.std.specs.Prelude.{◌≡◌, ◌≤◌, ◌<◌, ◌^◌, ◌&&◌, ◌++◌, ◌∷◌, [], true, not, length, is_some, if◌then◌else◌, None, Some, IfOk, IfErr, OnOk, OnErr};
 ghost use Rattle.rulebook.specs.Checks.{IsChecked};
 ghost use Rattle.button_blinds.specs.Marks.{AreMarksOf};
 ghost use Rattle.seat_book.specs.Places.{IsTableOf, IsPlaceOf};
@@ -9,37 +9,24 @@ ghost use Rattle.seat_book.specs.Players.{players_in, player_at, with_stack};
 ghost use Rattle.floor_core.specs.Seats.{has_lawful_seat, dealt_of};
 ghost use Rattle.button_blinds.specs.SeatSets.{has_seat};
 ghost use Rattle.seat_book.specs.Counts.{count_at};
-ghost use Rattle.balance_rule.specs.Halting.{is_halted};
 ghost use Rattle.table_engine.specs.Acts.{IsAnswer};
 ghost use Rattle.floor_events.specs.declared.event.Event.TheVariants as events;
 ghost use Rattle.tournament_rules.specs.Books.{blind_now};
 ghost use Rattle.tournament_rules.specs.Players.{start_seat, dealt_in};
 ghost use Rattle.tournament_rules.specs.Dealing.{next_at, next_start};
-ghost use Rattle.tournament_rules.specs.Checks.{table_checks, due_checks, deck_checks, begin_checks, book_refusal};
+ghost use Rattle.tournament_rules.specs.Checks.{begin_checks, book_refusal};
 ghost use Rattle.tournament_rules.specs.Effects.{begun_book};
 
 use crate::BookFault;
 use crate::book::Book;
-use balance_rule::halted;
+use crate::checks::{Ready, check_deck};
 use button_blinds::{NextMarks, SeatSet, next_marks};
 use card_set::{CardRow, Deck, Game};
 use floor_text::{List, Refusal};
-use hand_rounds::may_begin;
 use level_plan::Blind;
 use seat_book::{Place, SeatBook, Seated, TableStatus};
 use std::alloc::{AllocError, Global};
 use table_engine::{Hand, HandStart, StartSeat};
-
-/// Makes a deck of a row in which no card comes twice.
-pub(crate) fn check_deck(row: &CardRow) -> Result<Deck, Refusal>
-    ensures checked { IsChecked (deck_checks row.now) result }
-    ensures deck { IfOk result (λ deck. deck ≡ row.now.cards) }
-{
-    match Deck::of_row(row) {
-        Some(deck) => Ok(deck),
-        None => Err(Refusal::DeckWrong),
-    }
-}
 
 /// Lists a player as he starts a hand, with his stack.
 fn start_seat(seated: &Seated) -> StartSeat
@@ -112,59 +99,9 @@ fn deal_in(seats: &mut SeatBook, table: u8, waiting: &SeatSet)
     }
 }
 
-/// A table that is ready for a hand or a race, with the deck for it.
-#[derive(Drop)]
-pub(crate) struct Ready {
-    /// The table's number.
-    pub(crate) table: u8,
-    /// The deck.
-    pub(crate) deck: Deck,
-}
-
 impl Book {
-    /// Tells whether a table is halted.
-    fn is_halted(&self, table: u8) -> bool
-        requires { IsTableOf self.now.seating.table_count table }
-        ensures { result ≡ is_halted self.now.seating table }
-    {
-        halted(&self.seats, table)
-    }
-
-    /// Checks that a hand may begin at a table, and gives the table's number.
-    fn check_table(&self, table: u64) -> Result<u8, Refusal>
-        ensures checked { IsChecked (table_checks self.now table) result }
-        ensures same { IfOk result (λ number. number ≡ table) }
-        ensures within { IfOk result (IsTableOf self.now.seating.table_count) }
-        ensures two { IfOk result (λ number. 2 ≤ count_at self.now.seating.players number) }
-    {
-        let Some(number) = self.open_table(table) else {
-            return Err(Refusal::NoTable);
-        };
-        if self.seats.status(number).playing {
-            return Err(Refusal::Playing);
-        }
-        if self.seats.count(number) == 1 {
-            return Err(Refusal::Lone);
-        }
-        if self.is_halted(number) {
-            return Err(Refusal::Halted);
-        }
-        Ok(number)
-    }
-
-    /// Checks that it is a table's turn: no race is pending there, and it has not begun in a round of hand-for-hand.
-    fn check_turn(&self, table: u8) -> Result<(), Refusal>
-        requires { IsTableOf self.now.seating.table_count table }
-        ensures { IsChecked (due_checks self.now table) result }
-    {
-        if self.seats.status(table).race.is_some() {
-            return Err(Refusal::RaceDue);
-        }
-        may_begin(&self.seats, table)
-    }
-
     /// Makes the checks of a hand's begin, and gives the table's number and the deck.
-    fn check_begin(&self, table: u64, row: &CardRow) -> Result<Ready, Refusal>
+    fn ready(&self, table: u64, row: &CardRow) -> Result<Ready, Refusal>
         ensures checked { IsChecked (begin_checks self.now table row.now) result }
         ensures same { IfOk result (λ ready. ready.table ≡ table) }
         ensures deck { IfOk result (λ ready. ready.deck ≡ row.now.cards) }
@@ -176,6 +113,17 @@ impl Book {
         self.check_turn(table)?;
         let deck = check_deck(row)?;
         Ok(Ready { table, deck })
+    }
+
+    /// Checks that a hand may begin at a table, with a row that is a deck, and changes nothing: it begins where memory
+    /// does not run out.
+    #[tactic(auto, unfolding(tournament_rules::specs::Checks::book_refusal))]
+    pub fn check_begin(&self, table: u64, row: &CardRow) -> Result<(), Refusal>
+        ensures ok { OnOk result (book_refusal self.now (events.Begin table row.now) ≡ None) }
+        ensures err { IfErr result (λ refusal. book_refusal self.now (events.Begin table row.now) ≡ Some refusal) }
+    {
+        self.ready(table, row)?;
+        Ok(())
     }
 
     /// Finds the marks of the next hand at a table, and who waits.
@@ -213,7 +161,6 @@ impl Book {
         requires next { next.now ≡ next_at self.now table }
         ensures { IfOk result (λ start. start ≡ next_start self.now table deck) }
     {
-        let blind = self.blind_now();
         let seats = dealt_seats(self.alloc, self.seats.table_slots(table), &next.waiting)?;
         Ok(HandStart {
             table,
@@ -221,9 +168,7 @@ impl Book {
             seats,
             seat_count: self.seats.seat_count(),
             marks: next.marks,
-            small: blind.small,
-            big: blind.big,
-            unit: blind.unit,
+            blind: self.blind_now(),
             game: self.game(),
             deck,
         })
@@ -242,7 +187,7 @@ impl Book {
         ensures within { OnOk result (table < length self.old.started) }
         ensures err { OnErr result (self.new ≡ self.old) }
     {
-        let Ready { table, deck } = self.check_begin(table, row)?;
+        let Ready { table, deck } = self.ready(table, row)?;
         let next = self.next_at(table);
         let start = self.next_start(table, &next, deck)?;
         let own = start.copy(self.alloc)?;

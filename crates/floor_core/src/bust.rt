@@ -2,6 +2,7 @@
 
 ghost use Rattle.std.specs.Prelude.{◌≡◌, ◌<◌, ◌++◌, ◌∷◌, [], map, length, false, IsSome};
 ghost use Rattle.std.specs.List.{list_any};
+ghost use Rattle.rulebook.specs.Limits.{most_entries};
 ghost use Rattle.seat_book.specs.Players.{place_of, lifted};
 ghost use Rattle.table_engine.specs.Plays.{IsCompletePlay, recorded_hand};
 ghost use Rattle.tournament_rules.specs.Players.{stayed};
@@ -10,16 +11,15 @@ ghost use Rattle.tournament_rules.specs.Valid.{is_bust_of};
 ghost use Rattle.floor_core.specs.Busts.{MayGoOut};
 
 use place_list::PlaceList;
-use rulebook::MOST_ENTRIES;
 use seat_book::SeatBook;
 use table_engine::{HandRecord, StartSeat};
 
 /// Takes a player who is broke from his seat: he is out, in a group and with the stack that he began his last hand
 /// with.
 fn bust(seats: &mut SeatBook, busts: &mut PlaceList, player: StartSeat, group: u64)
-    requires entry { player.player < MOST_ENTRIES }
+    requires entry { player.player < most_entries }
     requires sits { IsSome (place_of seats.old.players player.player) }
-    requires room { length busts.old < MOST_ENTRIES }
+    requires room { length busts.old < most_entries }
     requires once { list_any (is_bust_of player.player) busts.old ≡ false }
     ensures seats { seats.new ≡ record seats.old { players = lifted player.player seats.old.players } }
     ensures busts { busts.new ≡ busts.old ++ bust_of group player ∷ [] }
@@ -29,7 +29,12 @@ fn bust(seats: &mut SeatBook, busts: &mut PlaceList, player: StartSeat, group: u
 }
 
 /// Puts out the players whom a hand leaves without chips, in one group.
-pub(crate) fn bust_players(seats: &mut SeatBook, busts: &mut PlaceList, done: &HandRecord, group: u64)
+pub(crate) fn bust_players(
+    seats: &mut SeatBook,
+    busts: &mut PlaceList,
+    done: &HandRecord,
+    group: u64,
+)
     requires play { IsCompletePlay done.now }
     requires may { MayGoOut done.now.start.seats seats.old.players busts.old }
     ensures seats { seats.new ≡ record seats.old {

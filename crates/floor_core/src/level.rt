@@ -13,7 +13,6 @@ ghost use Rattle.tournament_rules.specs.Racing.{announced_table, announced};
 
 use crate::BookFault;
 use crate::book::Book;
-use crate::leaving::is_race_pending;
 use floor_text::Refusal;
 use seat_book::{SeatBook, TableStatus};
 
@@ -75,13 +74,11 @@ impl Book {
     }
 
     /// Makes the checks of the next level.
-    fn check_level(&self) -> Result<(), Refusal>
+    pub(crate) fn check_level(&self) -> Result<(), Refusal>
         ensures { IsChecked (level_checks self.now) result }
     {
         self.check_going()?;
-        if is_race_pending(&self.seats) {
-            return Err(Refusal::RaceDue);
-        }
+        self.check_no_race()?;
         if self.is_last_level() {
             return Err(Refusal::LastLevel);
         }

@@ -11,8 +11,8 @@ mod begin;
 mod book;
 mod breaking;
 mod bust;
+mod checks;
 mod enter;
-mod leaving;
 mod level;
 mod moving;
 mod order;
@@ -25,7 +25,6 @@ mod rounds;
 mod settle;
 mod slots;
 mod stop;
-mod table;
 mod tournament;
 
 pub use book::Book;

@@ -1,6 +1,7 @@
 //! Players who move to other places.
 
 ghost use Rattle.std.specs.Prelude.{◌≡◌, ◌<◌, ◌≤◌, None, Some, find, IfSome};
+ghost use Rattle.rulebook.specs.Limits.{most_entries};
 ghost use Rattle.seat_book.specs.Places.{IsTableOf, IsPlaceOf};
 ghost use Rattle.seat_book.specs.Players.{player_at, player_of, players_at, players_in};
 ghost use Rattle.seat_book.specs.Seatings.{IsSeating};
@@ -10,12 +11,11 @@ ghost use Rattle.tournament_rules.specs.Effects.{with_table, forgotten};
 ghost use Rattle.floor_core.specs.Moves.{AreFree};
 
 use floor_text::Name;
-use rulebook::MOST_ENTRIES;
 use seat_book::{Place, SeatBook, Seated, TableStatus};
 
 /// Moves a player who sits to another place, with his stack.
 pub(crate) fn reseat(seats: &mut SeatBook, player: Seated, place: Place)
-    requires entry { player.player < MOST_ENTRIES }
+    requires entry { player.player < most_entries }
     requires sits { player_of seats.old.players player.player ≡ Some player }
     requires within { IsPlaceOf seats.old.table_count seats.old.seat_count place }
     requires free { player_at seats.old.players place ≡ None }
@@ -49,7 +49,7 @@ fn find_called(seats: &SeatBook, table: u8, name: Name) -> Option<Seated>
     requires table { IsTableOf seats.now.table_count table }
     ensures player { result ≡ find (is_called name) (players_at seats.now.players table) }
     ensures sits { IfSome result (λ player. player_of seats.now.players player.player ≡ Some player) }
-    ensures entry { IfSome result (λ player. player.player < MOST_ENTRIES) }
+    ensures entry { IfSome result (λ player. player.player < most_entries) }
 {
     find_in_slots(seats.table_slots(table), name)
 }

@@ -1,6 +1,6 @@
 //! The events that the book takes by itself.
 
-ghost use Rattle.std.specs.Prelude.{◌≡◌, ◌<◌, ◌^◌, true, None, Some, IfOk, OnOk, OnErr};
+ghost use Rattle.std.specs.Prelude.{◌≡◌, ◌<◌, ◌^◌, true, None, Some, IfOk, IfErr, OnOk, OnErr};
 ghost use Rattle.rulebook.specs.Checks.{IsChecked};
 ghost use Rattle.table_engine.specs.Acts.{IsAnswer};
 ghost use Rattle.tournament_rules.specs.Checks.{book_refusal};
@@ -11,9 +11,45 @@ ghost use Rattle.tournament_rules.specs.Kinds.{is_order};
 use crate::BookFault;
 use crate::book::Book;
 use floor_events::{Answer, Event};
+use floor_text::Refusal;
 use std::alloc::AllocError;
 
 impl Book {
+    /// Checks an order, and changes nothing: an order that meets no check is taken where memory does not run out.
+    #[tactic(auto, unfolding(tournament_rules::specs::Checks::book_refusal))]
+    pub fn check_order(&self, event: &Event) -> Result<(), Refusal>
+        requires { is_order event.now ≡ true }
+        ensures ok { OnOk result (book_refusal self.now event.now ≡ None) }
+        ensures err { IfErr result (λ refusal. book_refusal self.now event.now ≡ Some refusal) }
+    {
+        match event {
+            Event::Enter { name, table, seat } => {
+                self.check_enter(*name, *table, *seat)?;
+                self.check_room()
+            }
+            Event::Balance { from, to } => {
+                self.check_balance(*from, *to)?;
+                Ok(())
+            }
+            Event::Break {
+                table,
+                seats,
+                names,
+            } => {
+                self.check_break(*table, seats.items(), names.items())?;
+                Ok(())
+            }
+            Event::Level => self.check_level(),
+            Event::Race { table, row } => {
+                self.check_race(*table, row)?;
+                Ok(())
+            }
+            Event::Hands(on) => self.check_hands(*on),
+            Event::Round => self.check_end_round(),
+            _ => self.check_going(),
+        }
+    }
+
     /// Carries an order out. An error leaves the book as it was.
     pub(crate) fn carry_out(&mut self, event: &Event) -> Result<(), BookFault>
         requires few { self.old.accepted < 2 ^ 60 }

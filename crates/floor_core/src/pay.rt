@@ -1,6 +1,7 @@
 //! Stacks go back to those to whom they belong.
 
 ghost use Rattle.std.specs.Prelude.{◌≡◌, ◌<◌, length};
+ghost use Rattle.rulebook.specs.Limits.{most_entries};
 ghost use Rattle.seat_book.specs.Places.{IsTableOf};
 ghost use Rattle.seat_book.specs.Seatings.{IsSeating};
 ghost use Rattle.table_engine.specs.Results.{with_stacks};
@@ -8,14 +9,13 @@ ghost use Rattle.tournament_rules.specs.Players.{pay_one, put_back};
 ghost use Rattle.tournament_rules.specs.Effects.{with_table, at_rest};
 ghost use Rattle.floor_core.specs.Pay.{ArePayees};
 
-use rulebook::MOST_ENTRIES;
 use seat_book::{SeatBook, TableStatus};
 use table_engine::StartSeat;
 
 /// Gives a player his stack back, by his number.
 #[tactic(auto, using(tournament_rules::proofs::ByNumber::paid_in_place, tournament_rules::proofs::ByNumber::paid_nobody, crate::proofs::Found::sits_found))]
 fn pay(seats: &mut SeatBook, payee: StartSeat)
-    requires entry { payee.player < MOST_ENTRIES }
+    requires entry { payee.player < most_entries }
     requires lawful { IsSeating seats.old }
     ensures paid { seats.new ≡ record seats.old { players = pay_one seats.old.players payee } }
     ensures lawful { IsSeating seats.new }

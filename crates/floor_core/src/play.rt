@@ -145,18 +145,12 @@ impl Play {
         let _ = self.book.seats();
         match event {
             Event::Plan(_) | Event::Go => Err(BookFault::No(Refusal::PlanLate)),
-            Event::Enter { .. }
-            | Event::Balance { .. }
-            | Event::Break { .. }
-            | Event::Level
-            | Event::Race { .. }
-            | Event::Hands(_)
-            | Event::Round => self.order(event),
             Event::Begin { table, row } => self.begin(*table, row),
             Event::Act { table, name, act } => self.act(*table, *name, *act),
             Event::Time { table } => self.time(*table),
             Event::Settle { table } => self.settle(*table),
             Event::Stop => self.stop(),
+            _ => self.order(event),
         }
     }
 }

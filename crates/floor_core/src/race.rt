@@ -13,8 +13,8 @@ ghost use Rattle.tournament_rules.specs.Effects.{with_table, raced};
 ghost use Rattle.tournament_rules.specs.Racing.{stack_in, stacks_at, unit_after, raced_off, race_at, restacked};
 
 use crate::BookFault;
-use crate::begin::{Ready, check_deck};
 use crate::book::Book;
+use crate::checks::{Ready, check_deck};
 use card_set::{CardRow, Deck};
 use chip_race::{RaceResult, race};
 use floor_text::Refusal;
@@ -93,17 +93,6 @@ fn end_race(seats: &mut SeatBook, table: u8)
 }
 
 impl Book {
-    /// Checks that no hand is played at a table.
-    fn check_rests(&self, table: u8) -> Result<(), Refusal>
-        requires { IsTableOf self.now.seating.table_count table }
-        ensures { IsChecked ((refusals.Playing, is_playing self.now table) ∷ []) result }
-    {
-        if self.seats.status(table).playing {
-            return Err(Refusal::Playing);
-        }
-        Ok(())
-    }
-
     /// Checks that a race is pending at a table, and that the tournament is not over.
     fn check_due(&self, table: u8) -> Result<(), Refusal>
         requires { IsTableOf self.now.seating.table_count table }
@@ -116,7 +105,7 @@ impl Book {
     }
 
     /// Makes the checks of a chip race, and gives the table's number and the deck.
-    fn check_race(&self, table: u64, row: &CardRow) -> Result<Ready, Refusal>
+    pub(crate) fn check_race(&self, table: u64, row: &CardRow) -> Result<Ready, Refusal>
         ensures checked { IsChecked (race_checks self.now table row.now) result }
         ensures same { IfOk result (λ ready. ready.table ≡ table) }
         ensures deck { IfOk result (λ ready. ready.deck ≡ row.now.cards) }
@@ -124,7 +113,7 @@ impl Book {
     {
         self.check_going()?;
         let table = self.check_open(table)?;
-        self.check_rests(table)?;
+        self.check_not_playing(table)?;
         let deck = check_deck(row)?;
         self.check_due(table)?;
         Ok(Ready { table, deck })

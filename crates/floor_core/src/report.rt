@@ -74,7 +74,10 @@ fn reported(started: &[Option<HandStart>], player: &Seated) -> ReportSeat
     requires { player.now.place.table < length started.now }
     ensures { result ≡ reported started.now player.now }
 {
-    let is_in_hand = is_one_of(starters_of(&started[usize::from(player.place.table)]), player);
+    let is_in_hand = is_one_of(
+        starters_of(&started[usize::from(player.place.table)]),
+        player,
+    );
     ReportSeat {
         place: player.place,
         name: player.name,

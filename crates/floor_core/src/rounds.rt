@@ -10,7 +10,7 @@ ghost use Rattle.tournament_rules.specs.Effects.{with_hands, round_ended};
 use crate::BookFault;
 use crate::book::Book;
 use floor_text::Refusal;
-use hand_rounds::{close_round, may_close, may_switch, switch};
+use hand_rounds::{end_round, may_close, may_switch, set_hands};
 
 /// Gives the group of those who go out next, where hand-for-hand is on or off: the same, or a later one.
 pub(crate) fn group_after(hands: bool, group: u64) -> u64
@@ -22,7 +22,7 @@ pub(crate) fn group_after(hands: bool, group: u64) -> u64
 
 impl Book {
     /// Makes the checks of a switch of hand-for-hand.
-    fn check_hands(&self, on: bool) -> Result<(), Refusal>
+    pub(crate) fn check_hands(&self, on: bool) -> Result<(), Refusal>
         ensures { IsChecked (hands_checks self.now on) result }
     {
         self.check_going()?;
@@ -39,14 +39,14 @@ impl Book {
         ensures err { OnErr result (self.new ≡ self.old) }
     {
         self.check_hands(on)?;
-        switch(&mut self.seats, on)?;
+        set_hands(&mut self.seats, on);
         self.group = group_after(on, self.group);
         self.accepted += 1;
         Ok(())
     }
 
     /// Makes the checks of the end of a round.
-    fn check_end_round(&self) -> Result<(), Refusal>
+    pub(crate) fn check_end_round(&self) -> Result<(), Refusal>
         ensures { IsChecked (end_round_checks self.now) result }
     {
         self.check_going()?;
@@ -63,7 +63,7 @@ impl Book {
         ensures err { OnErr result (self.new ≡ self.old) }
     {
         self.check_end_round()?;
-        close_round(&mut self.seats)?;
+        end_round(&mut self.seats);
         self.group += 1;
         self.accepted += 1;
         Ok(())

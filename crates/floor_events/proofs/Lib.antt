@@ -1,7 +1,1 @@
 pub mod EventLaws
-pub mod FieldLaws
-pub mod Growth
-pub mod PieceLaws
-pub mod RowLaws
-pub mod Spaces
-pub mod WordSplits

@@ -1,98 +1,86 @@
--- The grammar: a row for each event, which is its first word and what reads the words behind it. This project's own.
-use Rattle.std.specs.Prelude.{ℕ, nat_le, List, [], ◌∷◌, ◌++◌, length, codes, Option, None, option_map, option_and_then, if◌then◌else◌}
-use Rattle.std.specs.Bool.{then_some}
-use Rattle.std.specs.Str.{bytes_eq}
-use Rattle.floor_text.specs.declared.limits.TheConstants.{LONGEST_LINE}
-use Rattle.floor_text.specs.Numbers.{number_of}
-use Rattle.card_set.specs.Cards.{row_of}
+-- The grammar: an event has a row, which says how its line is read, and its line, which says what of the event stands
+-- in the row's fields. The spelling of an event and what is lawful of it follow from the two. This project's own.
+use Rattle.std.specs.Prelude.{ℕ, nat_le, List, [], ◌∷◌, ◌++◌, length, codes, Option, None, option_map, if◌then◌else◌}
+use Rattle.floor_text.specs.Limits.{longest_line}
+use Rattle.level_plan.specs.Limits.{most_shares}
 use Rattle.level_plan.specs.declared.line.PlanLine.TheVariants as lines
+use Rattle.line_words.specs.Words.{words_of_line}
+use Rattle.line_words.specs.Rows.{a_number, a_name, a_row, a_game, a_switch, some_places, some_names, no_field, last, ◌▸◌, an_act, few, Row, row, read_words, Line, line}
 use Rattle.floor_events.specs.declared.event.Event.{Event}
 use Rattle.floor_events.specs.declared.event.Event.TheVariants as events
 use Rattle.floor_events.specs.declared.event.Item.{Item}
 use Rattle.floor_events.specs.declared.event.Item.TheVariants as found
-use Rattle.floor_events.specs.Words.{words_of_line, no_word}
-use Rattle.floor_events.specs.Fields.{game_of, switch_of, name_of, next_by, last_by, act_of, shares_of, place_of, members_of}
-
--- what reads the words behind the first
-abbrev pub Reader : Type 0
-Reader = List (List ℕ) → Option Event
-
--- no field, and no word is left
-unfoldable pub fields0 : Event → Reader
-fields0 event words = then_some (no_word words) event
-
--- one field, of all words that are left
-unfoldable pub fields1 : {A : Type 0} → (List (List ℕ) → Option A) → (A → Event) → Reader
-fields1 last make words = option_map make (last words)
-
--- a field of one word, and one of all words that are left
-unfoldable pub fields2 : {A B : Type 0} → (List ℕ → Option A) → (List (List ℕ) → Option B) → (A → B → Event) → Reader
-fields2 first last make words = option_and_then (λ read. fields1 last (make read.0) read.1) (next_by first words)
-
--- two fields of one word each, and one of all words that are left
-unfoldable pub fields3 : {A B C : Type 0} → (List ℕ → Option A) → (List ℕ → Option B) → (List (List ℕ) → Option C)
-    → (A → B → C → Event) → Reader
-fields3 first second last make words =
-    option_and_then (λ read. fields2 second last (make read.0) read.1) (next_by first words)
 
 -- the rows of the events that hold a list, for which memory is wanted
-abbrev pub list_rows : List (List ℕ × Reader)
+abbrev pub list_rows : List (Row Event)
 list_rows =
-    (codes "shares", fields1 shares_of (λ shares. events.Plan (lines.Shares shares))) ∷
-    (codes "break", fields3 number_of (members_of place_of) (last_by (members_of name_of)) events.Break) ∷ []
+    row (codes "shares") (few most_shares a_number) (λ shares. events.Plan (lines.Shares shares)) ∷
+    row (codes "break") (a_number ▸ some_places ▸ last some_names) events.Break ∷ []
 
 -- the rows of the other lines of a plan
-abbrev pub plan_rows : List (List ℕ × Reader)
+abbrev pub plan_rows : List (Row Event)
 plan_rows =
-    (codes "game", fields1 (last_by game_of) (λ game. events.Plan (lines.Game game))) ∷
-    (codes "tables", fields1 (last_by number_of) (λ n. events.Plan (lines.Tables n))) ∷
-    (codes "seats", fields1 (last_by number_of) (λ n. events.Plan (lines.Seats n))) ∷
-    (codes "stack", fields1 (last_by number_of) (λ n. events.Plan (lines.Stack n))) ∷
-    (codes "buyin", fields1 (last_by number_of) (λ n. events.Plan (lines.Buyin n))) ∷
-    (codes "late", fields1 (last_by number_of) (λ n. events.Plan (lines.Late n))) ∷ (
-      codes "blinds",
-      fields3 number_of number_of (last_by number_of)
-          (λ small big unit. events.Plan (lines.Blinds small big unit)),
-    ) ∷
-    (codes "go", fields0 events.Go) ∷ []
+    row (codes "game") (last a_game) (λ game. events.Plan (lines.Game game)) ∷
+    row (codes "tables") (last a_number) (λ n. events.Plan (lines.Tables n)) ∷
+    row (codes "seats") (last a_number) (λ n. events.Plan (lines.Seats n)) ∷
+    row (codes "stack") (last a_number) (λ n. events.Plan (lines.Stack n)) ∷
+    row (codes "buyin") (last a_number) (λ n. events.Plan (lines.Buyin n)) ∷
+    row (codes "late") (last a_number) (λ n. events.Plan (lines.Late n)) ∷
+    row (codes "blinds") (a_number ▸ a_number ▸ last a_number)
+    (λ small big unit. events.Plan (lines.Blinds (record { small = small; big = big; unit = unit }))) ∷
+    row (codes "go") no_field events.Go ∷ []
 
 -- the rows of all other events
-abbrev pub play_rows : List (List ℕ × Reader)
+abbrev pub play_rows : List (Row Event)
 play_rows =
-    (codes "act", fields3 number_of name_of act_of events.Act) ∷
-    (codes "begin", fields2 number_of (last_by row_of) events.Begin) ∷
-    (codes "settle", fields1 (last_by number_of) events.Settle) ∷
-    (codes "enter", fields3 name_of number_of (last_by number_of) events.Enter) ∷
-    (codes "time", fields1 (last_by number_of) events.Time) ∷
-    (codes "balance", fields2 number_of (last_by number_of) events.Balance) ∷
-    (codes "level", fields0 events.Level) ∷
-    (codes "race", fields2 number_of (last_by row_of) events.Race) ∷
-    (codes "hands", fields1 (last_by switch_of) events.Hands) ∷
-    (codes "round", fields0 events.Round) ∷
-    (codes "stop", fields0 events.Stop) ∷ []
+    row (codes "act") (a_number ▸ a_name ▸ an_act) events.Act ∷
+    row (codes "begin") (a_number ▸ last a_row) events.Begin ∷
+    row (codes "settle") (last a_number) events.Settle ∷
+    row (codes "enter") (a_name ▸ a_number ▸ last a_number) events.Enter ∷
+    row (codes "time") (last a_number) events.Time ∷
+    row (codes "balance") (a_number ▸ last a_number) events.Balance ∷
+    row (codes "level") no_field events.Level ∷
+    row (codes "race") (a_number ▸ last a_row) events.Race ∷
+    row (codes "hands") (last a_switch) events.Hands ∷
+    row (codes "round") no_field events.Round ∷
+    row (codes "stop") no_field events.Stop ∷ []
 
 -- the rows of all events without a list
-abbrev pub plain_rows : List (List ℕ × Reader)
+abbrev pub plain_rows : List (Row Event)
 plain_rows = play_rows ++ plan_rows
 
 -- the grammar: the rows of all events
-abbrev pub grammar : List (List ℕ × Reader)
+abbrev pub grammar : List (Row Event)
 grammar = list_rows ++ plain_rows
 
--- the event of a first word and the words behind it, by the first row of that word
-abbrev pub event_by : List (List ℕ × Reader) → List ℕ → List (List ℕ) → Option Event
-event_by [] word fields = None
-event_by (row ∷ rows) word fields = if bytes_eq word row.0 then row.1 fields else event_by rows word fields
-
--- the event of a line's words
-abbrev pub event_of_words : List (List ℕ) → Option Event
-event_of_words [] = None
-event_of_words (word ∷ fields) = event_by grammar word fields
+-- the line of each event: its first word, and what stands in the fields of that word's row
+abbrev pub line_of : (event : Event) → Line grammar event
+line_of (events.Plan (lines.Game game)) = line grammar (codes "game") game
+line_of (events.Plan (lines.Tables n)) = line grammar (codes "tables") n
+line_of (events.Plan (lines.Seats n)) = line grammar (codes "seats") n
+line_of (events.Plan (lines.Stack n)) = line grammar (codes "stack") n
+line_of (events.Plan (lines.Buyin n)) = line grammar (codes "buyin") n
+line_of (events.Plan (lines.Late n)) = line grammar (codes "late") n
+line_of (events.Plan (lines.Blinds blind)) = line grammar (codes "blinds") (blind.small, (blind.big, blind.unit))
+line_of (events.Plan (lines.Shares shares)) = line grammar (codes "shares") shares
+line_of events.Go = line grammar (codes "go") tt
+line_of (events.Enter name table seat) = line grammar (codes "enter") (name, (table, seat))
+line_of (events.Begin table cards) = line grammar (codes "begin") (table, cards)
+line_of (events.Act table name act) = line grammar (codes "act") (table, (name, act))
+line_of (events.Time table) = line grammar (codes "time") table
+line_of (events.Settle table) = line grammar (codes "settle") table
+line_of (events.Balance from to) = line grammar (codes "balance") (from, to)
+line_of (events.Break table seats names) = line grammar (codes "break") (table, (seats, names))
+line_of events.Level = line grammar (codes "level") tt
+line_of (events.Race table cards) = line grammar (codes "race") (table, cards)
+line_of (events.Hands on) = line grammar (codes "hands") on
+line_of events.Round = line grammar (codes "round") tt
+line_of events.Stop = line grammar (codes "stop") tt
 
 -- the item of a line's words
 unfoldable pub item_of_words : List (List ℕ) → Option Item
-item_of_words words = option_map found.Event (event_of_words words)
+item_of_words words = option_map found.Event (read_words grammar words)
 
 -- the item of a line of at most 400 bytes, or None where the line is not in the grammar
 unfoldable pub item_of_bytes : List ℕ → Option Item
-item_of_bytes line = if nat_le (length line) LONGEST_LINE then item_of_words (words_of_line line) else None
+item_of_bytes line = if nat_le (length line) longest_line then item_of_words (words_of_line line) else None

@@ -1,25 +1,12 @@
 -- The one spelling of each event, answer and report. This project's own.
-use Rattle.std.specs.Prelude.{ℕ, Bool, true, false, ◌≤◌, IsTrue, List, [], ◌∷◌, ◌++◌, length, map, codes, Option, Some, None}
-use Rattle.std.specs.List.{flat_map, join_with_byte, AllByRecursion}
+use Rattle.std.specs.Prelude.{ℕ, ◌≤◌, List, [], ◌∷◌, ◌++◌, length, codes, Option, Some, None}
+use Rattle.std.specs.List.{flat_map}
 use Rattle.std.specs.Fmt.{decimal}
-use Rattle.floor_text.specs.declared.limits.TheConstants.{LONGEST_LINE}
-use Rattle.floor_text.specs.Names.{is_name}
-use Rattle.floor_text.specs.Numbers.{IsLineNumber}
+use Rattle.floor_text.specs.Limits.{longest_line}
 use Rattle.floor_text.specs.Refusals.{refusal_number, refusal_name}
-use Rattle.card_set.specs.declared.game.Game.{Game}
-use Rattle.card_set.specs.declared.game.Game.TheVariants.{Holdem, Omaha, Hilo}
-use Rattle.card_set.specs.Cards.{row_text}
-use Rattle.level_plan.specs.declared.bounds.TheConstants.{MOST_TABLES, MOST_SEATS, MOST_SHARES}
 use Rattle.level_plan.specs.declared.line.PlanItem.{PlanItem}
 use Rattle.level_plan.specs.declared.line.PlanItem.TheVariants as items
-use Rattle.level_plan.specs.declared.line.PlanLine.{PlanLine}
-use Rattle.level_plan.specs.declared.line.PlanLine.TheVariants as lines
-use Rattle.betting_round.specs.declared.act.Act.{Act}
-use Rattle.betting_round.specs.declared.act.Act.TheVariants as acts
-use Rattle.seat_book.specs.declared.place.Place.{Place}
-use Rattle.seat_book.specs.Places.{IsPlaceOf}
 use Rattle.floor_events.specs.declared.event.Event.{Event}
-use Rattle.floor_events.specs.declared.event.Event.TheVariants as events
 use Rattle.floor_events.specs.declared.event.Item.{Item}
 use Rattle.floor_events.specs.declared.event.Item.TheVariants as found
 use Rattle.floor_events.specs.declared.answer.Answer.{Answer}
@@ -27,18 +14,9 @@ use Rattle.floor_events.specs.declared.answer.Answer.TheVariants as answers
 use Rattle.floor_events.specs.declared.report.Report.{Report}
 use Rattle.floor_events.specs.declared.report.ReportSeat.{ReportSeat}
 use Rattle.floor_events.specs.declared.report.ReportOut.{ReportOut}
-use Rattle.floor_events.specs.Words.{line_of_words}
-
--- the word of a game
-abbrev pub game_word : Game → List ℕ
-game_word Holdem = codes "holdem"
-game_word Omaha = codes "omaha"
-game_word Hilo = codes "hilo"
-
--- the word for on or off
-abbrev pub switch_word : Bool → List ℕ
-switch_word true = codes "on"
-switch_word false = codes "off"
+use Rattle.line_words.specs.Words.{line_of_words}
+use Rattle.line_words.specs.Rows.{text_of, IsLawfulLine}
+use Rattle.floor_events.specs.Grammar.{line_of}
 
 -- the word of an item, as an answer names it
 abbrev pub item_word : PlanItem → List ℕ
@@ -54,116 +32,21 @@ item_word items.Shares = codes "shares"
 item_word items.FloorWord = codes "floor_word"
 item_word items.Words = codes "words"
 
--- the words of a plan line
-abbrev pub plan_words : PlanLine → List (List ℕ)
-plan_words (lines.Game game) = codes "game" ∷ game_word game ∷ []
-plan_words (lines.Tables n) = codes "tables" ∷ decimal n ∷ []
-plan_words (lines.Seats n) = codes "seats" ∷ decimal n ∷ []
-plan_words (lines.Stack n) = codes "stack" ∷ decimal n ∷ []
-plan_words (lines.Buyin n) = codes "buyin" ∷ decimal n ∷ []
-plan_words (lines.Late n) = codes "late" ∷ decimal n ∷ []
-plan_words (lines.Blinds small big unit) = codes "blinds" ∷ decimal small ∷ decimal big ∷ decimal unit ∷ []
-plan_words (lines.Shares shares) = codes "shares" ∷ map decimal shares
-
--- the words of an act
-abbrev pub act_words : Act → List (List ℕ)
-act_words acts.Fold = codes "fold" ∷ []
-act_words acts.Check = codes "check" ∷ []
-act_words acts.Call = codes "call" ∷ []
-act_words acts.AllIn = codes "allin" ∷ []
-act_words (acts.Bet n) = codes "bet" ∷ decimal n ∷ []
-act_words (acts.Raise n) = codes "raise" ∷ decimal n ∷ []
-
--- the text of a place: the number of the table and that of the seat, with a point between them
-abbrev pub place_text : Place → List ℕ
-place_text place = join_with_byte 46 (decimal place.table ∷ decimal place.seat ∷ [])
-
--- the text of a list: its members with a comma between each two
-abbrev pub list_text : {A : Type 0} → (A → List ℕ) → List A → List ℕ
-list_text write items = join_with_byte 44 (map write items)
-
--- the words of an event
-abbrev pub event_words : Event → List (List ℕ)
-event_words (events.Plan line) = plan_words line
-event_words events.Go = codes "go" ∷ []
-event_words (events.Enter name table seat) = codes "enter" ∷ name ∷ decimal table ∷ decimal seat ∷ []
-event_words (events.Begin table row) = codes "begin" ∷ decimal table ∷ row_text row.cards ∷ []
-event_words (events.Act table name act) = codes "act" ∷ decimal table ∷ name ∷ act_words act
-event_words (events.Time table) = codes "time" ∷ decimal table ∷ []
-event_words (events.Settle table) = codes "settle" ∷ decimal table ∷ []
-event_words (events.Balance from to) = codes "balance" ∷ decimal from ∷ decimal to ∷ []
-event_words (events.Break table seats names) =
-    codes "break" ∷ decimal table ∷ list_text place_text seats ∷ list_text (λ name. name) names ∷ []
-event_words events.Level = codes "level" ∷ []
-event_words (events.Race table row) = codes "race" ∷ decimal table ∷ row_text row.cards ∷ []
-event_words (events.Hands on) = codes "hands" ∷ switch_word on ∷ []
-event_words events.Round = codes "round" ∷ []
-event_words events.Stop = codes "stop" ∷ []
-
--- an event's text: its words with one space between each two
-abbrev pub event_text : Event → List ℕ
-event_text event = join_with_byte 32 (event_words event)
+-- an event's text: the words of its line with one space between each two
+unfoldable pub event_text : Event → List ℕ
+event_text event = text_of (line_of event)
 
 -- an item's text, without a line feed
 abbrev pub item_text : Item → List ℕ
 item_text (found.Event event) = event_text event
 
--- at least one item stands in a line and at most so many, and each fits
-abbrev pub AreFew : {A : Type 0} → ℕ → (A → Type 0) → List A → Type 0
-AreFew most Fits items = (1 ≤ length items) × (length items ≤ most) × AllByRecursion Fits items
-
--- 1 to 64 numbers stand in a line of shares
-abbrev pub AreLineShares : List ℕ → Type 0
-AreLineShares shares = AreFew MOST_SHARES IsLineNumber shares
-
--- 1 to 10 places stand in a list, each with the number of one of 64 tables and of one of 10 seats
-abbrev pub AreLinePlaces : List Place → Type 0
-AreLinePlaces places = AreFew MOST_SEATS (IsPlaceOf MOST_TABLES MOST_SEATS) places
-
--- 1 to 10 names stand in a list
-abbrev pub AreLineNames : List (List ℕ) → Type 0
-AreLineNames names = AreFew MOST_SEATS (λ name. IsTrue (is_name name)) names
-
--- the numbers of a plan line are those of a line
-abbrev pub HasLineNumbers : PlanLine → Type 0
-HasLineNumbers (lines.Game game) = Unit {0}
-HasLineNumbers (lines.Tables n) = IsLineNumber n
-HasLineNumbers (lines.Seats n) = IsLineNumber n
-HasLineNumbers (lines.Stack n) = IsLineNumber n
-HasLineNumbers (lines.Buyin n) = IsLineNumber n
-HasLineNumbers (lines.Late n) = IsLineNumber n
-HasLineNumbers (lines.Blinds small big unit) = IsLineNumber small × IsLineNumber big × IsLineNumber unit
-HasLineNumbers (lines.Shares shares) = AreLineShares shares
-
--- the amount of an act is a number of a line
-abbrev pub HasLineAmount : Act → Type 0
-HasLineAmount acts.Fold = Unit {0}
-HasLineAmount acts.Check = Unit {0}
-HasLineAmount acts.Call = Unit {0}
-HasLineAmount acts.AllIn = Unit {0}
-HasLineAmount (acts.Bet n) = IsLineNumber n
-HasLineAmount (acts.Raise n) = IsLineNumber n
-
 -- the parts of an event are such as a line may hold
-abbrev pub HasLineParts : Event → Type 0
-HasLineParts (events.Plan line) = HasLineNumbers line
-HasLineParts events.Go = Unit {0}
-HasLineParts (events.Enter name table seat) = IsTrue (is_name name) × IsLineNumber table × IsLineNumber seat
-HasLineParts (events.Begin table row) = IsLineNumber table
-HasLineParts (events.Act table name act) = IsTrue (is_name name) × IsLineNumber table × HasLineAmount act
-HasLineParts (events.Time table) = IsLineNumber table
-HasLineParts (events.Settle table) = IsLineNumber table
-HasLineParts (events.Balance from to) = IsLineNumber from × IsLineNumber to
-HasLineParts (events.Break table seats names) = IsLineNumber table × AreLinePlaces seats × AreLineNames names
-HasLineParts events.Level = Unit {0}
-HasLineParts (events.Race table row) = IsLineNumber table
-HasLineParts (events.Hands on) = Unit {0}
-HasLineParts events.Round = Unit {0}
-HasLineParts events.Stop = Unit {0}
+unfoldable pub HasLineParts : Event → Type 0
+HasLineParts event = IsLawfulLine (line_of event)
 
 -- An event is writable where its parts are such as a line may hold and its text has at most 400 bytes.
 abbrev pub IsWritableEvent : Event → Type 0
-IsWritableEvent event = HasLineParts event × (length (event_text event) ≤ LONGEST_LINE)
+IsWritableEvent event = HasLineParts event × (length (event_text event) ≤ longest_line)
 
 -- An item is writable where its event is.
 abbrev pub IsWritable : Item → Type 0

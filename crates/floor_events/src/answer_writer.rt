@@ -2,11 +2,11 @@
 
 ghost use Rattle.std.specs.Prelude.{◌≡◌, ◌++◌, OnOk, OnErr};
 ghost use Rattle.floor_events.specs.Spelling.{item_word, answer_text};
-ghost use Rattle.floor_events.specs.Words.{Extends};
+ghost use Rattle.line_words.specs.Words.{Extends};
 
 use crate::answer::Answer;
-use crate::line_writer::{Word, push_line};
 use level_plan::PlanItem;
+use line_words::{Word, push_line};
 use std::alloc::AllocError;
 
 fn item_word(item: PlanItem) -> &'static [u8]

@@ -4,14 +4,15 @@ ghost use Rattle.std.specs.Prelude.{◌≡◌, Some, option_map, IfOk, OnErr, If
 ghost use Rattle.std.specs.Str.{bytes_eq};
 ghost use Rattle.floor_events.specs.declared.event.Item.{Item};
 ghost use Rattle.floor_events.specs.declared.event.Item.TheVariants as items;
-ghost use Rattle.floor_events.specs.Grammar.{plan_rows, plain_rows, event_by, item_of_words, item_of_bytes};
+ghost use Rattle.line_words.specs.Rows.{read_by};
+ghost use Rattle.floor_events.specs.Grammar.{plan_rows, plain_rows, item_of_words, item_of_bytes};
 ghost use Rattle.floor_events.specs.Spelling.{IsWritable, item_text};
 
 use crate::event::{Event, Item};
-use crate::line_words::Words;
 use crate::list_reader::{read_break, read_shares};
 use floor_text::LONGEST_LINE;
-use level_plan::PlanLine;
+use level_plan::{Blind, PlanLine};
+use line_words::LineWords;
 use std::alloc::{AllocError, Global};
 
 fn is(word: &[u8], text: &[u8]) -> bool
@@ -21,9 +22,9 @@ fn is(word: &[u8], text: &[u8]) -> bool
 }
 
 /// Reads a line of a plan that has no list by its first word.
-#[tactic(auto, unfolding(crate::specs::Grammar::fields0, crate::specs::Grammar::fields1, crate::specs::Grammar::fields2, crate::specs::Grammar::fields3))]
-fn read_plan_fields(word: &[u8], line: &mut Words<'_>) -> Option<Event>
-    ensures { result ≡ event_by plan_rows word.now line.old }
+#[tactic(auto, unfolding(line_words::specs::Rows::read_fields))]
+fn read_plan_fields(word: &[u8], line: &mut LineWords<'_>) -> Option<Event>
+    ensures { result ≡ read_by plan_rows word.now line.old }
 {
     match word {
         _ if is(word, b"game") => Some(Event::Plan(PlanLine::Game(line.last_field()?))),
@@ -32,20 +33,20 @@ fn read_plan_fields(word: &[u8], line: &mut Words<'_>) -> Option<Event>
         _ if is(word, b"stack") => Some(Event::Plan(PlanLine::Stack(line.last_field()?))),
         _ if is(word, b"buyin") => Some(Event::Plan(PlanLine::Buyin(line.last_field()?))),
         _ if is(word, b"late") => Some(Event::Plan(PlanLine::Late(line.last_field()?))),
-        _ if is(word, b"blinds") => Some(Event::Plan(PlanLine::Blinds {
+        _ if is(word, b"blinds") => Some(Event::Plan(PlanLine::Blinds(Blind {
             small: line.field()?,
             big: line.field()?,
             unit: line.last_field()?,
-        })),
+        }))),
         _ if is(word, b"go") => line.is_done().then_some(Event::Go),
         _ => None,
     }
 }
 
 /// Reads an event without a list by its first word, the most frequent words first.
-#[tactic(auto, unfolding(crate::specs::Grammar::fields0, crate::specs::Grammar::fields1, crate::specs::Grammar::fields2, crate::specs::Grammar::fields3))]
-fn read_fields(word: &[u8], line: &mut Words<'_>) -> Option<Item>
-    ensures { result ≡ option_map items.Event (event_by plain_rows word.now line.old) }
+#[tactic(auto, unfolding(line_words::specs::Rows::read_fields))]
+fn read_fields(word: &[u8], line: &mut LineWords<'_>) -> Option<Item>
+    ensures { result ≡ option_map items.Event (read_by plain_rows word.now line.old) }
 {
     match word {
         _ if is(word, b"act") => Some(Item::Event(Event::Act {
@@ -85,7 +86,7 @@ fn read_fields(word: &[u8], line: &mut Words<'_>) -> Option<Item>
 }
 
 #[tactic(auto, unfolding(crate::specs::Grammar::item_of_words))]
-fn read_words(alloc: Global, line: &mut Words<'_>) -> Result<Option<Item>, AllocError>
+fn read_words(alloc: Global, line: &mut LineWords<'_>) -> Result<Option<Item>, AllocError>
     ensures exact { IfOk result (λ found. found ≡ item_of_words line.old) }
     ensures err { OnErr result (IsSome (item_of_words line.old)) }
 {
@@ -109,7 +110,7 @@ fn read_line(alloc: Global, line: &[u8]) -> Result<Option<Item>, AllocError>
     if line.len() > LONGEST_LINE {
         return Ok(None);
     }
-    read_words(alloc, &mut Words::of_line(line))
+    read_words(alloc, &mut LineWords::of_line(line))
 }
 
 /// Reads a line, without its line feed. `None` exactly where it is not in the grammar; memory is wanted only

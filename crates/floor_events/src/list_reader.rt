@@ -1,30 +1,25 @@
 //! Events that hold lists are read: first everything onto the stack, so that memory is wanted only where the line is
 //! in the grammar.
 
-ghost use Rattle.std.specs.Prelude.{◌≡◌, IfOk, OnErr, IsSome, option_map};
-ghost use Rattle.floor_text.specs.Numbers.{number_of};
-ghost use Rattle.level_plan.specs.declared.line.PlanLine.TheVariants as lines;
+ghost use Rattle.std.specs.Prelude.{◌≡◌, codes, IfOk, OnErr, IsSome, option_map};
+ghost use Rattle.line_words.specs.Rows.{read_by};
 ghost use Rattle.floor_events.specs.declared.event.Event.TheVariants as events;
 ghost use Rattle.floor_events.specs.declared.event.Item.TheVariants as items;
-ghost use Rattle.floor_events.specs.Fields.{shares_of, name_of, place_of, members_of, last_by};
-ghost use Rattle.floor_events.specs.Grammar.{fields1, fields3};
+ghost use Rattle.floor_events.specs.Grammar.{grammar};
 
 use crate::event::{Event, Item};
-use crate::few::{Few, MOST_MEMBERS, read_few};
-use crate::line_words::Words;
 use floor_text::Name;
 use level_plan::{MOST_SHARES, PlanLine};
+use line_words::{Few, LineWords, MOST_MEMBERS, read_few};
 use seat_book::Place;
 use std::alloc::{AllocError, Global};
 
 /// Reads all words that are left as the shares of the prizes. `None` exactly where they are not 1 to 64 numbers;
 /// memory is wanted only where they are.
-#[tactic(auto, unfolding(crate::specs::Fields::shares_of, crate::specs::Grammar::fields1))]
-pub fn read_shares(alloc: Global, line: &mut Words<'_>) -> Result<Option<Item>, AllocError>
-    ensures exact { IfOk result
-        (λ found. found ≡ option_map items.Event
-        (fields1 shares_of (λ shares. events.Plan (lines.Shares shares)) line.old)) }
-    ensures err { OnErr result (IsSome (fields1 shares_of (λ shares. events.Plan (lines.Shares shares)) line.old)) }
+#[tactic(auto, unfolding(line_words::specs::Rows::read_fields))]
+pub fn read_shares(alloc: Global, line: &mut LineWords<'_>) -> Result<Option<Item>, AllocError>
+    ensures exact { IfOk result (λ found. found ≡ option_map items.Event (read_by grammar (codes "shares") line.old)) }
+    ensures err { OnErr result (IsSome (read_by grammar (codes "shares") line.old)) }
 {
     let Some(shares) = read_few::<u64, MOST_SHARES>(line) else {
         return Ok(None);
@@ -35,10 +30,10 @@ pub fn read_shares(alloc: Global, line: &mut Words<'_>) -> Result<Option<Item>, 
 /// The number of a table, seats and names.
 type BreakParts = (u64, Few<Place, MOST_MEMBERS>, Few<Name, MOST_MEMBERS>);
 
-#[tactic(auto, unfolding(crate::specs::Grammar::fields0, crate::specs::Grammar::fields1, crate::specs::Grammar::fields2, crate::specs::Grammar::fields3))]
-fn read_break_parts(line: &mut Words<'_>) -> Option<BreakParts>
+#[tactic(auto, unfolding(line_words::specs::Rows::read_fields))]
+fn read_break_parts(line: &mut LineWords<'_>) -> Option<BreakParts>
     ensures { option_map (λ parts. events.Break parts.0 parts.1 parts.2) result
-        ≡ fields3 number_of (members_of place_of) (last_by (members_of name_of)) events.Break line.old }
+        ≡ read_by grammar (codes "break") line.old }
 {
     let table = line.field()?;
     let seats = line.field()?;
@@ -47,11 +42,9 @@ fn read_break_parts(line: &mut Words<'_>) -> Option<BreakParts>
 
 /// Reads all words that are left as the table that breaks, the seats that are filled and who takes them. `None`
 /// exactly where they are not these; memory is wanted only where they are.
-pub fn read_break(alloc: Global, line: &mut Words<'_>) -> Result<Option<Item>, AllocError>
-    ensures exact { IfOk result (λ found. found ≡ option_map items.Event
-        (fields3 number_of (members_of place_of) (last_by (members_of name_of)) events.Break line.old)) }
-    ensures err { OnErr result
-        (IsSome (fields3 number_of (members_of place_of) (last_by (members_of name_of)) events.Break line.old)) }
+pub fn read_break(alloc: Global, line: &mut LineWords<'_>) -> Result<Option<Item>, AllocError>
+    ensures exact { IfOk result (λ found. found ≡ option_map items.Event (read_by grammar (codes "break") line.old)) }
+    ensures err { OnErr result (IsSome (read_by grammar (codes "break") line.old)) }
 {
     let Some((table, seats, names)) = read_break_parts(line) else {
         return Ok(None);

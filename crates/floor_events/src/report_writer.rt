@@ -3,10 +3,10 @@
 ghost use Rattle.std.specs.Prelude.{◌≡◌, ◌∷◌, ◌++◌, [], codes, OnOk, OnErr};
 ghost use Rattle.std.specs.List.{flat_map};
 ghost use Rattle.floor_events.specs.Spelling.{report_head, report_end, seat_line, out_line, report_text};
-ghost use Rattle.floor_events.specs.Words.{line_of_words, Extends};
+ghost use Rattle.line_words.specs.Words.{line_of_words, Extends};
 
-use crate::line_writer::{Word, push_line, push_lines};
 use crate::report::{Report, ReportOut, ReportSeat};
+use line_words::{Word, push_line, push_lines};
 use std::alloc::AllocError;
 
 fn push_head(report: &Report, out: &mut Vec<u8>) -> Result<(), AllocError>

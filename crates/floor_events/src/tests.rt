@@ -186,8 +186,8 @@ fn plan_lines_are_read(rt: HostRuntime) -> Result<(), Fail> {
             PlanLine::Stack(n) => place == 5 && n == 9_007_199_254_740_991,
             PlanLine::Buyin(n) => place == 6 && n == 1000,
             PlanLine::Late(n) => place == 7 && n == 3,
-            PlanLine::Blinds { small, big, unit } => {
-                place == 8 && small == 50 && big == 100 && unit == 25
+            PlanLine::Blinds(blind) => {
+                place == 8 && blind.small == 50 && blind.big == 100 && blind.unit == 25
             }
             PlanLine::Shares(_) => false,
         };

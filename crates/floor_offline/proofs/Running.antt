@@ -10,7 +10,7 @@ use Rattle.floor_text.specs.declared.line_reader.Next.TheVariants.{End}
 use Rattle.tournament_rules.specs.States.{State, first_state}
 use Rattle.floor_offline.specs.declared.fault.Fault.{Fault}
 use Rattle.floor_offline.specs.declared.fault.Fault.TheVariants as faults
-use Rattle.floor_offline.specs.declared.replay.TheConstants.{INPUT_LIMIT}
+use Rattle.floor_offline.specs.Limits.{input_limit}
 use Rattle.floor_offline.specs.Endings.{fault_status, IsOfReading, IsOfWriting, LetsGo}
 use Rattle.floor_offline.specs.Replay.{final_text, replay_text}
 use Rattle.floor_offline.specs.Promise.{whole_text, Keeps, Counts, GivesMore}
@@ -22,7 +22,7 @@ pub record IsRunning (first_whole whole first_left left : Option (List ℕ)) (ne
     (taken limit first_input input first_out out accepted ahead : ℕ) : Type 0 where
   pub keeps : Keeps first_whole whole
   pub counts : Counts first_left left taken
-  pub at_limit : limit ≡ INPUT_LIMIT
+  pub at_limit : limit ≡ input_limit
   pub input_later : first_input ≤ input
   pub out_later : first_out ≤ out
   pub few : accepted + ahead ≤ limit + 1
@@ -37,7 +37,7 @@ counts_first (Some bytes) = omega arith
 -- so it is once a reader that took nothing before has handed out the first line, in the first state
 pub starts : (state : State) (old new : Reading) (next : Next) (handed : List (Option (List ℕ)))
     (left rest written : Option (List ℕ)) (first_input input out : ℕ)
-    → old ≡ record { held = []; line = []; taken = 0; limit = INPUT_LIMIT } → state ≡ first_state
+    → old ≡ record { held = []; line = []; taken = 0; limit = input_limit } → state ≡ first_state
     → IfSome left (λ bytes. Reads old new bytes rest handed)
     → bytes_ahead new + length handed ≤ bytes_ahead old → (next ≡ End → new.held ≡ [])
     → (next ≡ End → IfSome left (λ _. rest ≡ Some [])) → (next ≡ End → new.taken ≤ new.limit)
@@ -49,7 +49,7 @@ starts state old new next handed left rest written first_input input out fresh f
     counts limit later =
     let held : old.held ≡ [] = ap (λ (reading : Reading). reading.held) fresh in
     let taken : old.taken ≡ 0 = ap (λ (reading : Reading). reading.taken) fresh in
-    let limited : old.limit ≡ INPUT_LIMIT = ap (λ (reading : Reading). reading.limit) fresh in
+    let limited : old.limit ≡ input_limit = ap (λ (reading : Reading). reading.limit) fresh in
     let whole : Keeps (whole_text first_state [] [] left written) (whole_text first_state handed new.held rest written) =
     subst
     (λ bytes. Keeps (whole_text first_state [] bytes left written) (whole_text first_state handed new.held rest written))
@@ -61,7 +61,7 @@ starts state old new next handed left rest written first_input input out fresh f
       at_limit = limit ∙ limited;
       input_later = later;
       out_later = omega arith;
-      few = let most : bytes_ahead old ≡ INPUT_LIMIT + 1 = ap bytes_ahead fresh in omega (arith, most, limit, limited, ahead);
+      few = let most : bytes_ahead old ≡ input_limit + 1 = ap bytes_ahead fresh in omega (arith, most, limit, limited, ahead);
       end = end;
       source_end = source_end;
       within = within;
@@ -69,8 +69,8 @@ starts state old new next handed left rest written first_input input out fresh f
 
 -- at the end as many bytes were taken as there were
 pub within_at_end : (first left : Option (List ℕ)) (taken limit : ℕ) → Counts first left taken
-    → IfSome first (λ _. left ≡ Some []) → limit ≡ INPUT_LIMIT → taken ≤ limit
-    → IfSome first (λ bytes. length bytes ≤ INPUT_LIMIT)
+    → IfSome first (λ _. left ≡ Some []) → limit ≡ input_limit → taken ≤ limit
+    → IfSome first (λ bytes. length bytes ≤ input_limit)
 within_at_end None left taken limit counts end at_limit within = tt
 within_at_end (Some bytes) left taken limit counts end at_limit within =
     let P : Option (List ℕ) → Type 0 = λ known. IsSomeAnd known (λ rest. taken + length rest ≡ length bytes) in
@@ -78,8 +78,8 @@ within_at_end (Some bytes) left taken limit counts end at_limit within =
     omega (arith, all, at_limit, within)
 
 -- more bytes were taken than the limit
-pub gives_more : (first left : Option (List ℕ)) (taken limit : ℕ) → Counts first left taken → limit ≡ INPUT_LIMIT
-    → limit < taken → GivesMore INPUT_LIMIT first left
+pub gives_more : (first left : Option (List ℕ)) (taken limit : ℕ) → Counts first left taken → limit ≡ input_limit
+    → limit < taken → GivesMore input_limit first left
 gives_more None left taken limit counts at_limit more = tt
 gives_more (Some bytes) None taken limit counts at_limit more = absurd counts
 gives_more (Some bytes) (Some rest) taken limit counts at_limit more = omega (arith, counts, at_limit, more)
@@ -149,12 +149,12 @@ status_of_fault faults.InputTooLong = (5, omega arith, refl)
 
 -- a run that ended well, or for want of memory, needs no more
 pub ended : (status : ℕ) (left : Option (List ℕ)) → (status ≡ 0) ⊎ (status ≡ 5)
-    → IfSome left (λ bytes. length bytes ≤ INPUT_LIMIT → (status ≡ 0) ⊎ (status ≡ 5))
+    → IfSome left (λ bytes. length bytes ≤ input_limit → (status ≡ 0) ⊎ (status ≡ 5))
 ended status None how = tt
 ended status (Some bytes) how = λ within. how
 
-too_long_alone : (left rest : Option (List ℕ)) (P : Type 0) → GivesMore INPUT_LIMIT left rest
-    → IfSome left (λ bytes. length bytes ≤ INPUT_LIMIT → P)
+too_long_alone : (left rest : Option (List ℕ)) (P : Type 0) → GivesMore input_limit left rest
+    → IfSome left (λ bytes. length bytes ≤ input_limit → P)
 too_long_alone None rest P more = tt
 too_long_alone (Some bytes) None P more = absurd more
 too_long_alone (Some bytes) (Some left) P more = λ within. absurd (omega (arith, more, within))
@@ -162,9 +162,9 @@ too_long_alone (Some bytes) (Some left) P more = λ within. absurd (omega (arith
 -- a fault that has its cause can be none but want of memory, where there was no other cause
 pub memory_alone : (fault : Fault) (left rest : Option (List ℕ)) (read write : Type 0)
     → (fault ≡ faults.Usage → ⊥) → (fault ≡ faults.Read → read) → (fault ≡ faults.Write → write)
-    → (fault ≡ faults.InputTooLong → GivesMore INPUT_LIMIT left rest)
+    → (fault ≡ faults.InputTooLong → GivesMore input_limit left rest)
     → (read → ⊥) → (write → ⊥)
-    → IfSome left (λ bytes. length bytes ≤ INPUT_LIMIT → (fault_status fault ≡ 0) ⊎ (fault_status fault ≡ 5))
+    → IfSome left (λ bytes. length bytes ≤ input_limit → (fault_status fault ≡ 0) ⊎ (fault_status fault ≡ 5))
 memory_alone faults.Usage left rest read write usage reads writes more no_read no_write = absurd (usage refl)
 memory_alone faults.Read left rest read write usage reads writes more no_read no_write = absurd (no_read (reads refl))
 memory_alone faults.Write left rest read write usage reads writes more no_read no_write =

@@ -5,6 +5,7 @@ ghost use Rattle.floor_text.specs.Outside.{Rose};
 ghost use Rattle.floor_text.specs.LineReader.{Reads, lines_of_next};
 ghost use Rattle.floor_text.specs.Reading.{bytes_ahead};
 ghost use Rattle.floor_events.specs.Grammar.{item_of_bytes};
+ghost use Rattle.floor_offline.specs.Limits.{input_limit};
 ghost use Rattle.floor_offline.specs.Endings.{IsOfWriting, IsOfReading, LetsGo};
 ghost use Rattle.floor_offline.specs.Replay.{item_of_next, answer_to_item, state_after_item, final_text, replay_text};
 ghost use Rattle.floor_offline.specs.Promise.{whole_text, Keeps, Counts, GivesMore};
@@ -153,7 +154,7 @@ fn answer_next<I: Source, O: Sink>(
 
 /// Makes a reader of an input, which takes no more than the limit.
 fn input_reader(alloc: Global) -> Result<LineReader, AllocError>
-    ensures { IfOk result (λ reader. reader ≡ record { held = []; line = []; taken = 0; limit = INPUT_LIMIT }) }
+    ensures { IfOk result (λ reader. reader ≡ record { held = []; line = []; taken = 0; limit = input_limit }) }
 {
     LineReader::new(alloc, INPUT_LIMIT)
 }
@@ -163,13 +164,13 @@ pub fn replay<I: Source, O: Sink>(alloc: Global, input: &mut I, out: &mut O) -> 
     ensures end { OnOk result (IfSome (I.left input.old) (λ _. I.left input.new ≡ Some [])) }
     ensures text { OnOk result (IfSome (I.left input.old)
         (λ bytes. IfSome (O.written out.old) (λ before. O.written out.new ≡ Some (before ++ replay_text bytes)))) }
-    ensures within { OnOk result (IfSome (I.left input.old) (λ bytes. length bytes ≤ INPUT_LIMIT)) }
+    ensures within { OnOk result (IfSome (I.left input.old) (λ bytes. length bytes ≤ input_limit)) }
 
     // Nothing is held back but where out failed or memory ran out.
     ensures let_go { OnOk result (O.held out.new ≡ []) }
     ensures read_let_go { IfErr result (λ fault. IsOfReading fault → LetsGo O.held out.old out.new) }
 
-    ensures too_long { IsErrOf result Fault.InputTooLong → GivesMore INPUT_LIMIT (I.left input.old) (I.left input.new) }
+    ensures too_long { IsErrOf result Fault.InputTooLong → GivesMore input_limit (I.left input.old) (I.left input.new) }
     ensures read { IsErrOf result Fault.Read → Rose (I.faults input.old) (I.faults input.new) }
     ensures out_later { O.faults out.old ≤ O.faults out.new }
     ensures write { IsErrOf result Fault.Write → Rose (O.faults out.old) (O.faults out.new) }

@@ -2,7 +2,7 @@
 
 ghost use Rattle.std.specs.Prelude.{◌⊎◌, ◌≡◌, ◌≢◌, ◌↔◌, ◌≤◌, ◌∷◌, [], ◌++◌, ℕ, length, map, codes, string_bytes, Some, IfSome, IsTrue, Contains};
 ghost use Rattle.floor_text.specs.Outside.{Rose};
-ghost use Rattle.floor_offline.specs.declared.replay.TheConstants.{INPUT_LIMIT};
+ghost use Rattle.floor_offline.specs.Limits.{input_limit};
 ghost use Rattle.floor_offline.specs.Endings.{status_line, PutsLine, LetsGo};
 ghost use Rattle.floor_offline.specs.Replay.{replay_text};
 ghost use Rattle.floor_offline.specs.Promise.{GivesMore};
@@ -51,7 +51,7 @@ pub fn run_offline<I: Source, O: Sink, E: Sink>(
     ensures read_to_end { result ≡ 0 → IfSome (I.left input.old) (λ _. I.left input.new ≡ Some []) }
     ensures replayed { result ≡ 0 → IfSome (I.left input.old)
         (λ bytes. IfSome (O.written out.old) (λ before. O.written out.new ≡ Some (before ++ replay_text bytes))) }
-    ensures within_limit { result ≡ 0 → IfSome (I.left input.old) (λ bytes. length bytes ≤ INPUT_LIMIT) }
+    ensures within_limit { result ≡ 0 → IfSome (I.left input.old) (λ bytes. length bytes ≤ input_limit) }
 
     // At every status but that of a write fault, out holds nothing back of what was put; and at none err does, unless it
     // failed.
@@ -66,12 +66,12 @@ pub fn run_offline<I: Source, O: Sink, E: Sink>(
     // The other statuses have their causes.
     ensures read_fault { result ≡ 3 → Rose (I.faults input.old) (I.faults input.new) }
     ensures write_fault { result ≡ 4 → Rose (O.faults out.old) (O.faults out.new) }
-    ensures input_too_long { result ≡ 8 → GivesMore INPUT_LIMIT (I.left input.old) (I.left input.new) }
+    ensures input_too_long { result ≡ 8 → GivesMore input_limit (I.left input.old) (I.left input.new) }
 
     // With the right words, no fault and no more bytes than the limit, only memory can be wanting.
     ensures complete { map string_bytes words.now.items ≡ codes "replay" ∷ []
         → ¬ Rose (I.faults input.old) (I.faults input.new) → ¬ Rose (O.faults out.old) (O.faults out.new)
-        → IfSome (I.left input.old) (λ bytes. length bytes ≤ INPUT_LIMIT → (result ≡ 0) ⊎ (result ≡ 5)) }
+        → IfSome (I.left input.old) (λ bytes. length bytes ≤ input_limit → (result ≡ 0) ⊎ (result ≡ 5)) }
 
     // Err holds nothing at status 0, and else the status's line.
     ensures quiet { result ≡ 0 → err.new ≡ err.old }

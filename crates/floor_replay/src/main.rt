@@ -1,5 +1,5 @@
 //! The program that runs tournaments offline: `run_offline` over the words that it was given and the standard
-//! streams.
+//! streams. It stands on floor_text and floor_offline.
 #![tactic(auto)]
 
 use floor_offline::run_offline;

@@ -6,7 +6,7 @@ use Rattle.std.proofs.lemmas.List.{drop-replicate, take_at, length-replicate}
 use Rattle.std.proofs.lemmas.Bool.{and_parts, eqb-true}
 use Rattle.std.proofs.lemmas.Bool.Decides.{Decides-eqb, nat_tests, same_from_decides}
 use Rattle.std.proofs.lemmas.Slice.Eq.{bytes_eq-Decides}
-use Rattle.floor_text.specs.declared.limits.TheConstants.{LONGEST_NAME}
+use Rattle.floor_text.specs.Limits.{longest_name}
 use Rattle.floor_text.specs.Names.{is_name, length_kept, IsKept}
 
 length_name : (name : List ℕ) → IsTrue (is_name name) → length name ≤ 16
@@ -61,10 +61,10 @@ same_kept {bytes} {other} {len} {long} ours theirs =
     kept_same : take len bytes ≡ take long other → (len == long && bytes_eq bytes other) ≡ true
     kept_same views =
         let lens : len ≡ long = sym (length_kept ours) ∙ ap length views ∙ length_kept theirs in
-        let pads : replicate (LONGEST_NAME - len) 0 ≡ replicate (LONGEST_NAME - long) 0 =
-        ap (λ (n : ℕ). replicate (LONGEST_NAME - n) 0) lens in
+        let pads : replicate (longest_name - len) 0 ≡ replicate (longest_name - long) 0 =
+        ap (λ (n : ℕ). replicate (longest_name - n) 0) lens in
         let lists : bytes ≡ other =
-        ours.padded ∙ ap (λ (xs : List ℕ). xs ++ replicate (LONGEST_NAME - len) 0) views
+        ours.padded ∙ ap (λ (xs : List ℕ). xs ++ replicate (longest_name - len) 0) views
         ∙ ap (λ (xs : List ℕ). take long other ++ xs) pads ∙ sym theirs.padded in
         let one : (len == long) ≡ true = (Decides-eqb len long).1 lens in
         let two : bytes_eq bytes other ≡ true = (bytes_eq-Decides bytes other).1 lists in rw (one, two) refl

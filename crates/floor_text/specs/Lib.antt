@@ -1,5 +1,6 @@
 pub mod Cutting
 pub mod HeldBytes
+pub mod Limits
 pub mod LineCutter
 pub mod LineReader
 pub mod Lines

@@ -1,7 +1,7 @@
 -- The lines of a stream of bytes. This project's own.
 use Rattle.std.specs.Prelude.{◌≡◌, ℕ, Bool, false, ◌==◌, nat_le, List, [], ◌∷◌, length, map, Option, Some, None, if◌then◌else◌}
 use Rattle.std.specs.List.{list_any, slice_split}
-use Rattle.floor_text.specs.declared.limits.TheConstants.{LONGEST_LINE}
+use Rattle.floor_text.specs.Limits.{longest_line}
 
 -- a line ends at a line feed
 abbrev pub is_line_feed : ℕ → Bool
@@ -13,7 +13,7 @@ HasNoFeed bytes = list_any is_line_feed bytes ≡ false
 
 -- a line as it is handed out: its bytes where they are at most 400, and nothing where it is longer
 abbrev pub cut_line : List ℕ → Option (List ℕ)
-cut_line bytes = if nat_le (length bytes) LONGEST_LINE then Some bytes else None
+cut_line bytes = if nat_le (length bytes) longest_line then Some bytes else None
 
 -- the parts of a stream but for the last one, where that is empty: what follows the last line feed is a line only
 -- where a byte follows

@@ -1,6 +1,6 @@
 //! The words of the floor's lines, and the outside that lines come from and go to.
 //!
-//! It stands on no other crate. `Refusal` numbers and names each reason for which a line is refused;
+//! It stands on `memchr` alone. `Refusal` numbers and names each reason for which a line is refused;
 //! `Name` and `read_number` read exactly what the grammar has; `LineCutter` and `LineReader` cut a stream
 //! into the same lines; `Source` and `Sink` say what the outside tells of its bytes and that a failure has
 //! its cause there. `MemSource` and `MemSink` are the outside in memory, `ReaderSource`, `WriterSink` and

@@ -1,6 +1,7 @@
 //! Lines cut from bytes that come one by one.
 
 ghost use Rattle.std.specs.Prelude.{◌≡◌, ◌≤◌, ◌↔◌, ◌<◌, ℕ, List, [], ◌∷◌, ◌++◌, length, Some, IsSome, IfOk};
+ghost use Rattle.floor_text.specs.Limits.{longest_line};
 ghost use Rattle.floor_text.specs.Lines.{HasNoFeed, cut_line, lines_of_bytes};
 
 use crate::limits::{KEPT, LONGEST_LINE};
@@ -55,7 +56,7 @@ impl LineCutter {
         ensures lines { (rest : List ℕ) → lines_of_bytes (self.old.begun ++ byte ∷ rest)
             ≡ lines_of_cut result self.new.line ++ lines_of_bytes (self.new.begun ++ rest) }
         ensures answers { IsSome result ↔ (byte ≡ 10) }
-        ensures short { (result ≡ Some Cut.Line) ↔ ((byte ≡ 10) × (length self.old.begun ≤ LONGEST_LINE)) }
+        ensures short { (result ≡ Some Cut.Line) ↔ ((byte ≡ 10) × (length self.old.begun ≤ longest_line)) }
         ensures line { result ≡ Some Cut.Line → self.new.line ≡ self.old.begun }
         ensures begun { self.new.begun ≡ begun_after self.old.begun byte }
     {
@@ -73,7 +74,7 @@ impl LineCutter {
         ensures lines { lines_of_bytes self.old.begun ≡ lines_of_cut result self.new.line }
         ensures answers { IsSome result ↔ (0 < length self.old.begun) }
         ensures short { (result ≡ Some Cut.Line)
-            ↔ ((0 < length self.old.begun) × (length self.old.begun ≤ LONGEST_LINE)) }
+            ↔ ((0 < length self.old.begun) × (length self.old.begun ≤ longest_line)) }
         ensures line { result ≡ Some Cut.Line → self.new.line ≡ self.old.begun }
         ensures begun { self.new.begun ≡ [] }
     {
@@ -94,7 +95,7 @@ impl LineCutter {
     fn cut(&mut self) -> Cut
         ensures feed { HasNoFeed self.old.begun }
         ensures line { lines_of_cut (Some result) self.new.line ≡ cut_line self.old.begun ∷ [] }
-        ensures short { (result ≡ Cut.Line) ↔ (length self.old.begun ≤ LONGEST_LINE) }
+        ensures short { (result ≡ Cut.Line) ↔ (length self.old.begun ≤ longest_line) }
         ensures begun { self.new.begun ≡ [] }
     {
         if self.begun.len() > LONGEST_LINE {

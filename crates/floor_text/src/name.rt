@@ -22,7 +22,7 @@ pub struct Name {
 
 impl Model for Name {
     ghost use Rattle.std.specs.Prelude.{◌-◌, ◌++◌, ℕ, List, length, take, replicate};
-    ghost use Rattle.floor_text.specs.declared.limits.TheConstants.{LONGEST_NAME};
+    ghost use Rattle.floor_text.specs.Limits.{longest_name};
     ghost use Rattle.floor_text.specs.Names.{IsKept, length_kept, padded_again};
 
     ghost Value = { List ℕ };
@@ -31,7 +31,7 @@ impl Model for Name {
 
     ghost invariant = { λ n. IsKept n.bytes n.len };
 
-    ghost inverse = { λ name. record { bytes = name ++ replicate (LONGEST_NAME - length name) 0; len = length name } };
+    ghost inverse = { λ name. record { bytes = name ++ replicate (longest_name - length name) 0; len = length name } };
 
     ghost inverse_ok = { λ n kept i. record { bytes = padded_again kept i; len = length_kept kept i } };
 }

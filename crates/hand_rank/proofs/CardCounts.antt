@@ -14,7 +14,7 @@ use Rattle.hand_rank.specs.Values.{ranks_down, count_of_rank, ranks_that_occur, 
 use Rattle.hand_rank.specs.Made.{count_of_suit, AreOnce}
 use Rattle.rulebook.proofs.Tests.{count_by-cons}
 use Rattle.hand_rank.proofs.CountLaws.{count_of_rank-cons}
-use Rattle.hand_rank.specs.Shown.{falling}
+use Rattle.hand_rank.specs.RankedHand.{falling}
 use Rattle.hand_rank.proofs.Sections.{sections, total, total-same}
 
 -- the numbers below a bound, from the highest down

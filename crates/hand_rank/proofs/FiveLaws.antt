@@ -8,7 +8,7 @@ use Rattle.card_set.specs.declared.card.Card.{Card}
 use Rattle.rulebook.proofs.Tests.{count_by-cons}
 use Rattle.hand_rank.specs.Runs.{highest_run}
 use Rattle.hand_rank.specs.Sets.{has_rank}
-use Rattle.hand_rank.specs.Shown.{falling, ranks_of}
+use Rattle.hand_rank.specs.RankedHand.{falling, ranks_of}
 use Rattle.hand_rank.specs.Values.{count_of_rank, distinct_ranks, run_top}
 use Rattle.hand_rank.proofs.CardCounts.{other-rank, distinct_ranks-sections, total-cards}
 use Rattle.hand_rank.proofs.Chosen.{occurs}

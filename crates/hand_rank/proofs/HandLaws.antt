@@ -8,11 +8,11 @@ use Rattle.card_choices.proofs.Combined.{combined}
 use Rattle.card_choices.proofs.ListOrder.{Upto, upto_through, upto_both, max_upper, max-above_left}
 use Rattle.card_choices.specs.Choices.{choices}
 use Rattle.hand_rank.specs.declared.category.Category.{Category}
-use Rattle.hand_rank.specs.declared.shown.Shown.{Shown}
+use Rattle.hand_rank.specs.declared.ranked_hand.RankedHand.{RankedHand}
 use Rattle.hand_rank.specs.BestHigh.{greater, best_high}
-use Rattle.hand_rank.specs.Held.{hands, has_number, value_in, best_in, value_of, IsBestIn, IsBest}
+use Rattle.hand_rank.specs.HolePair.{hands, has_number, value_in, best_in, value_of, IsBestIn, IsBest}
 use Rattle.hand_rank.specs.Made.{count_of_suit, AreOnce}
-use Rattle.hand_rank.specs.Shown.{shown_value, IsSized}
+use Rattle.hand_rank.specs.RankedHand.{ranked_value, IsSized}
 use Rattle.hand_rank.specs.Values.{category_number, category_of, count_of_rank, distinct_ranks, run_top, are_of_one_suit, value_by, five_card_value}
 use Rattle.hand_rank.proofs.CardCounts.{other-rank, once-few, total-cards}
 use Rattle.hand_rank.proofs.Chosen.{IsChoice, whole, count-choice, occurs, choice-with, chosen-within, chosen-above}
@@ -290,7 +290,7 @@ pub upto-of : (v w : List ℕ) → greater v w ≡ w → Upto v w
 upto-of v w is = subst (λ x. Upto v x) is (max-above_left v w)
 
 -- no hand is of a category
-pub no-best : (number : ℕ) (best : Option Shown) (hole board : List Card) → best ≡ None
+pub no-best : (number : ℕ) (best : Option RankedHand) (hole board : List Card) → best ≡ None
     → ((three : List Card) (ranks : List ℕ) → IsChoice three board → length three ≡ 3
     → five_card_value (hole ++ three) ≡ number ∷ ranks → ⊥) → IsBestIn number best (hands hole board)
 no-best number best hole board is none =
@@ -303,26 +303,27 @@ no-best number best hole board is none =
     })
 
 -- some three cards show no less than this with the hole cards
-pub record Reaches (shown : Shown) (hole board : List Card) : Type 0 where
+pub record Reaches (shown : RankedHand) (hole board : List Card) : Type 0 where
   pub three : List Card
   pub choice : IsChoice three board
   pub count : length three ≡ 3
-  pub up : Upto (shown_value shown) (five_card_value (hole ++ three))
+  pub up : Upto (ranked_value shown) (five_card_value (hole ++ three))
 
 -- some hand shows no less, and no hand of the category more
-pub some-best : (number : ℕ) (shown : Shown) (hole board : List Card) → category_number shown.category ≡ number
+pub some-best : (number : ℕ) (shown : RankedHand) (hole board : List Card) → category_number shown.category ≡ number
     → IsSized shown → Reaches shown hole board
     → ((three : List Card) (ranks : List ℕ) → IsChoice three board → length three ≡ 3
-    → five_card_value (hole ++ three) ≡ number ∷ ranks → Upto (number ∷ ranks) (shown_value shown))
+    → five_card_value (hole ++ three) ≡ number ∷ ranks → Upto (number ∷ ranks) (ranked_value shown))
     → IsBestIn number (Some shown) (hands hole board)
 some-best number shown hole board category sized reach bound = record {
-  over = max_upper (best_in number (hands hole board)) (shown_value shown)
-      (all-within_in number hole board (shown_value shown) bound);
-  under = max_upper (shown_value shown) (best_high (hands hole board))
-      (upto_through (shown_value shown) (five_card_value (hole ++ reach.three)) (best_high (hands hole board)) reach.up
+  over = max_upper (best_in number (hands hole board)) (ranked_value shown)
+      (all-within_in number hole board (ranked_value shown) bound);
+  under = max_upper (ranked_value shown) (best_high (hands hole board))
+      (upto_through (ranked_value shown) (five_card_value (hole ++ reach.three)) (best_high (hands hole board)) reach.up
       (some-above hole board reach.three reach.choice reach.count));
   sized = λ other is. subst (λ s. IsSized s) (same_Some shown other is) sized;
-  category = λ other is. subst (λ (s : Shown). category_number s.category ≡ number) (same_Some shown other is) category;
+  category = λ other is. subst (λ (s : RankedHand). category_number s.category ≡ number) (same_Some shown other is)
+      category;
 }
 
 -- no hand is of a category from a number on
@@ -344,7 +345,7 @@ none-beyond hole board = record {
 }
 
 -- and none from the next lower number on, where none is of that category either
-pub none-more : (number : ℕ) (best : Option Shown) (hole board : List Card) → NoneFrom (suc number) hole board
+pub none-more : (number : ℕ) (best : Option RankedHand) (hole board : List Card) → NoneFrom (suc number) hole board
     → IsBestIn number best (hands hole board) → best ≡ None → NoneFrom number hole board
 none-more number best hole board above is none = record {
   at = λ n from. elim (eqb n number) as (λ b. eqb n number ≡ b → best_in n (hands hole board) ≡ []) [
@@ -356,7 +357,7 @@ none-more number best hole board above is none = record {
 }
 
 -- the best of the highest category that there is, is the best
-pub best-first : (number : ℕ) (best : Option Shown) (shown : Shown) (hole board : List Card)
+pub best-first : (number : ℕ) (best : Option RankedHand) (shown : RankedHand) (hole board : List Card)
     → NoneFrom (suc number) hole board → IsBestIn number best (hands hole board) → best ≡ Some shown
     → IsBest shown (hands hole board)
 best-first number best shown hole board above is some = record {
@@ -365,18 +366,18 @@ best-first number best shown hole board above is some = record {
       (upto-of (value_of best) (best_high (hands hole board)) is.under) in
       let over = subst (λ v. Upto (best_in number (hands hole board)) v) (ap value_of some)
       (upto-of (best_in number (hands hole board)) (value_of best) is.over) in
-      upto_both (shown_value shown) (best_high (hands hole board)) under
-      (all-within hole board (shown_value shown) (λ three chosen count.
+      upto_both (ranked_value shown) (best_high (hands hole board)) under
+      (all-within hole board (ranked_value shown) (λ three chosen count.
       let five = numbered-five (hole ++ three) in
       let up = some-above_in five.number hole board three five.ranks chosen count five.is in
       let as_number = is.category shown some in
       elim (ltb five.number number) as (λ b. ltb five.number number ≡ b
-      → Upto (five_card_value (hole ++ three)) (shown_value shown)) [
-        | true ↦ λ less. subst (λ v. Upto v (shown_value shown)) (sym five.is) (inl (grind (arith, nat_tests)))
+      → Upto (five_card_value (hole ++ three)) (ranked_value shown)) [
+        | true ↦ λ less. subst (λ v. Upto v (ranked_value shown)) (sym five.is) (inl (grind (arith, nat_tests)))
         | false ↦ λ not_less. elim (eqb five.number number) as (λ b. eqb five.number number ≡ b
-            → Upto (five_card_value (hole ++ three)) (shown_value shown)) [
+            → Upto (five_card_value (hole ++ three)) (ranked_value shown)) [
               | true ↦ λ same. upto_through (five_card_value (hole ++ three)) (best_in number (hands hole board))
-                  (shown_value shown)
+                  (ranked_value shown)
                   (subst (λ n. Upto (five_card_value (hole ++ three)) (best_in n (hands hole board)))
                   (eqb-true five.number number same) up) over
               | false ↦ λ apart.

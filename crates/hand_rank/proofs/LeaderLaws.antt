@@ -4,13 +4,13 @@ use Rattle.std.specs.Prelude.{Option}
 use Rattle.std.proofs.lemmas.Bool.{and_from, and_parts}
 use Rattle.std.proofs.lemmas.Bool.Decides.{nat_tests}
 use Rattle.card_set.specs.declared.card.Card.{Card}
-use Rattle.hand_rank.specs.declared.held.Held.{Held}
+use Rattle.hand_rank.specs.declared.hole_pair.HolePair.{HolePair}
 use Rattle.hand_rank.specs.declared.rank_set.RankSet.{RankSet}
-use Rattle.hand_rank.specs.declared.shown.Shown.{Shown}
-use Rattle.hand_rank.specs.Held.{hands, IsHeld, IsBestIn}
+use Rattle.hand_rank.specs.declared.ranked_hand.RankedHand.{RankedHand}
+use Rattle.hand_rank.specs.HolePair.{hands, IsHolePair, IsBestIn}
 use Rattle.hand_rank.specs.Picks.{highest_below}
 use Rattle.hand_rank.specs.Sets.{has_rank, HasRanks}
-use Rattle.hand_rank.specs.Shown.{falling, ranks_of}
+use Rattle.hand_rank.specs.RankedHand.{falling, ranks_of}
 use Rattle.hand_rank.specs.SoMany.{IsGreatestWith}
 use Rattle.hand_rank.specs.Values.{category_number, count_of_rank}
 use Rattle.hand_rank.proofs.FiveLaws.{exactly, falling-one, ranks-one}
@@ -22,19 +22,19 @@ use Rattle.hand_rank.proofs.ShapeLaws.{IsLed, rank-within}
 use Rattle.hand_rank.proofs.SoManyLaws.{bit, but_one-itself, but_one-other, falling-fewer, falling-but_one, some-rank}
 
 -- how many ranks the hole cards have beside one
-abbrev beside_one : Held → ℕ → ℕ
+abbrev beside_one : HolePair → ℕ → ℕ
 beside_one held rank = length (falling (λ r. has_rank held.pair.once.bits r && not (eqb r rank)) 16)
 
 -- the ranks of a set may occur most often, and each that does is one of them
-pub record AreLeaders (bits : ℕ) (held : Held) (hole board : List Card) (k j c : ℕ) : Type 0 where
+pub record AreLeaders (bits : ℕ) (held : HolePair) (hole board : List Card) (k j c : ℕ) : Type 0 where
   pub may : (r : ℕ) → r < 16 → has_rank bits r ≡ true → MayLead hole board k j r
   pub room : (r : ℕ) → r < 16 → has_rank bits r ≡ true → beside_one held r ≤ c
   pub all : (five : List Card) (ranks : List ℕ) → IsHandOf hole board five → (led : IsLed five k j c ranks)
       → has_rank bits led.rank ≡ true
 
 -- where there is none, there is no such hand
-pub leaders-none : (number k j c : ℕ) (bits : ℕ) (held : Held) (hole board : List Card) (best : Option Shown)
-    → IsForm number k j c → IsHeld held hole board → AreLeaders bits held hole board k j c
+pub leaders-none : (number k j c : ℕ) (bits : ℕ) (held : HolePair) (hole board : List Card) (best : Option RankedHand)
+    → IsForm number k j c → IsHolePair held hole board → AreLeaders bits held hole board k j c
     → highest_below (has_rank bits) 16 ≡ None → best ≡ None → IsBestIn number best (hands hole board)
 leaders-none number k j c bits held hole board best form is leaders none is_none =
     no-best number best hole board is_none (λ three ranks chosen three_long at.
@@ -46,9 +46,9 @@ leaders-none number k j c bits held hole board best form is leaders none is_none
     absurd cc)
 
 -- and where the ranks beside the highest are not found, neither
-pub leaders-lost : (number k j c : ℕ) (bits rank : ℕ) (held : Held) (hole board : List Card) (most from : RankSet)
-    (found : Option RankSet) (best : Option Shown)
-    → IsForm number k j c → IsHeld held hole board → AreLeaders bits held hole board k j c
+pub leaders-lost : (number k j c : ℕ) (bits rank : ℕ) (held : HolePair) (hole board : List Card) (most from : RankSet)
+    (found : Option RankSet) (best : Option RankedHand)
+    → IsForm number k j c → IsHolePair held hole board → AreLeaders bits held hole board k j c
     → highest_below (has_rank bits) 16 ≡ Some rank → ((r : ℕ) → has_rank most.bits r ≡ eqb r rank)
     → HasRanks from.bits j (count_of_rank (hole ++ board))
     → IsGreatestWith found (λ r. has_rank from.bits r && not (has_rank most.bits r))
@@ -67,9 +67,9 @@ leaders-lost number k j c bits rank held hole board most from found best form is
     (leaders.room rank at.below at.passes))
 
 -- the best hand is that of the highest
-pub leaders-best : (number k j c : ℕ) (bits rank : ℕ) (held : Held) (hole board : List Card) (shown : Shown)
+pub leaders-best : (number k j c : ℕ) (bits rank : ℕ) (held : HolePair) (hole board : List Card) (shown : RankedHand)
     (from : RankSet)
-    → IsForm number k j c → IsHeld held hole board → AreLeaders bits held hole board k j c
+    → IsForm number k j c → IsHolePair held hole board → AreLeaders bits held hole board k j c
     → highest_below (has_rank bits) 16 ≡ Some rank → category_number shown.category ≡ number
     → ((r : ℕ) → has_rank shown.most.bits r ≡ eqb r rank) → HasRanks from.bits j (count_of_rank (hole ++ board))
     → IsGreatestWith (Some shown.others) (λ r. has_rank from.bits r && not (has_rank shown.most.bits r))
@@ -90,7 +90,7 @@ pub few-times : (hole : List Card) (r : ℕ) → length hole ≡ 2 → count_of_
 few-times hole r two = let all = two-ranks hole r (suc r) (next-differs r) in omega arith
 
 -- one of the ranks of two cards leaves one at most
-pub beside-few : (held : Held) (hole board : List Card) (rank : ℕ) → IsHeld held hole board → rank < 16
+pub beside-few : (held : HolePair) (hole board : List Card) (rank : ℕ) → IsHolePair held hole board → rank < 16
     → 1 ≤ count_of_rank hole rank → beside_one held rank ≤ 1
 beside-few held hole board rank is below some =
     let p = has_rank held.pair.once.bits in
@@ -101,7 +101,8 @@ beside-few held hole board rank is below some =
     let b : bit (q rank) ≡ 0 = ap bit (but_one-itself (p rank) rank) in
     omega (arith, change, few, a, b)
 
-beside-all : (held : Held) (hole board : List Card) (rank : ℕ) → IsHeld held hole board → beside_one held rank ≤ 2
+beside-all : (held : HolePair) (hole board : List Card) (rank : ℕ) → IsHolePair held hole board
+    → beside_one held rank ≤ 2
 beside-all held hole board rank is =
     le_trans
     (falling-fewer (λ r. has_rank held.pair.once.bits r && not (eqb r rank)) (has_rank held.pair.once.bits) 16
@@ -109,7 +110,7 @@ beside-all held hole board rank is =
     (few-hole held.pair.once.bits hole is.two is.pair.of_once)
 
 -- two cards of two ranks
-pub hole-apart : (held : Held) (hole board : List Card) → IsHeld held hole board
+pub hole-apart : (held : HolePair) (hole board : List Card) → IsHolePair held hole board
     → ranks_of held.pair.twice.bits ≡ [] → (r : ℕ) → count_of_rank hole r ≤ 1
 hole-apart held hole board is none r =
     elim (leb 2 (count_of_rank hole r)) as (λ b. leb 2 (count_of_rank hole r) ≡ b → count_of_rank hole r ≤ 1) [
@@ -128,7 +129,7 @@ pub record AreAlike (hole : List Card) (rank : ℕ) : Type 0 where
   pub others : (r : ℕ) → (r ≡ rank → ⊥) → count_of_rank hole r ≡ 0
 
 -- where a rank occurs twice among two cards, they are alike
-pub hole-alike : (held : Held) (hole board : List Card) → IsHeld held hole board
+pub hole-alike : (held : HolePair) (hole board : List Card) → IsHolePair held hole board
     → 1 ≤ length (ranks_of held.pair.twice.bits) → (rank : ℕ) × AreAlike hole rank
 hole-alike held hole board is some =
     let at = some-rank held.pair.twice.bits some in
@@ -159,7 +160,7 @@ from-board hole board five r hand =
     let both = hand.fewer r (suc r) (next-differs r) in let more = hand.least (suc r) in omega arith
 
 -- four of a kind: of a rank of the hole cards
-pub leaders-four : (held : Held) (hole board : List Card) (bits : ℕ) → IsHeld held hole board
+pub leaders-four : (held : HolePair) (hole board : List Card) (bits : ℕ) → IsHolePair held hole board
     → ((r : ℕ) → has_rank bits r ≡ (has_rank held.all.four.bits r && has_rank held.pair.once.bits r))
     → AreLeaders bits held hole board 4 1 1
 leaders-four held hole board bits is are = record {
@@ -190,8 +191,8 @@ leaders-four held hole board bits is are = record {
 }
 
 -- three of a kind and one pair: of any rank where the hole cards have two, and else of theirs
-pub leaders-apart : (held : Held) (hole board : List Card) (bits k c : ℕ) → IsHeld held hole board → 2 ≤ k → 2 ≤ c
-    → HasRanks bits k (count_of_rank (hole ++ board)) → ((r : ℕ) → count_of_rank hole r ≤ 1)
+pub leaders-apart : (held : HolePair) (hole board : List Card) (bits k c : ℕ) → IsHolePair held hole board → 2 ≤ k
+    → 2 ≤ c → HasRanks bits k (count_of_rank (hole ++ board)) → ((r : ℕ) → count_of_rank hole r ≤ 1)
     → AreLeaders bits held hole board k 1 c
 leaders-apart held hole board bits k c is two more has apart = record {
   may = λ r below at.
@@ -211,8 +212,8 @@ leaders-apart held hole board bits k c is two more has apart = record {
       has.at led.rank (omega arith) ∙ le-leb k (count_of_rank (hole ++ board) led.rank) (omega arith);
 }
 
-pub leaders-alike : (held : Held) (hole board : List Card) (bits of_all rank k c : ℕ) → IsHeld held hole board → 2 ≤ k
-    → 2 ≤ c → HasRanks of_all k (count_of_rank (hole ++ board)) → AreAlike hole rank
+pub leaders-alike : (held : HolePair) (hole board : List Card) (bits of_all rank k c : ℕ) → IsHolePair held hole board
+    → 2 ≤ k → 2 ≤ c → HasRanks of_all k (count_of_rank (hole ++ board)) → AreAlike hole rank
     → ((r : ℕ) → has_rank bits r ≡ (has_rank of_all r && has_rank held.pair.twice.bits r))
     → AreLeaders bits held hole board k 1 c
 leaders-alike held hole board bits of_all rank k c is two more has alike are = record {
@@ -246,8 +247,8 @@ leaders-alike held hole board bits of_all rank k c is two more has alike are = r
 }
 
 -- three of a kind and one pair, whether the hole cards have one rank or two
-pub leaders-led : (held : Held) (hole board : List Card) (ranks result : RankSet) (k c : ℕ) → IsHeld held hole board
-    → 2 ≤ k → 2 ≤ c → HasRanks ranks.bits k (count_of_rank (hole ++ board))
+pub leaders-led : (held : HolePair) (hole board : List Card) (ranks result : RankSet) (k c : ℕ)
+    → IsHolePair held hole board → 2 ≤ k → 2 ≤ c → HasRanks ranks.bits k (count_of_rank (hole ++ board))
     → (ranks_of held.pair.twice.bits ≡ [] → result ≡ ranks)
     → (1 ≤ length (ranks_of held.pair.twice.bits)
     → (r : ℕ) → has_rank result.bits r ≡ (has_rank ranks.bits r && has_rank held.pair.twice.bits r))
@@ -265,7 +266,7 @@ leaders-led held hole board ranks result k c is two more has apart alike =
     ] refl
 
 -- a full house: three of a rank of the hole cards where they have two, and else of any
-pub leaders-full : (held : Held) (hole board : List Card) (bits : ℕ) → IsHeld held hole board
+pub leaders-full : (held : HolePair) (hole board : List Card) (bits : ℕ) → IsHolePair held hole board
     → ((r : ℕ) → count_of_rank hole r ≤ 1)
     → ((r : ℕ) → has_rank bits r ≡ (has_rank held.all.thrice.bits r && has_rank held.pair.once.bits r))
     → AreLeaders bits held hole board 3 2 1
@@ -307,7 +308,7 @@ leaders-full held hole board bits is apart are = record {
               (r, eqb-true (count_of_rank five r) 2 leads.first.passes)
         ]) refl many
 
-pub leaders-full_alike : (held : Held) (hole board : List Card) (rank : ℕ) → IsHeld held hole board
+pub leaders-full_alike : (held : HolePair) (hole board : List Card) (rank : ℕ) → IsHolePair held hole board
     → AreAlike hole rank → AreLeaders held.all.thrice.bits held hole board 3 2 1
 leaders-full_alike held hole board rank is alike = record {
   may = λ r below has.
@@ -336,7 +337,7 @@ leaders-full_alike held hole board rank is alike = record {
 }
 
 -- a full house, whether the hole cards have one rank or two
-pub leaders-house : (held : Held) (hole board : List Card) (result : RankSet) → IsHeld held hole board
+pub leaders-house : (held : HolePair) (hole board : List Card) (result : RankSet) → IsHolePair held hole board
     → (ranks_of held.pair.twice.bits ≡ []
     → (r : ℕ) → has_rank result.bits r ≡ (has_rank held.all.thrice.bits r && has_rank held.pair.once.bits r))
     → (1 ≤ length (ranks_of held.pair.twice.bits) → result ≡ held.all.thrice)

@@ -6,13 +6,13 @@ use Rattle.std.proofs.lemmas.Bool.Decides.{nat_tests}
 use Rattle.card_set.specs.declared.card.Card.{Card}
 use Rattle.card_choices.proofs.ListOrder.{Upto}
 use Rattle.rulebook.proofs.Tests.{at_most_one}
-use Rattle.hand_rank.specs.declared.held.Held.{Held}
+use Rattle.hand_rank.specs.declared.hole_pair.HolePair.{HolePair}
 use Rattle.hand_rank.specs.declared.rank_set.RankSet.{RankSet}
-use Rattle.hand_rank.specs.declared.shown.Shown.{Shown}
-use Rattle.hand_rank.specs.Held.{hands, IsHeld, IsBestIn}
+use Rattle.hand_rank.specs.declared.ranked_hand.RankedHand.{RankedHand}
+use Rattle.hand_rank.specs.HolePair.{hands, IsHolePair, IsBestIn}
 use Rattle.hand_rank.specs.Picks.{without}
 use Rattle.hand_rank.specs.Sets.{has_rank, HasRanks}
-use Rattle.hand_rank.specs.Shown.{falling, ranks_of, shown_value, most_of}
+use Rattle.hand_rank.specs.RankedHand.{falling, ranks_of, ranked_value, most_of}
 use Rattle.hand_rank.specs.SoMany.{AreSoMany, IsGreatestWith}
 use Rattle.hand_rank.specs.Values.{category_number, count_of_rank, five_card_value}
 use Rattle.hand_rank.proofs.CardCounts.{other-rank, total-cards}
@@ -246,8 +246,8 @@ led-beside hole board five k j c ranks hand less some led = record {
 }
 
 -- what is asked of the other ranks of a hand
-asked : (held : Held) (hole board : List Card) (most from : RankSet) (j c rank : ℕ) (others : ℕ → Bool)
-    → IsHeld held hole board → ((r : ℕ) → has_rank most.bits r ≡ eqb r rank)
+asked : (held : HolePair) (hole board : List Card) (most from : RankSet) (j c rank : ℕ) (others : ℕ → Bool)
+    → IsHolePair held hole board → ((r : ℕ) → has_rank most.bits r ≡ eqb r rank)
     → HasRanks from.bits j (count_of_rank (hole ++ board)) → AreBeside hole board j c rank others
     → AreSoMany others (λ r. has_rank from.bits r && not (has_rank most.bits r))
     (λ r. has_rank held.pair.once.bits r && not (has_rank most.bits r)) c
@@ -264,8 +264,8 @@ asked held hole board most from j c rank others is is_most is_from are = record 
 }
 
 -- and what is had of those that are found
-found-beside : (held : Held) (hole board : List Card) (most from : RankSet) (j c rank : ℕ) (others : ℕ → Bool)
-    → IsHeld held hole board → rank < 16 → ((r : ℕ) → has_rank most.bits r ≡ eqb r rank)
+found-beside : (held : HolePair) (hole board : List Card) (most from : RankSet) (j c rank : ℕ) (others : ℕ → Bool)
+    → IsHolePair held hole board → rank < 16 → ((r : ℕ) → has_rank most.bits r ≡ eqb r rank)
     → HasRanks from.bits j (count_of_rank (hole ++ board))
     → AreSoMany others (λ r. has_rank from.bits r && not (has_rank most.bits r))
     (λ r. has_rank held.pair.once.bits r && not (has_rank most.bits r)) c → AreBeside hole board j c rank others
@@ -286,8 +286,9 @@ found-beside held hole board most from j c rank others is below is_most is_from 
 }
 
 -- the best hand in which a rank occurs most often, where no hand has a higher one
-pub led-best : (number k j c : ℕ) (held : Held) (hole board : List Card) (shown : Shown) (from : RankSet) (rank : ℕ)
-    → IsForm number k j c → IsHeld held hole board → category_number shown.category ≡ number
+pub led-best : (number k j c : ℕ) (held : HolePair) (hole board : List Card) (shown : RankedHand) (from : RankSet)
+    (rank : ℕ)
+    → IsForm number k j c → IsHolePair held hole board → category_number shown.category ≡ number
     → ranks_of shown.most.bits ≡ rank ∷ [] → ((r : ℕ) → has_rank shown.most.bits r ≡ eqb r rank)
     → HasRanks from.bits j (count_of_rank (hole ++ board))
     → IsGreatestWith (Some shown.others) (λ r. has_rank from.bits r && not (has_rank shown.most.bits r))
@@ -305,7 +306,7 @@ led-best number k j c held hole board shown from rank form is category of_most i
     falling-15 (has_rank shown.others.bits) none in
     let reached = led-reached hole board k j c rank (has_rank shown.others.bits) is.two is.five form.some form.sum lead
     beside in
-    let value : shown_value shown ≡ number ∷ rank ∷ ranks_of shown.others.bits =
+    let value : ranked_value shown ≡ number ∷ rank ∷ ranks_of shown.others.bits =
     (λ i. category i ∷ of_most i ++ ranks_of shown.others.bits) in
     let hand = is-hand hole board reached.three reached.choice reached.count is.two is.once in
     let five = hole ++ reached.three in
@@ -391,8 +392,8 @@ few-hole bits hole two has =
     ]) refl
 
 -- where the other ranks are not found, there is no such hand
-pub led-none : (number k j c : ℕ) (held : Held) (hole board : List Card) (most from : RankSet) (rank : ℕ)
-    (found : Option RankSet) (best : Option Shown) → IsForm number k j c → IsHeld held hole board → rank < 16
+pub led-none : (number k j c : ℕ) (held : HolePair) (hole board : List Card) (most from : RankSet) (rank : ℕ)
+    (found : Option RankSet) (best : Option RankedHand) → IsForm number k j c → IsHolePair held hole board → rank < 16
     → ((r : ℕ) → has_rank most.bits r ≡ eqb r rank) → HasRanks from.bits j (count_of_rank (hole ++ board))
     → IsGreatestWith found (λ r. has_rank from.bits r && not (has_rank most.bits r))
     (λ r. has_rank held.pair.once.bits r && not (has_rank most.bits r)) c → found ≡ None → best ≡ None

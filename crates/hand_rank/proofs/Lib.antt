@@ -5,7 +5,7 @@ pub mod Chosen
 pub mod CountLaws
 pub mod FiveLaws
 pub mod HandLaws
-pub mod HeldLaws
+pub mod HolePairLaws
 pub mod LeaderLaws
 pub mod LedLaws
 pub mod MadeLaws

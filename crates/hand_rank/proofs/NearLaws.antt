@@ -5,7 +5,7 @@ use Rattle.std.proofs.lemmas.Bool.{and_from, and_left, not-false, not_from_true,
 use Rattle.std.proofs.lemmas.Bool.Decides.{nat_tests}
 use Rattle.rulebook.proofs.Sides.{first_alone, others_alone}
 use Rattle.card_set.specs.declared.card.Card.{Card}
-use Rattle.hand_rank.specs.Held.{IsHighestRunWith}
+use Rattle.hand_rank.specs.HolePair.{IsHighestRunWith}
 use Rattle.hand_rank.specs.Picks.{highest_below}
 use Rattle.hand_rank.specs.Runs.{holds_step, is_run, highest_run, is_in_run, is_near}
 use Rattle.hand_rank.specs.Sets.{has_rank, HasRanks}

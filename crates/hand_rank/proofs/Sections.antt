@@ -4,7 +4,7 @@ use Rattle.std.specs.Prelude.{map}
 use Rattle.std.proofs.lemmas.Bool.Decides.{nat_tests}
 use Rattle.card_choices.proofs.ListOrder.{Upto}
 use Rattle.hand_rank.specs.Picks.{without, picked}
-use Rattle.hand_rank.specs.Shown.{falling}
+use Rattle.hand_rank.specs.RankedHand.{falling}
 use Rattle.hand_rank.proofs.PickLaws.{IsHighest, Has, Falls, without-other, without-less, without-some, picked-from, behind-highest}
 
 -- two tests that agree below a bound list the same numbers from the highest down

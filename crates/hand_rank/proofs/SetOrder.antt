@@ -9,9 +9,9 @@ use Rattle.std.proofs.lemmas.Nat.{pow_pos}
 use Rattle.std.proofs.lemmas.Bool.Decides.{nat_tests}
 use Rattle.std.proofs.lemmas.Nat.Bits.{bit_at_and, bit_at_not, bit_at-lt, bit_at-zero}
 use Rattle.card_choices.proofs.ListOrder.{Upto, upto_itself}
-use Rattle.hand_rank.specs.declared.shown.Shown.{Shown}
+use Rattle.hand_rank.specs.declared.ranked_hand.RankedHand.{RankedHand}
 use Rattle.hand_rank.specs.Sets.{has_rank}
-use Rattle.hand_rank.specs.Shown.{falling, ranks_of, shown_value, most_of, IsSized, is_less}
+use Rattle.hand_rank.specs.RankedHand.{falling, ranks_of, ranked_value, most_of, IsSized, is_less}
 use Rattle.hand_rank.specs.Values.{category_number}
 use Rattle.hand_rank.proofs.SetLaws.{how_many, ones_counted, highest_top}
 use Rattle.hand_rank.proofs.Sections.{falling-none, falling-empty}
@@ -106,13 +106,13 @@ numbers-before : (a b : ℕ) → a < 2 ^ 16 → b < 2 ^ 16 → a < b → Before 
 numbers-before a b fits_a fits_b less = sets-before 16 a b (omega arith)
 
 -- of categories alike, as many ranks occur most often
-sizes-alike : (one other : Shown) → IsSized one → IsSized other
+sizes-alike : (one other : RankedHand) → IsSized one → IsSized other
     → category_number one.category ≡ category_number other.category
     → length (ranks_of one.most.bits) ≡ length (ranks_of other.most.bits)
 sizes-alike one other is also same = is.most ∙ ap most_of same ∙ sym also.most
 
 -- the bits of what is shown
-pub record Fits (shown : Shown) : Type 0 where
+pub record Fits (shown : RankedHand) : Type 0 where
   pub most : shown.most.bits < 2 ^ 16
   pub others : shown.others.bits < 2 ^ 16
 
@@ -120,14 +120,14 @@ not_less-same : (x y : ℕ) → eqb x y ≡ false → ltb x y ≡ false → y < 
 not_less-same x y apart not_less = grind (arith, nat_tests)
 
 -- values compare as sets of ranks do
-pub less-upto : (one other : Shown) → Fits one → Fits other → IsSized one → IsSized other → is_less one other ≡ true
-    → Upto (shown_value one) (shown_value other)
+pub less-upto : (one other : RankedHand) → Fits one → Fits other → IsSized one → IsSized other
+    → is_less one other ≡ true → Upto (ranked_value one) (ranked_value other)
 less-upto one other fits fits_other is also less =
     let m = category_number one.category in
     let n = category_number other.category in
     (elim (eqb m n) as (λ b. eqb m n ≡ b
     → cond b (cond (eqb one.most.bits other.most.bits) (ltb one.others.bits other.others.bits)
-    (ltb one.most.bits other.most.bits)) (ltb m n) ≡ true → Upto (shown_value one) (shown_value other)) [
+    (ltb one.most.bits other.most.bits)) (ltb m n) ≡ true → Upto (ranked_value one) (ranked_value other)) [
       | false ↦ λ apart lower. inl (grind (arith, nat_tests))
       | true ↦ λ same lower.
           let alike : m ≡ n = grind (arith, nat_tests) in
@@ -155,14 +155,14 @@ less-upto one other fits fits_other is also less =
     ]) refl less
 
 -- where what is shown is not less than another, the value of the other comes no later
-pub not_less-back : (one other : Shown) → Fits one → Fits other → IsSized one → IsSized other
-    → is_less one other ≡ false → Upto (shown_value other) (shown_value one)
+pub not_less-back : (one other : RankedHand) → Fits one → Fits other → IsSized one → IsSized other
+    → is_less one other ≡ false → Upto (ranked_value other) (ranked_value one)
 not_less-back one other fits fits_other is also fails =
     let m = category_number one.category in
     let n = category_number other.category in
     (elim (eqb m n) as (λ b. eqb m n ≡ b
     → cond b (cond (eqb one.most.bits other.most.bits) (ltb one.others.bits other.others.bits)
-    (ltb one.most.bits other.most.bits)) (ltb m n) ≡ false → Upto (shown_value other) (shown_value one)) [
+    (ltb one.most.bits other.most.bits)) (ltb m n) ≡ false → Upto (ranked_value other) (ranked_value one)) [
       | false ↦ λ apart lower. inl (not_less-same m n apart lower)
       | true ↦ λ same lower.
           let alike : n ≡ m = grind (arith, nat_tests) in

@@ -10,13 +10,13 @@ use Rattle.std.proofs.lemmas.List.Folds.{list_all-append}
 use Rattle.card_set.specs.declared.card.Card.{Card}
 use Rattle.card_choices.proofs.ListOrder.{Upto}
 use Rattle.rulebook.proofs.Found.{some-found}
-use Rattle.hand_rank.specs.declared.held.Held.{Held}
+use Rattle.hand_rank.specs.declared.hole_pair.HolePair.{HolePair}
 use Rattle.hand_rank.specs.declared.rank_set.RankSet.{RankSet}
-use Rattle.hand_rank.specs.declared.shown.Shown.{Shown}
-use Rattle.hand_rank.specs.Held.{hands, count_of_some_suit, IsHeld, IsBestIn}
+use Rattle.hand_rank.specs.declared.ranked_hand.RankedHand.{RankedHand}
+use Rattle.hand_rank.specs.HolePair.{hands, count_of_some_suit, IsHolePair, IsBestIn}
 use Rattle.hand_rank.specs.Made.{count_of_suit, AreOnce}
 use Rattle.hand_rank.specs.Sets.{has_rank, HasRanks}
-use Rattle.hand_rank.specs.Shown.{falling, ranks_of, shown_value, most_of, suit_of}
+use Rattle.hand_rank.specs.RankedHand.{falling, ranks_of, ranked_value, most_of, suit_of}
 use Rattle.hand_rank.specs.SoMany.{AreSoMany, IsGreatestWith}
 use Rattle.hand_rank.specs.Values.{category_number, count_of_rank, distinct_ranks, run_top, are_of_one_suit, value_of_distinct, five_card_value}
 use Rattle.hand_rank.proofs.CardCounts.{other-rank, total-cards, suit-joined, suited-rank, all-suited, one_suit-all, all-one_suit}
@@ -313,12 +313,12 @@ has-15 bits often count has =
     has.at 15 (lit≤ tt) ∙ grind (arith, nat_tests)
 
 -- what five ranks show alone
-ranks-shown : (shown : Shown) (number : ℕ) → category_number shown.category ≡ number → ranks_of shown.most.bits ≡ []
-    → shown_value shown ≡ number ∷ ranks_of shown.others.bits
+ranks-shown : (shown : RankedHand) (number : ℕ) → category_number shown.category ≡ number
+    → ranks_of shown.most.bits ≡ [] → ranked_value shown ≡ number ∷ ranks_of shown.others.bits
 ranks-shown shown number category none = (λ i. category i ∷ none i ++ ranks_of shown.others.bits)
 
 -- the best high card
-pub high-best : (held : Held) (hole board : List Card) (shown : Shown) → IsHeld held hole board
+pub high-best : (held : HolePair) (hole board : List Card) (shown : RankedHand) → IsHolePair held hole board
     → category_number shown.category ≡ 0 → ranks_of shown.most.bits ≡ []
     → IsGreatestWith (Some shown.others) (has_rank held.all.once.bits) (has_rank held.pair.once.bits) 5
     → ((r : ℕ) → count_of_rank hole r ≤ 1) → IsBestIn 0 (Some shown) (hands hole board)
@@ -377,8 +377,8 @@ high-best held hole board shown is category none greatest apart =
         (λ is. let bad = are.within 15 (lit≤ tt) is in absurd cc) (λ is_not. is_not)
 
 -- where hole cards have one rank, no hand is a high card
-pub no-high : (held : Held) (hole board : List Card) (rank : ℕ) (best : Option Shown) → IsHeld held hole board
-    → 2 ≤ count_of_rank hole rank → best ≡ None → IsBestIn 0 best (hands hole board)
+pub no-high : (held : HolePair) (hole board : List Card) (rank : ℕ) (best : Option RankedHand)
+    → IsHolePair held hole board → 2 ≤ count_of_rank hole rank → best ≡ None → IsBestIn 0 best (hands hole board)
 no-high held hole board rank best is twice is_none =
     no-best 0 best hole board is_none (λ three ranks chosen three_long at.
     let this = is-hand hole board three chosen three_long is.two is.once in
@@ -388,8 +388,8 @@ no-high held hole board rank best is twice is_none =
     absurd (omega arith))
 
 -- nor where five ranks are not found
-pub lost-high : (held : Held) (hole board : List Card) (found : Option RankSet) (best : Option Shown)
-    → IsHeld held hole board
+pub lost-high : (held : HolePair) (hole board : List Card) (found : Option RankSet) (best : Option RankedHand)
+    → IsHolePair held hole board
     → IsGreatestWith found (has_rank held.all.once.bits) (has_rank held.pair.once.bits) 5 → found ≡ None → best ≡ None
     → IsBestIn 0 best (hands hole board)
 lost-high held hole board found best is greatest none is_none =
@@ -454,7 +454,7 @@ suited-apart hole board suit r once all =
     omega (arith, few, split, same)
 
 -- the ranks of a hand that is a flush
-flush-many : (held : Held) (hole board three : List Card) (ranks : List ℕ) → IsHeld held hole board
+flush-many : (held : HolePair) (hole board three : List Card) (ranks : List ℕ) → IsHolePair held hole board
     → IsHandOf hole board (hole ++ three) → IsSingle (hole ++ three) 5 ranks → are_of_one_suit (hole ++ three) ≡ true
     → AreSoMany (λ r. eqb (count_of_rank (hole ++ three) r) 1) (has_rank held.suited.bits)
     (has_rank held.pair.once.bits) 5
@@ -465,7 +465,7 @@ flush-many held hole board three ranks is hand one suit =
     (λ r below has. leb-true 1 (count_of_rank hole r) (sym (is.pair.of_once.at r below) ∙ has))
 
 -- the best flush
-pub flush-best : (held : Held) (hole board : List Card) (shown : Shown) → IsHeld held hole board
+pub flush-best : (held : HolePair) (hole board : List Card) (shown : RankedHand) → IsHolePair held hole board
     → category_number shown.category ≡ 5 → ranks_of shown.most.bits ≡ []
     → IsGreatestWith (Some shown.others) (has_rank held.suited.bits) (has_rank held.pair.once.bits) 5
     → IsBestIn 5 (Some shown) (hands hole board)
@@ -539,8 +539,8 @@ flush-best held hole board shown is category none greatest =
         absurd (omega (arith, many, long))
 
 -- where five ranks of a suit are not found, there is no flush
-pub no-flush : (held : Held) (hole board : List Card) (found : Option RankSet) (best : Option Shown)
-    → IsHeld held hole board
+pub no-flush : (held : HolePair) (hole board : List Card) (found : Option RankSet) (best : Option RankedHand)
+    → IsHolePair held hole board
     → IsGreatestWith found (has_rank held.suited.bits) (has_rank held.pair.once.bits) 5 → found ≡ None → best ≡ None
     → IsBestIn 5 best (hands hole board)
 no-flush held hole board found best is greatest none is_none =

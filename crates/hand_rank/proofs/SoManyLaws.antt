@@ -9,7 +9,7 @@ use Rattle.card_choices.proofs.ListOrder.{Upto, max_upper}
 use Rattle.hand_rank.specs.declared.rank_set.RankSet.{RankSet}
 use Rattle.hand_rank.specs.BestHigh.{greater}
 use Rattle.hand_rank.specs.Sets.{has_rank}
-use Rattle.hand_rank.specs.Shown.{falling, ranks_of}
+use Rattle.hand_rank.specs.RankedHand.{falling, ranks_of}
 use Rattle.hand_rank.specs.SoMany.{AreSoMany, IsGreatestWith}
 use Rattle.hand_rank.proofs.PickLaws.{IsHighest}
 use Rattle.hand_rank.proofs.Sections.{falling-same, falling-leads}

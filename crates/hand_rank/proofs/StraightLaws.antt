@@ -8,13 +8,13 @@ use Rattle.card_set.specs.declared.card.Card.{Card}
 use Rattle.card_choices.proofs.ListOrder.{Upto}
 use Rattle.rulebook.proofs.Found.{some-found}
 use Rattle.rulebook.proofs.Sides.{others_alone}
-use Rattle.hand_rank.specs.declared.held.Held.{Held}
-use Rattle.hand_rank.specs.declared.shown.Shown.{Shown}
-use Rattle.hand_rank.specs.Held.{hands, count_of_some_suit, IsHeld, RunsWith, IsHighestRunWith, IsBestIn}
+use Rattle.hand_rank.specs.declared.hole_pair.HolePair.{HolePair}
+use Rattle.hand_rank.specs.declared.ranked_hand.RankedHand.{RankedHand}
+use Rattle.hand_rank.specs.HolePair.{hands, count_of_some_suit, IsHolePair, RunsWith, IsHighestRunWith, IsBestIn}
 use Rattle.hand_rank.specs.Made.{count_of_suit}
 use Rattle.hand_rank.specs.Runs.{is_in_run}
 use Rattle.hand_rank.specs.Sets.{HasRanks}
-use Rattle.hand_rank.specs.Shown.{falling, ranks_of, shown_value, most_of, suit_of, IsSized}
+use Rattle.hand_rank.specs.RankedHand.{falling, ranks_of, ranked_value, most_of, suit_of, IsSized}
 use Rattle.hand_rank.specs.Values.{category_number, count_of_rank, distinct_ranks, run_top, are_of_one_suit, value_of_distinct, five_card_value}
 use Rattle.hand_rank.proofs.CardCounts.{other-rank, total-cards}
 use Rattle.hand_rank.proofs.FiveLaws.{run-top_same}
@@ -106,11 +106,11 @@ hand-runs hole board five number ranks count top hand single is more =
     of_run r last from which low (inr (inr (inr (inr (inr none))))) = absurd none
 
 -- what a run shows alone
-run-value : (shown : Shown) (number top : ℕ) → category_number shown.category ≡ number
-    → ranks_of shown.most.bits ≡ top ∷ [] → ranks_of shown.others.bits ≡ [] → shown_value shown ≡ number ∷ top ∷ []
+run-value : (shown : RankedHand) (number top : ℕ) → category_number shown.category ≡ number
+    → ranks_of shown.most.bits ≡ top ∷ [] → ranks_of shown.others.bits ≡ [] → ranked_value shown ≡ number ∷ top ∷ []
 run-value shown number top category most others = λ i. category i ∷ most i ++ others i
 
-run-sized : (shown : Shown) (number top : ℕ) → category_number shown.category ≡ number → most_of number ≡ 1
+run-sized : (shown : RankedHand) (number top : ℕ) → category_number shown.category ≡ number → most_of number ≡ 1
     → ranks_of shown.most.bits ≡ top ∷ [] → ranks_of shown.others.bits ≡ [] → IsSized shown
 run-sized shown number top category one most others = record {
   most = ap length most ∙ sym one ∙ ap most_of (sym category);
@@ -127,8 +127,8 @@ upto-one number top high up = inr (
 )
 
 -- the best straight
-pub straight-best : (held : Held) (hole board : List Card) (shown : Shown) (top : ℕ) (result : Option ℕ)
-    → IsHeld held hole board → category_number shown.category ≡ 4 → ranks_of shown.most.bits ≡ top ∷ []
+pub straight-best : (held : HolePair) (hole board : List Card) (shown : RankedHand) (top : ℕ) (result : Option ℕ)
+    → IsHolePair held hole board → category_number shown.category ≡ 4 → ranks_of shown.most.bits ≡ top ∷ []
     → ranks_of shown.others.bits ≡ [] → IsHighestRunWith result (count_of_rank (hole ++ board)) hole
     → result ≡ Some top → IsBestIn 4 (Some shown) (hands hole board)
 straight-best held hole board shown top result is category most others highest found =
@@ -172,8 +172,8 @@ straight-best held hole board shown top result is category most others highest f
     above false high ranks up = upto-one 4 top high up
 
 -- where no run has both, there is no straight
-pub no-straight : (held : Held) (hole board : List Card) (result : Option ℕ) (best : Option Shown)
-    → IsHeld held hole board → IsHighestRunWith result (count_of_rank (hole ++ board)) hole → result ≡ None
+pub no-straight : (held : HolePair) (hole board : List Card) (result : Option ℕ) (best : Option RankedHand)
+    → IsHolePair held hole board → IsHighestRunWith result (count_of_rank (hole ++ board)) hole → result ≡ None
     → best ≡ None → IsBestIn 4 best (hands hole board)
 no-straight held hole board result best is highest none is_none =
     no-best 4 best hole board is_none (λ three ranks chosen three_long is_value.
@@ -189,8 +189,8 @@ no-straight held hole board result best is highest none is_none =
     absurd cc)
 
 -- the best straight flush
-pub straight_flush-best : (held : Held) (hole board : List Card) (shown : Shown) (top : ℕ) (result : Option ℕ)
-    → IsHeld held hole board → category_number shown.category ≡ 8 → ranks_of shown.most.bits ≡ top ∷ []
+pub straight_flush-best : (held : HolePair) (hole board : List Card) (shown : RankedHand) (top : ℕ) (result : Option ℕ)
+    → IsHolePair held hole board → category_number shown.category ≡ 8 → ranks_of shown.most.bits ≡ top ∷ []
     → ranks_of shown.others.bits ≡ []
     → IsHighestRunWith result (count_of_some_suit (suit_of hole) (hole ++ board)) hole
     → result ≡ Some top → IsBestIn 8 (Some shown) (hands hole board)
@@ -247,8 +247,8 @@ straight_flush-best held hole board shown top result is category most others hig
         absurd (omega (arith, some))
 
 -- where no run of the suit has both, there is no straight flush
-pub no-straight_flush : (held : Held) (hole board : List Card) (result : Option ℕ) (best : Option Shown)
-    → IsHeld held hole board → IsHighestRunWith result (count_of_some_suit (suit_of hole) (hole ++ board)) hole
+pub no-straight_flush : (held : HolePair) (hole board : List Card) (result : Option ℕ) (best : Option RankedHand)
+    → IsHolePair held hole board → IsHighestRunWith result (count_of_some_suit (suit_of hole) (hole ++ board)) hole
     → result ≡ None → best ≡ None → IsBestIn 8 best (hands hole board)
 no-straight_flush held hole board result best is highest none is_none =
     no-best 8 best hole board is_none (λ three ranks chosen three_long is_value.

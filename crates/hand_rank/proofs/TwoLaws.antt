@@ -5,13 +5,13 @@ use Rattle.std.proofs.lemmas.Bool.{and_from, and_parts, eqb-false, ne_eqb, not-t
 use Rattle.std.proofs.lemmas.Bool.Decides.{nat_tests}
 use Rattle.card_set.specs.declared.card.Card.{Card}
 use Rattle.card_choices.proofs.ListOrder.{Upto}
-use Rattle.hand_rank.specs.declared.held.Held.{Held}
+use Rattle.hand_rank.specs.declared.hole_pair.HolePair.{HolePair}
 use Rattle.hand_rank.specs.declared.rank_set.RankSet.{RankSet}
-use Rattle.hand_rank.specs.declared.shown.Shown.{Shown}
-use Rattle.hand_rank.specs.Held.{hands, IsHeld, IsBestIn}
+use Rattle.hand_rank.specs.declared.ranked_hand.RankedHand.{RankedHand}
+use Rattle.hand_rank.specs.HolePair.{hands, IsHolePair, IsBestIn}
 use Rattle.hand_rank.specs.Picks.{highest_below, without}
 use Rattle.hand_rank.specs.Sets.{has_rank}
-use Rattle.hand_rank.specs.Shown.{falling, ranks_of, shown_value, most_of}
+use Rattle.hand_rank.specs.RankedHand.{falling, ranks_of, ranked_value, most_of}
 use Rattle.hand_rank.specs.SoMany.{AreSoMany, IsGreatestWith}
 use Rattle.hand_rank.specs.Values.{category_number, count_of_rank, five_card_value}
 use Rattle.hand_rank.proofs.CardCounts.{other-rank}
@@ -155,14 +155,14 @@ neither a b c is =
     let none = or_parts b c (not-true (b || c) parts.1) in (parts.0, none.0, none.1)
 
 -- what is asked of the rank beside two pairs, as tests on a set of the two
-abbrev from_test : Held → ℕ → ℕ → ℕ → Bool
+abbrev from_test : HolePair → ℕ → ℕ → ℕ → Bool
 from_test held first second r = has_rank held.all.once.bits r && not (eqb r first || eqb r second)
 
-abbrev pair_test : Held → ℕ → ℕ → ℕ → Bool
+abbrev pair_test : HolePair → ℕ → ℕ → ℕ → Bool
 pair_test held first second r = has_rank held.pair.once.bits r && not (eqb r first || eqb r second)
 
-found-beside : (held : Held) (hole board : List Card) (first second : ℕ) (others : ℕ → Bool) → IsHeld held hole board
-    → first < 16 → second < 16
+found-beside : (held : HolePair) (hole board : List Card) (first second : ℕ) (others : ℕ → Bool)
+    → IsHolePair held hole board → first < 16 → second < 16
     → AreSoMany others (from_test held first second) (pair_test held first second) 1
     → IsBeside hole board first second others
 found-beside held hole board first second others is one two are = record {
@@ -185,7 +185,7 @@ found-beside held hole board first second others is one two are = record {
   many = are.many;
 }
 
-asked : (held : Held) (hole board : List Card) (first second : ℕ) (others : ℕ → Bool) → IsHeld held hole board
+asked : (held : HolePair) (hole board : List Card) (first second : ℕ) (others : ℕ → Bool) → IsHolePair held hole board
     → IsBeside hole board first second others
     → AreSoMany others (from_test held first second) (pair_test held first second) 1
 asked held hole board first second others is are = record {
@@ -222,8 +222,8 @@ fall_two : Falls 4 (2 ∷ 2 ∷ 1 ∷ [])
 fall_two = (lit≤ tt, lit≤ tt, (lit≤ tt, lit≤ tt, (lit≤ tt, lit≤ tt, tt)))
 
 -- the best two pair, where no hand has higher ones
-pub two-best : (held : Held) (hole board : List Card) (shown : Shown) (first second : ℕ) → IsHeld held hole board
-    → category_number shown.category ≡ 2 → ranks_of shown.most.bits ≡ first ∷ second ∷ []
+pub two-best : (held : HolePair) (hole board : List Card) (shown : RankedHand) (first second : ℕ)
+    → IsHolePair held hole board → category_number shown.category ≡ 2 → ranks_of shown.most.bits ≡ first ∷ second ∷ []
     → IsGreatestWith (Some shown.others) (from_test held first second) (pair_test held first second) 1
     → MayBeTwo hole board first second
     → ((five : List Card) (ranks : List ℕ) → IsHandOf hole board five → (two : AreTwoPair five ranks)
@@ -238,7 +238,7 @@ two-best held hole board shown first second is category of_most greatest may hig
     let none = beside-15 hole board first second others beside in
     let all : ranks_of shown.others.bits ≡ falling others 15 = falling-15 others none in
     let reached = two-reached hole board first second others is.two is.five may beside in
-    let value : shown_value shown ≡ 2 ∷ first ∷ second ∷ ranks_of shown.others.bits =
+    let value : ranked_value shown ≡ 2 ∷ first ∷ second ∷ ranks_of shown.others.bits =
     (λ i. category i ∷ of_most i ++ ranks_of shown.others.bits) in
     let hand = is-hand hole board reached.three reached.choice reached.count is.two is.once in
     let five = hole ++ reached.three in
@@ -348,7 +348,7 @@ ranks-two most first second lower below is =
     ∙ falling-two 16 first second lower below
 
 -- what is asked beside a set of two
-pub asked-two : (held : Held) (most : RankSet) (first second : ℕ) (found : Option RankSet)
+pub asked-two : (held : HolePair) (most : RankSet) (first second : ℕ) (found : Option RankSet)
     → ((r : ℕ) → has_rank most.bits r ≡ (eqb r first || eqb r second))
     → IsGreatestWith found (λ r. has_rank held.all.once.bits r && not (has_rank most.bits r))
     (λ r. has_rank held.pair.once.bits r && not (has_rank most.bits r)) 1
@@ -361,13 +361,13 @@ asked-two held most first second found is greatest =
     (λ r below. ap (λ b. has_rank held.pair.once.bits r && not b) (is r)) greatest
 
 -- the ranks that may occur twice beside the first
-pub record AreSeconds (bits first : ℕ) (held : Held) : Type 0 where
+pub record AreSeconds (bits first : ℕ) (held : HolePair) : Type 0 where
   pub of_pair : has_rank held.pair.once.bits first ≡ true
       → (r : ℕ) → r < 16 → has_rank bits r ≡ (has_rank held.all.twice.bits r && not (eqb r first))
   pub of_board : has_rank held.pair.once.bits first ≡ false → (r : ℕ) → r < 16 → has_rank bits r
       ≡ (has_rank held.all.twice.bits r && not (eqb r first) && has_rank held.pair.once.bits r)
 
-twice-first : (held : Held) (hole board five : List Card) (ranks : List ℕ) → IsHeld held hole board
+twice-first : (held : HolePair) (hole board five : List Card) (ranks : List ℕ) → IsHolePair held hole board
     → IsHandOf hole board five → (two : AreTwoPair five ranks) → has_rank held.all.twice.bits two.first ≡ true
 twice-first held hole board five ranks is hand two =
     let below = two.below in
@@ -375,7 +375,7 @@ twice-first held hole board five ranks is hand two =
     let at = two.at_first in
     is.all.of_twice.at two.first (omega arith) ∙ le-leb 2 (count_of_rank (hole ++ board) two.first) (omega arith)
 
-twice-second : (held : Held) (hole board five : List Card) (ranks : List ℕ) → IsHeld held hole board
+twice-second : (held : HolePair) (hole board five : List Card) (ranks : List ℕ) → IsHolePair held hole board
     → IsHandOf hole board five → (two : AreTwoPair five ranks) → has_rank held.all.twice.bits two.second ≡ true
 twice-second held hole board five ranks is hand two =
     let below = two.below in
@@ -398,7 +398,8 @@ held-two hole board five ranks hand two =
     omega (arith, both, a, b)
 
 -- behind the first the second of a hand is one of them
-seconds-same : (held : Held) (hole board five : List Card) (ranks : List ℕ) (bits first : ℕ) → IsHeld held hole board
+seconds-same : (held : HolePair) (hole board five : List Card) (ranks : List ℕ) (bits first : ℕ)
+    → IsHolePair held hole board
     → IsHandOf hole board five → (two : AreTwoPair five ranks) → AreSeconds bits first held → two.first ≡ first
     → has_rank bits two.second ≡ true
 seconds-same held hole board five ranks bits first is hand two seconds same =
@@ -421,7 +422,8 @@ seconds-same held hole board five ranks bits first is hand two seconds same =
     (is.pair.of_once.at two.second (omega arith) ∙ le-leb 1 (count_of_rank hole two.second) (omega arith)))
 
 -- and where a hand has two pair, there is one of them
-seconds-some : (held : Held) (hole board five : List Card) (ranks : List ℕ) (bits first : ℕ) → IsHeld held hole board
+seconds-some : (held : HolePair) (hole board five : List Card) (ranks : List ℕ) (bits first : ℕ)
+    → IsHolePair held hole board
     → IsHandOf hole board five → (two : AreTwoPair five ranks) → AreSeconds bits first held → first < 16
     → two.first ≤ first → (r : ℕ) × (r < 16) × (has_rank bits r ≡ true)
 seconds-some held hole board five ranks bits first is hand two seconds high up =
@@ -474,7 +476,7 @@ seconds-some held hole board five ranks bits first is hand two seconds high up =
     ] refl
 
 -- the two ranks that are chosen
-pub chosen-two : (held : Held) (hole board : List Card) (bits first second : ℕ) → IsHeld held hole board
+pub chosen-two : (held : HolePair) (hole board : List Card) (bits first second : ℕ) → IsHolePair held hole board
     → AreSeconds bits first held → highest_below (has_rank held.all.twice.bits) 16 ≡ Some first
     → highest_below (has_rank bits) 16 ≡ Some second → MayBeTwo hole board first second
 chosen-two held hole board bits first second is seconds of_first of_second =
@@ -513,8 +515,8 @@ chosen-two held hole board bits first second is seconds of_first of_second =
     })
 
 -- no hand has higher ones
-pub highest-two : (held : Held) (hole board five : List Card) (ranks : List ℕ) (bits first second : ℕ)
-    → IsHeld held hole board → AreSeconds bits first held
+pub highest-two : (held : HolePair) (hole board five : List Card) (ranks : List ℕ) (bits first second : ℕ)
+    → IsHolePair held hole board → AreSeconds bits first held
     → highest_below (has_rank held.all.twice.bits) 16 ≡ Some first → highest_below (has_rank bits) 16 ≡ Some second
     → IsHandOf hole board five → (two : AreTwoPair five ranks)
     → Upto (two.first ∷ two.second ∷ []) (first ∷ second ∷ [])
@@ -542,7 +544,7 @@ highest-two held hole board five ranks bits first second is seconds of_first of_
     ] refl
 
 -- where no rank occurs twice, there are no two pair
-pub no-first : (held : Held) (hole board : List Card) (best : Option Shown) → IsHeld held hole board
+pub no-first : (held : HolePair) (hole board : List Card) (best : Option RankedHand) → IsHolePair held hole board
     → highest_below (has_rank held.all.twice.bits) 16 ≡ None → best ≡ None → IsBestIn 2 best (hands hole board)
 no-first held hole board best is none is_none =
     no-best 2 best hole board is_none (λ three ranks chosen three_long at.
@@ -554,7 +556,8 @@ no-first held hole board best is none is_none =
     absurd cc)
 
 -- nor where there is no second
-pub no-second : (held : Held) (hole board : List Card) (bits first : ℕ) (best : Option Shown) → IsHeld held hole board
+pub no-second : (held : HolePair) (hole board : List Card) (bits first : ℕ) (best : Option RankedHand)
+    → IsHolePair held hole board
     → AreSeconds bits first held → highest_below (has_rank held.all.twice.bits) 16 ≡ Some first
     → highest_below (has_rank bits) 16 ≡ None → best ≡ None → IsBestIn 2 best (hands hole board)
 no-second held hole board bits first best is seconds of_first none is_none =
@@ -591,8 +594,9 @@ some-length test n r within passes =
     ] refl
 
 -- nor where there is no third rank
-pub no-third : (held : Held) (hole board : List Card) (first second : ℕ) (found : Option RankSet) (best : Option Shown)
-    → IsHeld held hole board → MayBeTwo hole board first second
+pub no-third : (held : HolePair) (hole board : List Card) (first second : ℕ) (found : Option RankSet)
+    (best : Option RankedHand)
+    → IsHolePair held hole board → MayBeTwo hole board first second
     → IsGreatestWith found (from_test held first second) (pair_test held first second) 1 → found ≡ None → best ≡ None
     → IsBestIn 2 best (hands hole board)
 no-third held hole board first second found best is may greatest none is_none =

@@ -1,11 +1,11 @@
 pub mod BestHigh
 pub mod Counts
-pub mod Held
+pub mod HolePair
 pub mod Made
 pub mod Padded
 pub mod Picks
+pub mod RankedHand
 pub mod Runs
 pub mod Sets
-pub mod Shown
 pub mod SoMany
 pub mod Values

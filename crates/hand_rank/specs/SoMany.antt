@@ -3,7 +3,7 @@ use Rattle.std.specs.Prelude.{◌≡◌, ℕ, ◌<◌, ◌≤◌, Bool, true, le
 use Rattle.hand_rank.specs.declared.rank_set.RankSet.{RankSet}
 use Rattle.hand_rank.specs.BestHigh.{greater}
 use Rattle.hand_rank.specs.Sets.{has_rank}
-use Rattle.hand_rank.specs.Shown.{falling}
+use Rattle.hand_rank.specs.RankedHand.{falling}
 
 -- so many ranks below 16 of some, with all of others among them
 pub record AreSoMany (ranks from forced : ℕ → Bool) (count : ℕ) : Type 0 where

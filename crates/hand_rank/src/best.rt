@@ -5,9 +5,9 @@ ghost use Rattle.card_choices.specs.Choices.{holdem_choices, omaha_choices, AreD
 ghost use Rattle.hand_rank.specs.BestHigh.{best_high};
 
 use crate::board::Board;
-use crate::held::Held;
 use crate::high_value::HighValue;
-use crate::shown::Shown;
+use crate::hole_pair::HolePair;
+use crate::ranked_hand::RankedHand;
 use crate::suits::Suits;
 use card_choices::pairs;
 use card_set::Card;
@@ -38,10 +38,10 @@ pub fn best_omaha(hole: [Card; 4], board: [Card; 5]) -> HighValue
     ensures best { result ≡ best_high (omaha_choices hole board) }
 {
     let prepared = Board::of(board);
-    let mut best = Shown::least();
+    let mut best = RankedHand::least();
     let pairs = pairs(hole);
     for pair in &pairs {
-        best = best.max(Held::of(*pair, &prepared).shown());
+        best = best.max(HolePair::of(*pair, &prepared).best_hand());
     }
     best.value()
 }

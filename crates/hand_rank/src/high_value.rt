@@ -1,7 +1,7 @@
 //! The value of five cards.
 
 ghost use Rattle.std.specs.Prelude.{◌≡◌, ◌+◌, ◌≤◌, ◌∷◌, ◌++◌, [], length, nat_eq, Some};
-ghost use Rattle.hand_rank.specs.Shown.{ranks_of};
+ghost use Rattle.hand_rank.specs.RankedHand.{ranks_of};
 ghost use Rattle.hand_rank.specs.Values.{category_number};
 ghost use Rattle.std.proofs.Common.{rules};
 ghost use Rattle.std.specs.Ordering.{nat_cmp};

@@ -5,7 +5,7 @@ ghost use Rattle.hand_rank.specs.Picks.{highest_below, picked};
 ghost use Rattle.hand_rank.specs.Made.{value_of_suit};
 ghost use Rattle.hand_rank.specs.Runs.{highest_run, is_near};
 ghost use Rattle.hand_rank.specs.Sets.{has_rank, HasRanks};
-ghost use Rattle.hand_rank.specs.Shown.{ranks_of};
+ghost use Rattle.hand_rank.specs.RankedHand.{ranks_of};
 ghost use Rattle.hand_rank.specs.SoMany.{IsGreatestWith};
 
 /// At each rank the ranks of the runs that it is in.

@@ -7,7 +7,7 @@ use Rattle.floor_text.specs.declared.refusal.Refusal.TheVariants.{RoundDone, Rou
 use Rattle.seat_book.specs.declared.table_status.TableStatus.{TableStatus}
 use Rattle.seat_book.specs.Counts.{count_at, table_numbers}
 use Rattle.seat_book.specs.Tables.{status_at}
-use Rattle.seat_book.specs.Seatings.{Seating}
+use Rattle.seat_book.specs.Seatings.{Seating, is_any_playing}
 use Rattle.balance_rule.specs.Halting.{is_halted}
 
 -- A table has begun a hand in the round that is open.
@@ -21,10 +21,6 @@ begin_checks seating table = (RoundDone, has_begun seating table) ∷ []
 -- A table plays a hand.
 abbrev pub is_playing : Seating → ℕ → Bool
 is_playing seating table = (status_at seating.tables table).playing
-
--- Some table plays a hand.
-abbrev pub is_any_playing : Seating → Bool
-is_any_playing seating = list_any (is_playing seating) (table_numbers seating.table_count)
 
 -- A table is still to play in the round: it has two or more players, is not halted, and has not begun.
 abbrev pub is_still_to_play : Seating → ℕ → Bool

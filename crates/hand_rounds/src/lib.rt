@@ -2,12 +2,12 @@
 //!
 //! It stands on floor_text, rulebook, seat_book and balance_rule. Each call walks over the tables of a `SeatBook` once,
 //! changes nothing where it refuses, and takes no memory. `may_begin`, `may_close` and `may_switch` ask, `close_round`
-//! ends a round and `switch` turns hand-for-hand on or off. The number of the group of those who go out is not kept
-//! here.
+//! ends a round and `switch` turns hand-for-hand on or off. `end_round` and `set_hands` do the same for who has asked.
+//! The number of the group of those who go out is not kept here.
 #![tactic(auto)]
 
 mod rounds;
 #[cfg(test)]
 mod tests;
 
-pub use rounds::{close_round, may_begin, may_close, may_switch, switch};
+pub use rounds::{close_round, end_round, may_begin, may_close, may_switch, set_hands, switch};

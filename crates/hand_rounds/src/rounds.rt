@@ -4,7 +4,7 @@ ghost use Rattle.std.specs.Prelude.{◌≡◌, IsTrue, false, OnOk, OnErr, if◌
 ghost use Rattle.rulebook.specs.Checks.{IsChecked};
 ghost use Rattle.seat_book.specs.Places.{IsTableOf};
 ghost use Rattle.seat_book.specs.Seatings.{IsSeating};
-ghost use Rattle.hand_rounds.specs.Rounds.{is_playing, is_any_playing, is_still_to_play, holds_open, is_unfinished, begin_checks, round_checks, switch_checks, begins_with, with_begun, round_closed, switched};
+ghost use Rattle.hand_rounds.specs.Rounds.{is_still_to_play, holds_open, is_unfinished, begin_checks, round_checks, switch_checks, begins_with, with_begun, round_closed, switched};
 
 use balance_rule::halted;
 use floor_text::Refusal;
@@ -36,19 +36,6 @@ fn holds_open(book: &SeatBook, table: u8) -> bool
     ensures { result ≡ holds_open book.now table }
 {
     book.status(table).playing || is_still_to_play(book, table)
-}
-
-/// Tells whether some table plays a hand.
-fn is_any_playing(book: &SeatBook) -> bool
-    ensures { result ≡ is_any_playing book.now }
-{
-    for below in 0..book.table_count() {
-        let table = below + 1;
-        if book.status(table).playing {
-            return true;
-        }
-    }
-    false
 }
 
 /// Tells whether some table holds the round open.
@@ -91,6 +78,14 @@ pub fn may_close(book: &SeatBook) -> Result<(), Refusal>
     Ok(())
 }
 
+/// Ends a round, without a check: no table has begun in the next.
+pub fn end_round(book: &mut SeatBook)
+    ensures closed { book.new ≡ round_closed book.old }
+    ensures lawful { IsSeating book.new }
+{
+    set_begun(book, false);
+}
+
 /// Ends a round, where it may end: no table has begun in the next.
 pub fn close_round(book: &mut SeatBook) -> Result<(), Refusal>
     ensures checked { IsChecked (round_checks book.old) result }
@@ -99,7 +94,7 @@ pub fn close_round(book: &mut SeatBook) -> Result<(), Refusal>
     ensures lawful { OnOk result (IsSeating book.new) }
 {
     may_close(book)?;
-    set_begun(book, false);
+    end_round(book);
     Ok(())
 }
 
@@ -111,10 +106,20 @@ pub fn may_switch(book: &SeatBook, on: bool) -> Result<(), Refusal>
     if book.hands() == on {
         return Err(Refusal::SwitchWrong);
     }
-    if !on && is_any_playing(book) {
+    if !on && book.is_any_playing() {
         return Err(Refusal::RoundOpen);
     }
     Ok(())
+}
+
+/// Sets hand-for-hand on or off, without a check. On makes the playing tables those that have begun in the round, off
+/// empties the round.
+pub fn set_hands(book: &mut SeatBook, on: bool)
+    ensures switched { book.new ≡ switched on book.old }
+    ensures lawful { IsSeating book.new }
+{
+    set_begun(book, on);
+    book.set_hands(on);
 }
 
 /// Switches hand-for-hand on or off, where it may be switched so. On makes the playing tables those that have begun in
@@ -126,7 +131,6 @@ pub fn switch(book: &mut SeatBook, on: bool) -> Result<(), Refusal>
     ensures lawful { OnOk result (IsSeating book.new) }
 {
     may_switch(book, on)?;
-    set_begun(book, on);
-    book.set_hands(on);
+    set_hands(book, on);
     Ok(())
 }

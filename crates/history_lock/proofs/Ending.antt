@@ -8,7 +8,7 @@ use mathlib.Core.List.{IsPrefix}
 use native.Mathlib.Decide.{ℕ_discrete}
 use lib.ListN.{get_elem?, length-map}
 use Rattle.atomic_table.specs.Table.{State, Final, Seen}
-use Rattle.history_lock.specs.declared.grows.TheConstants.{OPENER}
+use Rattle.history_lock.specs.Limits.{opener}
 use Rattle.history_lock.specs.declared.grows.Grows.{Ghosts}
 use Rattle.history_lock.specs.declared.pass.Pass.{Pass}
 use Rattle.history_lock.specs.declared.view.Share.{Share}
@@ -43,7 +43,7 @@ module _ {Val E : Type 0} (history : Val → List E) (caller_of : E → ℕ) (n 
     pub begins : Each (λ (z : Share E). IsPrefix z.seen (history x)) v.shares
     pub own : Each (λ (z : Share E). entries_by caller_of z.number (history x) ≡ z.own) v.shares
     pub numbers : (k : ℕ) → k < n → AtLeastOne (λ (z : Share E). z.number ≡ k) v.shares
-    pub others : Each (λ e. (caller_of e < n) ⊎ (caller_of e ≡ OPENER)) (history x)
+    pub others : Each (λ e. (caller_of e < n) ⊎ (caller_of e ≡ opener)) (history x)
 
   pub closes : (id : ℕ) (v : View E) (words : List ℕ) (slots : List (Option Val)) → v.served ≡ false
       → n ≤ length v.shares
@@ -57,7 +57,7 @@ module _ {Val E : Type 0} (history : Val → List E) (caller_of : E → ℕ) (n 
       let quiet : (j : ℕ) (a : View E) → HasView s.views j a → a.served ≡ false = λ j a h. dite (ℕ_discrete j id)
       (λ e. ap (λ (z : View E). z.served) (same_view s.views id a v (subst (λ k. HasView s.views k a) e h) at) ∙ out)
       (λ ne. false_from_ne_true a.served (λ is. let t = r.served.ticket j a h is in let i =
-      r.spent j a h (none_left j a ne h) in absurd (cc (t, i)))) in
+      (r.spent j a h (none_left j a ne h)).no_ticket in absurd (cc (t, i)))) in
       let home = r.slot.home quiet in
       let Own : Share E → Type 0 = IsKeptShare caller_of n r.now r.keeper id in (
         home.0,
@@ -73,7 +73,7 @@ module _ {Val E : Type 0} (history : Val → List E) (caller_of : E → ℕ) (n 
               (λ e. subst (λ (z : View E). AtLeastOne Is z.shares)
               (same_view s.views id t.0 v (subst (λ i. HasView s.views i t.0) e t.1) at) t.2)
               (λ ne. absurd (subst (AtLeastOne Is) (none_left (r.keeper k) t.0 ne t.1) t.2));
-          others = subst (Each (λ e. (caller_of e < n) ⊎ (caller_of e ≡ OPENER))) (sym home.2) r.numbers.others;
+          others = subst (Each (λ e. (caller_of e < n) ⊎ (caller_of e ≡ opener))) (sym home.2) r.numbers.others;
         },
       )
 
@@ -83,7 +83,7 @@ module _ {Val E : Type 0} {g : Ghosts Val E} (history : Val → List E) (caller_
     pub begins : All (λ p. IsPrefix (seen p) (history value)) passes
     pub own_is : All (λ p. entries_by caller_of (pass_number p) (history value) ≡ own p) passes
     pub numbers : (k : ℕ) → k < n → Any (λ p. pass_number p ≡ k) passes
-    pub others : All (λ e. (caller_of e < n) ⊎ (caller_of e ≡ OPENER)) (history value)
+    pub others : All (λ e. (caller_of e < n) ⊎ (caller_of e ≡ opener)) (history value)
 
   fits_all : (passes : List (Pass Val E g)) (v : View E) (x : Val) → v.shares ≡ map share_of passes
       → IsLast history caller_of n v x → FitsAll passes x
@@ -94,7 +94,7 @@ module _ {Val E : Type 0} {g : Ghosts Val E} (history : Val → List E) (caller_
         (subst (Each (λ (z : Share E). entries_by caller_of z.number (history x) ≡ z.own)) are last.own);
     numbers = λ k l. any_of_map share_of (λ (z : Share E). z.number ≡ k) passes
         (subst (AtLeastOne (λ (z : Share E). z.number ≡ k)) are (last.numbers k l));
-    others = all_of_each (λ e. (caller_of e < n) ⊎ (caller_of e ≡ OPENER)) (history x) last.others;
+    others = all_of_each (λ e. (caller_of e < n) ⊎ (caller_of e ≡ opener)) (history x) last.others;
   }
 
   -- the value that comes out of the slot

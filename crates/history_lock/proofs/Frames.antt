@@ -7,10 +7,10 @@ use native.Mathlib.Decide.{ℕ_discrete}
 use Rattle.atomic_table.proofs.Lists.{set_here, set_else}
 use Rattle.history_lock.specs.declared.view.Share.{Share}
 use Rattle.history_lock.specs.declared.view.View.{View}
-use Rattle.history_lock.specs.declared.grows.TheConstants.{OPENER}
+use Rattle.history_lock.specs.Limits.{opener}
 use Rattle.history_lock.specs.Entries.{entries_by}
-use Rattle.history_lock.specs.Views.{Each, AtLeastOne, HasView, waiting, share_count}
-use Rattle.history_lock.specs.Rule.{TicketsAreInRange, NowIsLongest, IsKeptShare, NumbersAreKept, OneIsServed, SpentIsIdle}
+use Rattle.history_lock.specs.Views.{Each, AtLeastOne, HasView, first_share, waiting, share_count}
+use Rattle.history_lock.specs.Rule.{TicketsAreInRange, NowIsLongest, IsKeptShare, NumbersAreKept, OneIsServed, IsSpent, SpentAreIdle}
 use Rattle.history_lock.proofs.Lists.{within, each_set, each_map, sum_by-set}
 use Rattle.history_lock.proofs.Prefixes.{prefix_trans, prefix_length}
 
@@ -73,11 +73,20 @@ module _ {E : Type 0} where
             r.one i j c.0 d.0 c.1 d.1 (c.2.1 ∙ is) (d.2.1 ∙ also);
       }
 
-  -- a view that has a share is not spent
-  pub spent_stays : (views : List (View E)) (id : ℕ) (w : View E) (y : Share E) → w.shares ≡ y ∷ [] → SpentIsIdle views
-      → SpentIsIdle (set views id w)
-  spent_stays views id w y has r = each_set (λ j a. a.shares ≡ []
-      → a.ticket ≡ None) views id w (λ none. absurd (cc (has, none))) (λ j a ne h. r j a h)
+  -- a view with no share and no ticket is spent
+  pub is_spent : (now : List E) (v : View E) → v.shares ≡ [] → v.ticket ≡ None → IsSpent now v
+  is_spent now v none idle = record {
+    no_ticket = idle;
+    none_own = ap (λ (l : List (Share E)). (first_share l).own) none;
+    begins_now = subst (λ (l : List (Share E)). IsPrefix (first_share l).seen now) (sym none) (now, refl);
+  }
+
+  -- a view that has a share is not spent, and the others stay so, whatever the history comes to
+  pub spent_stays : (now now' : List E) (views : List (View E)) (id : ℕ) (w : View E) (y : Share E) → w.shares ≡ y ∷ []
+      → SpentAreIdle now views → SpentAreIdle now' (set views id w)
+  spent_stays now now' views id w y has r = each_set (λ j a. a.shares ≡ []
+      → IsSpent now' a) views id w (λ none. absurd (cc (has, none)))
+      (λ j a ne h none. is_spent now' a none (r j a h none).no_ticket)
 
   -- a pass comes to have this share, and the history grows to now'
   pub seen_grows : (now now' : List E) (views : List (View E)) (id : ℕ) (v w : View E) (x y : Share E)
@@ -125,7 +134,7 @@ module _ {E : Type 0} where
       → HasView views id v → v.shares ≡ x ∷ [] → w.shares ≡ y ∷ [] → y.number ≡ x.number
       → y.own ≡ entries_by caller_of x.number now'
       → ((k : ℕ) → x.number ≢ k → entries_by caller_of k now' ≡ entries_by caller_of k now)
-      → Each (λ (e : E). (caller_of e < n) ⊎ (caller_of e ≡ OPENER)) now'
+      → Each (λ (e : E). (caller_of e < n) ⊎ (caller_of e ≡ opener)) now'
       → NumbersAreKept caller_of n now keeper views → NumbersAreKept caller_of n now' keeper (set views id w)
   numbers_stay caller_of n now now' keeper views id v w x y at has has' number own rest all r =
       let P : ℕ → Share E → Type 0 = IsKeptShare caller_of n now keeper in

@@ -7,5 +7,4 @@ pub mod Seats
 pub mod Turns
 pub mod Dealing
 pub mod Ending
-pub mod Diaries
 pub mod Holds

@@ -12,7 +12,7 @@ use Rattle.atomic_table.specs.Table.{State, Me, step, keeps, takes, gives, Allow
 use Rattle.atomic_table.proofs.Lists.{set_here, set_again}
 use Rattle.history_lock.specs.declared.view.Share.{Share}
 use Rattle.history_lock.specs.declared.view.View.{View}
-use Rattle.history_lock.specs.declared.grows.TheConstants.{OPENER}
+use Rattle.history_lock.specs.Limits.{opener}
 use Rattle.history_lock.specs.Entries.{entries_by}
 use Rattle.history_lock.specs.Views.{Each, HasView, first_share}
 use Rattle.history_lock.specs.Rule.{IsKept, IsKeptShare, SlotIsRight, OneIsServed}
@@ -66,7 +66,7 @@ module _ {Val E : Type 0} (history : Val → List E) (caller_of : E → ℕ) (n 
           limit = r.limit;
           words = ap (λ ws. set ws 0 ((found + 1) % 2 ^ 64)) r.words;
           tickets = tickets_drawn n r.ticket r.serving found s.views id v w at idle refl is r.limit
-              (waiting_lt n s.views id v x at has idle r.spent r.numbers.once) r.tickets;
+              (waiting_lt n r.now s.views id v x at has idle r.spent r.numbers.once) r.tickets;
           longest = seen_grows r.now r.now s.views id v w x x at has has (prefix_self r.now) r.longest.fits
               (begins s r id v x at has) (r.longest.known id v at) (inr (refl, refl)) r.longest;
           numbers = numbers_stay caller_of n r.now r.now r.keeper s.views id v w x x at has has refl mine.2
@@ -82,7 +82,7 @@ module _ {Val E : Type 0} (history : Val → List E) (caller_of : E → ℕ) (n 
                 r.served.one i j a b (old i a h is') (old j b k also) is' also;
           };
           slot = slot_stays history r.now s.homes s.views id v w at out out r.slot;
-          spent = spent_stays s.views id w x has r.spent;
+          spent = spent_stays r.now r.now s.views id w x has r.spent;
         },
         refl,
       )
@@ -161,7 +161,7 @@ module _ {Val E : Type 0} (history : Val → List E) (caller_of : E → ℕ) (n 
                 → (set s.homes 0 none ≡ none ∷ []) × Each (λ (z : Share E). z.seen ≡ r.now) a.shares) s.views id w
                 (λ _. (ap (λ hs. set hs 0 none) home.1, (home.2, tt))) (λ j a ne h is'. absurd (cc (is', quiet j a h)));
           };
-          spent = spent_stays s.views id w y refl r.spent;
+          spent = spent_stays r.now r.now s.views id w y refl r.spent;
         },
         (λ t share has_ticket has_share.
             let same_ticket : ticket ≡ t = cc (drew, has_ticket) in
@@ -208,7 +208,7 @@ module _ {Val E : Type 0} (history : Val → List E) (caller_of : E → ℕ) (n 
       ∙ (sym (entries_by_grown caller_of x.number r.now added theirs)
       ∙ ap (entries_by caller_of x.number) (sym whole))) in
       let known : v.known ≤ length left = omega (arith, r.longest.known id v at, prefix_length r.now left longer) in
-      let Fits : E → Type 0 = λ e. (caller_of e < n) ⊎ (caller_of e ≡ OPENER) in
+      let Fits : E → Type 0 = λ e. (caller_of e < n) ⊎ (caller_of e ≡ opener) in
       let all : Each Fits left = subst (Each Fits) (sym whole) (each_append Fits r.now added r.numbers.others
       (each_map (λ e. caller_of e ≡ x.number) Fits added (λ e h. inl (subst (λ k. k < n) (sym h) mine.0)) theirs)) in (
         w,
@@ -235,7 +235,7 @@ module _ {Val E : Type 0} (history : Val → List E) (caller_of : E → ℕ) (n 
                 → (s.homes ≡ none ∷ []) × Each (λ (z : Share E). z.seen ≡ left) a.shares) s.views id w
                 (λ _. (out.0, (refl, tt))) (λ j a ne h is'. absurd (ne (r.served.one j id a v h at is' inside)));
           };
-          spent = spent_stays s.views id w y refl r.spent;
+          spent = spent_stays r.now left s.views id w y refl r.spent;
         },
         (
           refl,
@@ -287,7 +287,7 @@ module _ {Val E : Type 0} (history : Val → List E) (caller_of : E → ℕ) (n 
             home = λ _. (val, ap (λ hs. set hs 0 (some (Some val))) out.0, back ∙ seen);
             out = λ j a h is'. absurd (cc (is', quiet j a h));
           };
-          spent = spent_stays s.views id w x has r.spent;
+          spent = spent_stays r.now r.now s.views id w x has r.spent;
         },
         refl,
       )
@@ -323,7 +323,7 @@ module _ {Val E : Type 0} (history : Val → List E) (caller_of : E → ℕ) (n 
               (λ k ne. refl) r.numbers.others r.numbers;
           served = served_stays r.serving s.views id v w at refl refl r.served;
           slot = slot_stays history r.now s.homes s.views id v w at out out r.slot;
-          spent = spent_stays s.views id w x has r.spent;
+          spent = spent_stays r.now r.now s.views id w x has r.spent;
         },
         (refl, least, subst (Each (λ (z : Share E). length z.seen ≤ found)) (sym has) (seen, tt)),
       )

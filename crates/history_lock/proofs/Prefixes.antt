@@ -5,7 +5,7 @@ use Rattle.std.proofs.lemmas.List.Elements.{filter-append}
 use Rattle.std.proofs.lemmas.Bool.Decides.{nat_tests}
 use mathlib.Core.List.{IsPrefix}
 use Rattle.history_lock.specs.Entries.{entries_by, IsGrownBy}
-use Rattle.history_lock.specs.declared.grows.TheConstants.{OPENER}
+use Rattle.history_lock.specs.Limits.{most_passes, opener}
 use Rattle.history_lock.specs.Views.{Each}
 use Rattle.history_lock.proofs.Lists.{each_of_all}
 
@@ -74,6 +74,7 @@ module _ {E : Type 0} (caller_of : E → ℕ) where
       ∙ (ap (λ w. own ++ w) (sym (drop_append seen grown.0)) ∙ ap (λ w. own ++ drop (length seen) w) (sym whole))))
 
   -- a history of the opener's entries has none of a caller below it
-  pub none_own : (k : ℕ) (log : List E) → k ≤ 256 → All (λ e. caller_of e ≡ OPENER) log → entries_by caller_of k log ≡ []
+  pub none_own : (k : ℕ) (log : List E) → k ≤ most_passes → All (λ e. caller_of e ≡ opener) log
+      → entries_by caller_of k log ≡ []
   none_own k log small opened =
-      entries_by_other OPENER k log (λ e. omega (arith, e)) (each_of_all (λ e. caller_of e ≡ OPENER) log opened)
+      entries_by_other opener k log (λ e. omega (arith, e)) (each_of_all (λ e. caller_of e ≡ opener) log opened)

@@ -9,14 +9,14 @@ use Rattle.atomic_table.specs.Table.{State, step, keeps, Allows, Enters, Splits,
 use Rattle.atomic_table.proofs.Lists.{set_here, set_else, set_again, at_longer, at_last}
 use Rattle.history_lock.specs.declared.view.Share.{Share}
 use Rattle.history_lock.specs.declared.view.View.{View}
-use Rattle.history_lock.specs.declared.grows.TheConstants.{OPENER}
+use Rattle.history_lock.specs.Limits.{most_passes, opener}
 use Rattle.history_lock.specs.Entries.{entries_by}
 use Rattle.history_lock.specs.Views.{Each, AtLeastOne, HasView, share_count, view_of, spent_view, shares_from, opening_view, further_shares, only_first}
-use Rattle.history_lock.specs.Rule.{IsKept, IsKeptShare, NowIsLongest, NumbersAreKept}
+use Rattle.history_lock.specs.Rule.{IsKept, IsKeptShare, NowIsLongest, NumbersAreKept, IsSpent}
 use Rattle.history_lock.specs.Steps.{arrived}
 use Rattle.history_lock.proofs.Lists.{within, each_set, each_append, each_map, at_push, least_append_left, least_append_right, each_both, put, put_here, put_else, turn, turn_here, turn_else}
 use Rattle.history_lock.proofs.Prefixes.{prefix_self, entries_by_other}
-use Rattle.history_lock.proofs.Frames.{shares_of, same_view, tickets_stay, served_stays, share_count-set}
+use Rattle.history_lock.proofs.Frames.{shares_of, same_view, tickets_stay, served_stays, share_count-set, is_spent}
 use Rattle.history_lock.proofs.Tickets.{tickets_push, served_push, spent_push, slot_push, slot_stays}
 
 module _ {E : Type 0} where
@@ -78,7 +78,7 @@ module _ {Val E : Type 0} (history : Val → List E) (caller_of : E → ℕ) (n 
       numbers = numbers_push caller_of n r.now r.keeper s.views r.numbers;
       served = served_push r.serving s.views spent_view refl r.served;
       slot = slot_push history r.now s.homes s.views spent_view refl r.slot;
-      spent = spent_push s.views spent_view refl r.spent;
+      spent = spent_push r.now s.views spent_view refl r.spent;
     },
     refl,
   )
@@ -231,8 +231,9 @@ module _ {Val E : Type 0} (history : Val → List E) (caller_of : E → ℕ) (n 
             (served_stays r.serving s.views id v left at refl refl r.served);
         slot = slot_push history r.now s.homes kept_views given refl
             (slot_stays history r.now s.homes s.views id v left at out out r.slot);
-        spent = spent_push kept_views given refl
-            (each_set (λ (j : ℕ) (a : View E). a.shares ≡ [] → a.ticket ≡ None) s.views id left (λ _. idle)
+        spent = spent_push r.now kept_views given refl
+            (each_set (λ (j : ℕ) (a : View E). a.shares ≡ [] → IsSpent r.now a) s.views id left
+            (λ none. is_spent r.now left none idle)
             (λ j a ne h. r.spent j a h));
       }
 
@@ -345,14 +346,17 @@ module _ {Val E : Type 0} (history : Val → List E) (caller_of : E → ℕ) (n 
             (served_stays r.serving s.views id v both at refl refl r.served);
         slot = slot_stays history r.now s.homes views' other w spent_view there out' refl
             (slot_stays history r.now s.homes s.views id v both at out out r.slot);
-        spent = each_set (λ (j : ℕ) (a : View E). a.shares ≡ [] → a.ticket ≡ None) views' other spent_view (λ _. refl)
-            (λ j a ne h. each_set (λ (j : ℕ) (a : View E). a.shares ≡ [] → a.ticket ≡ None) s.views id both (λ _. idle)
+        spent = each_set (λ (j : ℕ) (a : View E). a.shares ≡ [] → IsSpent r.now a) views' other spent_view
+            (λ none. is_spent r.now spent_view none refl)
+            (λ j a ne h. each_set (λ (j : ℕ) (a : View E). a.shares ≡ [] → IsSpent r.now a) s.views id both
+            (λ none. is_spent r.now both none idle)
             (λ j a ne h. r.spent j a h) j a h);
       }
 
   -- each share has its number, and all of them are those from k on
-  pub opens : (seen : List E) (count : ℕ) (val : Val) → 0 < n → n ≤ 256 → history val ≡ seen → count ≡ length seen
-      → count < 2 ^ 64 → Each (λ e. caller_of e ≡ OPENER) seen
+  pub opens : (seen : List E) (count : ℕ) (val : Val) → 0 < n → n ≤ most_passes → history val ≡ seen
+      → count ≡ length seen
+      → count < 2 ^ 64 → Each (λ e. caller_of e ≡ opener) seen
       → Rule (opening (0 ∷ 0 ∷ count ∷ 0 ∷ []) (Some val ∷ []) (opening_view n seen))
   opens seen count val some_pass limit is counts fits theirs = record {
     now = seen;
@@ -380,7 +384,7 @@ module _ {Val E : Type 0} (history : Val → List E) (caller_of : E → ℕ) (n 
       own = λ j a h. subst (λ (t : ℕ × View E). Each (Owned seen (λ _. 0) t.0) t.1.shares)
           (λ i. (sym (only j a h).0 i, (only j a h).3 i)) (all_owned n 0 (omega arith));
       once = sum_by_one ∙ length-shares_from n 0;
-      others = each_map (λ e. caller_of e ≡ OPENER) (λ e. (caller_of e < n) ⊎ (caller_of e ≡ OPENER)) seen
+      others = each_map (λ e. caller_of e ≡ opener) (λ e. (caller_of e < n) ⊎ (caller_of e ≡ opener)) seen
           (λ e h. inr h) theirs;
     };
     served = record {
@@ -391,7 +395,7 @@ module _ {Val E : Type 0} (history : Val → List E) (caller_of : E → ℕ) (n 
       home = λ _. (val, refl, is);
       out = λ j a h is'. absurd (cc (is', (only j a h).2));
     };
-    spent = λ j a h _. (only j a h).1;
+    spent = λ j a h none. is_spent seen a none (only j a h).1;
   }
     where
       first : View E
@@ -416,9 +420,9 @@ module _ {Val E : Type 0} (history : Val → List E) (caller_of : E → ℕ) (n 
       has_number (suc m) k i ge lt =
           dite (ℕ_discrete k i) (λ e. inl e) (λ ne. inr (has_number m (k + 1) i (omega arith) (omega arith)))
 
-      no_entry : (k : ℕ) → k < n → (log : List E) → Each (λ e. caller_of e ≡ OPENER) log
+      no_entry : (k : ℕ) → k < n → (log : List E) → Each (λ e. caller_of e ≡ opener) log
           → [] ≡ entries_by caller_of k log
-      no_entry k lt log all = sym (entries_by_other caller_of OPENER k log (λ e. omega arith) all)
+      no_entry k lt log all = sym (entries_by_other caller_of opener k log (λ e. omega arith) all)
 
       all_owned : (m k : ℕ) → k + m ≤ n → Each (Owned seen (λ _. 0) 0) (shares_from k m seen)
       all_owned zero k le = tt

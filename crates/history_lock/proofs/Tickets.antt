@@ -8,10 +8,11 @@ use native.Mathlib.Decide.{ℕ_discrete}
 use Rattle.atomic_table.proofs.Lists.{set_else, at_longer, one_turn}
 use Rattle.history_lock.specs.declared.view.Share.{Share}
 use Rattle.history_lock.specs.declared.view.View.{View}
+use Rattle.history_lock.specs.Limits.{most_passes}
 use Rattle.history_lock.specs.Views.{Each, HasView, waiting, share_count}
-use Rattle.history_lock.specs.Rule.{TicketsAreInRange, OneIsServed, SlotIsRight, SpentIsIdle}
+use Rattle.history_lock.specs.Rule.{TicketsAreInRange, OneIsServed, SlotIsRight, SpentAreIdle}
 use Rattle.history_lock.proofs.Lists.{each_set, at_push, sum_by_lt}
-use Rattle.history_lock.proofs.Frames.{has_ticket, shares_of, same_view, waiting-set}
+use Rattle.history_lock.proofs.Frames.{has_ticket, shares_of, same_view, waiting-set, is_spent}
 
 -- one more after a remainder
 pub mod-step : (a : ℕ) → (a % 2 ^ 64 + 1) % 2 ^ 64 ≡ (a + 1) % 2 ^ 64
@@ -22,20 +23,20 @@ pub mod-shift : (s i : ℕ) → (s + (i + 1)) % 2 ^ 64 ≡ ((s + 1) % 2 ^ 64 + i
 mod-shift s i = omega arith
 
 -- two numbers of a short range are apart
-pub places_differ : (s i k : ℕ) → i < k → k ≤ 256 → (s + i) % 2 ^ 64 ≡ (s + k) % 2 ^ 64 → ⊥
+pub places_differ : (s i k : ℕ) → i < k → k ≤ most_passes → (s + i) % 2 ^ 64 ≡ (s + k) % 2 ^ 64 → ⊥
 places_differ s i k lt few e = let same : s + i ≡ s + k =
     one_turn (s + i) (s + k) 18446744073709551616 (omega arith) (omega arith) e in omega arith
 
 module _ {E : Type 0} where
   -- more shares than views with a ticket, where some view has a share and no ticket
-  pub waiting_lt : (n : ℕ) (views : List (View E)) (id : ℕ) (v : View E) (x : Share E) → HasView views id v
+  pub waiting_lt : (n : ℕ) (now : List E) (views : List (View E)) (id : ℕ) (v : View E) (x : Share E) → HasView views id v
       → v.shares ≡ x ∷ [] → v.ticket ≡ None
-      → SpentIsIdle views → share_count views ≡ n → waiting views < n
-  waiting_lt n views id v x at has idle spent once =
+      → SpentAreIdle now views → share_count views ≡ n → waiting views < n
+  waiting_lt n now views id v x at has idle spent once =
       let one_if : Option ℕ → ℕ = λ t. cond (is_some t) 1 0 in
       let none : has_ticket v ≡ 0 = ap one_if idle in let one : length v.shares ≡ 1 = ap length has in
       let lt : waiting views < share_count views =
-      sum_by_lt has_ticket shares_of views id v (λ j a h. bounded a a.shares refl (spent j a h)) at (omega arith) in
+      sum_by_lt has_ticket shares_of views id v (λ j a h. bounded a a.shares refl (λ none. (spent j a h none).no_ticket)) at (omega arith) in
       omega arith
     where
       bounded : (a : View E) (l : List (Share E)) → a.shares ≡ l → (a.shares ≡ [] → a.ticket ≡ None)
@@ -49,7 +50,7 @@ module _ {E : Type 0} where
   -- a view draws the next ticket
   pub tickets_drawn : (n ticket serving found : ℕ) (views : List (View E)) (id : ℕ) (v w : View E) → HasView views id v
       → v.ticket ≡ None → w.ticket ≡ Some found → found ≡ ticket
-      → n ≤ 256 → waiting views < n → TicketsAreInRange n ticket serving views
+      → n ≤ most_passes → waiting views < n → TicketsAreInRange n ticket serving views
       → TicketsAreInRange n ((found + 1) % 2 ^ 64) serving (set views id w)
   tickets_drawn n ticket serving found views id v w at idle drew is limit room r =
       let one_if : Option ℕ → ℕ = λ t. cond (is_some t) 1 0 in
@@ -143,11 +144,12 @@ module _ {E : Type 0} where
         one = λ i j a b h k is also. r.one i j a b (old i a h is) (old j b k also) is also;
       }
 
-  -- each view with no share still has no ticket once a view with no ticket is added
-  pub spent_push : (views : List (View E)) (w : View E) → w.ticket ≡ None → SpentIsIdle views
-      → SpentIsIdle (views ++ w ∷ [])
-  spent_push views w idle r j a h none =
-      ⊎_elim (λ o. r j a o none) (λ (q : (j ≡ length views) × (w ≡ a)). ap (λ (z : View E). z.ticket) (sym q.1) ∙ idle)
+  -- each view with no share is still spent once a view with no ticket is added
+  pub spent_push : (now : List E) (views : List (View E)) (w : View E) → w.ticket ≡ None → SpentAreIdle now views
+      → SpentAreIdle now (views ++ w ∷ [])
+  spent_push now views w idle r j a h none =
+      ⊎_elim (λ o. r j a o none) (λ (q : (j ≡ length views) × (w ≡ a)). is_spent now a none
+      (ap (λ (z : View E). z.ticket) (sym q.1) ∙ idle))
       (at_push views w a j h)
 
   module _ {Val : Type 0} (history : Val → List E) (now : List E) (homes : List (maybe.Option (Option Val))) where

@@ -1,4 +1,5 @@
 pub mod Entries
+pub mod Limits
 pub mod Views
 pub mod Rule
 pub mod Steps

@@ -8,9 +8,13 @@ use Rattle.history_lock.specs.declared.lock.HistoryLock.{HistoryLock}
 use Rattle.history_lock.specs.declared.view.Share.{Share}
 use Rattle.history_lock.specs.Views.{first_share}
 
+-- The name of a lock: that of its table.
+abbrev pub LockId : Type 0
+LockId = TableId
+
 module _ {Val E : Type 0} where
   -- Which lock it is.
-  abbrev pub lock_id : HistoryLock Val E → TableId
+  abbrev pub lock_id : HistoryLock Val E → LockId
   lock_id lock = lock.table.shared.table_id
 
   -- How many passes the lock was made with.
@@ -19,7 +23,7 @@ module _ {Val E : Type 0} where
 
 module _ {Val E : Type 0} {g : Ghosts Val E} where
   -- The lock whose pass it is.
-  abbrev pub lock_of : Pass Val E g → TableId
+  abbrev pub lock_of : Pass Val E g → LockId
   lock_of pass = pass.seat.table_id
 
   -- The number of the pass.
@@ -47,7 +51,7 @@ module _ {Val E : Type 0} {g : Ghosts Val E} where
   value_of inside = inside.value
 
   -- The lock that it is inside of.
-  abbrev pub inside_lock : Inside Val E g → TableId
+  abbrev pub inside_lock : Inside Val E g → LockId
   inside_lock inside = inside.turn.seat.table_id
 
   -- The number of the pass that is inside.
@@ -83,7 +87,7 @@ module _ {Val E : Type 0} {g : Ghosts Val E} where
     pub same_holds : holds after ≡ holds before
 
   -- A pass of this lock with this number, which has seen this history and has done nothing.
-  pub record IsFresh (lock : TableId) (number : ℕ) (history : List E) (pass : Pass Val E g) : Type 0 where
+  pub record IsFresh (lock : LockId) (number : ℕ) (history : List E) (pass : Pass Val E g) : Type 0 where
     pub its_lock : lock_of pass ≡ lock
     pub its_number : pass_number pass ≡ number
     pub all_seen : seen pass ≡ history
@@ -92,6 +96,6 @@ module _ {Val E : Type 0} {g : Ghosts Val E} where
     pub none_known : known pass ≡ 0
 
   -- The passes have the numbers from 0 on, in order, and are fresh.
-  abbrev pub AreFresh : TableId → List E → List (Pass Val E g) → Type 0
+  abbrev pub AreFresh : LockId → List E → List (Pass Val E g) → Type 0
   AreFresh lock history passes =
       (k : ℕ) (pass : Pass Val E g) → slice_get passes k ≡ Some pass → IsFresh lock k history pass

@@ -5,9 +5,9 @@ use mathlib.Core.List.{IsPrefix}
 use Rattle.atomic_table.specs.Table.{State}
 use Rattle.history_lock.specs.declared.view.Share.{Share}
 use Rattle.history_lock.specs.declared.view.View.{View}
-use Rattle.history_lock.specs.declared.grows.TheConstants.{OPENER}
+use Rattle.history_lock.specs.Limits.{most_passes, opener}
 use Rattle.history_lock.specs.Entries.{entries_by}
-use Rattle.history_lock.specs.Views.{Each, AtLeastOne, HasView, waiting, share_count}
+use Rattle.history_lock.specs.Views.{Each, AtLeastOne, HasView, view_own, view_seen, waiting, share_count}
 
 -- The words are the next ticket, the ticket that is served, the count of entries, and how often a wake was called.
 abbrev pub AreWords : List ℕ → ℕ → ℕ → ℕ → ℕ → Type 0
@@ -45,7 +45,7 @@ module _ {E : Type 0} where
         × AtLeastOne (λ (x : Share E). x.number ≡ k) v.shares
     pub own : (j : ℕ) (v : View E) → HasView views j v → Each (IsKeptShare caller_of n now keeper j) v.shares
     pub once : share_count views ≡ n
-    pub others : Each (λ (e : E). (caller_of e < n) ⊎ (caller_of e ≡ OPENER)) now
+    pub others : Each (λ (e : E). (caller_of e < n) ⊎ (caller_of e ≡ opener)) now
 
   -- At most one view is served, and its ticket is the one that is served.
   pub record OneIsServed (serving : ℕ) (views : List (View E)) : Type 0 where
@@ -62,9 +62,15 @@ module _ {E : Type 0} where
     pub out : (j : ℕ) (v : View E) → HasView views j v → v.served ≡ true
         → (homes ≡ maybe.none ∷ []) × Each (λ (x : Share E). x.seen ≡ now) v.shares
 
-  -- A view with no share, as it is left once its pass was taken in, has no ticket.
-  abbrev pub SpentIsIdle : List (View E) → Type 0
-  SpentIsIdle views = (j : ℕ) (v : View E) → HasView views j v → v.shares ≡ [] → v.ticket ≡ None
+  -- A view is spent: it has no ticket, no entry of its own, and has seen the beginning of `now`.
+  pub record IsSpent (now : List E) (v : View E) : Type 0 where
+    pub no_ticket : v.ticket ≡ None
+    pub none_own : view_own v ≡ []
+    pub begins_now : IsPrefix (view_seen v) now
+
+  -- A view with no share, as it is left once its pass was taken in, is spent.
+  abbrev pub SpentAreIdle : List E → List (View E) → Type 0
+  SpentAreIdle now views = (j : ℕ) (v : View E) → HasView views j v → v.shares ≡ [] → IsSpent now v
 
   -- The rule of a lock with n passes. `now` is the history, which `count` counts.
   pub record IsKept {Val : Type 0} (history : Val → List E) (caller_of : E → ℕ) (n : ℕ)
@@ -74,11 +80,11 @@ module _ {E : Type 0} where
     pub serving : ℕ
     pub calls : ℕ
     pub keeper : ℕ → ℕ
-    pub limit : n ≤ 256
+    pub limit : n ≤ most_passes
     pub words : AreWords s.words ticket serving (length now) calls
     pub tickets : TicketsAreInRange n ticket serving s.views
     pub longest : NowIsLongest now s.views
     pub numbers : NumbersAreKept caller_of n now keeper s.views
     pub served : OneIsServed serving s.views
     pub slot : SlotIsRight history now s.homes s.views
-    pub spent : SpentIsIdle s.views
+    pub spent : SpentAreIdle now s.views

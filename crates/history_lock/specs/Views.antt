@@ -22,6 +22,14 @@ module _ {E : Type 0} where
   first_share [] = record { number = 0; seen = []; own = [] }
   first_share (x ∷ xs) = x
 
+  -- What a view has seen: the seen list of its first share, and nothing where it has none.
+  abbrev pub view_seen : View E → List E
+  view_seen v = (first_share v.shares).seen
+
+  -- The own list of a view in the same way.
+  abbrev pub view_own : View E → List E
+  view_own v = (first_share v.shares).own
+
   -- The shares behind the first.
   abbrev pub further_shares : List (Share E) → List (Share E)
   further_shares [] = []

@@ -1,10 +1,11 @@
 //! How a lock is opened for good.
 ghost use Rattle.std.specs.Prelude.{◌≡◌, ◌⊎◌, ℕ, ◌<◌, ◌↔◌, [], All, Any, IfErr, IfOk, IsErr, None, false, map, vec_len};
 ghost use mathlib.Core.List.{IsPrefix};
+ghost use Rattle.history_lock.specs.Limits.{opener};
 ghost use Rattle.history_lock.specs.Entries.{entries_by};
 ghost use Rattle.history_lock.specs.Passes.{lock_id, lock_of, own, pass_count, pass_number, seen, share_of};
 
-use crate::grows::{Grows, OPENER};
+use crate::grows::Grows;
 use crate::lock::HistoryLock;
 use crate::pass::Pass;
 use crate::plays::TakeIn;
@@ -51,7 +52,7 @@ impl<V: Grows> HistoryLock<V> {
         // Each number below n is that of a pass that was given, and all other entries are the opener's.
         ensures numbers { IfOk result (λ _. (k : ℕ) → k < pass_count self → Any (λ p. pass_number p ≡ k) passes.items) }
         ensures others { IfOk result (λ value. All
-            (λ e. (V.caller_of e < pass_count self) ⊎ (V.caller_of e ≡ OPENER)) (V.history value)) }
+            (λ e. (V.caller_of e < pass_count self) ⊎ (V.caller_of e ≡ opener)) (V.history value)) }
     {
         if passes.len() < self.passes as usize {
             return Err(NotAll { lock: self, passes });

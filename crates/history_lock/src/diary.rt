@@ -1,8 +1,8 @@
 //! A value that grows, as small as can be: a list of notes. It shows what a caller of `leave` owes, and the tests
 //! use it.
-ghost use Rattle.std.specs.Prelude.{◌≡◌, ◌+◌, ◌++◌, ◌∷◌, [], if◌then◌else◌};
-ghost use mathlib.Core.List.{IsPrefix};
-ghost use Rattle.history_lock.specs.Passes.{holds, lock_id, lock_of, own, pass_number, seen};
+ghost use Rattle.std.specs.Prelude.{◌≡◌, ◌∷◌, [], if◌then◌else◌};
+ghost use Rattle.history_lock.specs.Holds.{Stands};
+ghost use Rattle.history_lock.specs.Passes.{lock_id, lock_of, pass_number};
 
 use crate::grows::Grows;
 use crate::lock::HistoryLock;
@@ -42,11 +42,8 @@ pub(crate) fn add_note(
     page: u32,
 ) -> (Pass<Diary>, bool)
     requires { lock_of pass ≡ lock_id lock.now }
-    ensures own { own result.0
-        ≡ (if result.1 then own pass ++ (record { caller = pass_number pass; page = page }) ∷ [] else own pass) }
-    ensures seen { IsPrefix (seen pass) (seen result.0) }
-    ensures holds { holds result.0 ≡ holds pass + 1 }
-    ensures same { (lock_of result.0 ≡ lock_of pass) × (pass_number result.0 ≡ pass_number pass) }
+    ensures { Stands pass result.0 (λ at added. added
+        ≡ (if result.1 then (record { caller = pass_number pass; page = page }) ∷ [] else [])) }
 {
     let mut inside = lock.enter(rt, pass);
     let caller = inside.number();

@@ -69,23 +69,7 @@ impl<V: Grows> HistoryLock<V> {
     /// Waits until the pass is let in, and gives it the value. It takes no memory.
     pub fn enter<R: Wait>(&self, rt: &R, pass: Pass<V>) -> Inside<V>
         requires { lock_of pass ≡ lock_id self.now }
-
-        // The history that is found begins with all that the pass has seen.
-        ensures seen { IsPrefix (seen pass) (V.history (value_of result)) }
-
-        // Its entries of this caller are just the pass's own, in order.
-        ensures own { entries_by V.caller_of (pass_number pass) (V.history (value_of result)) ≡ own pass }
-
-        // It has at least as many entries as the pass knows of.
-        ensures known { known pass ≤ length (V.history (value_of result)) }
-
-        ensures holds { inside_holds result ≡ holds pass + 1 }
-        ensures found { found result ≡ V.history (value_of result) }
-        // Only others have added to the history since the pass has seen it.
-        ensures entered { IsEntered pass result }
-
-        ensures same { (inside_lock result ≡ lock_of pass) × (inside_number result ≡ pass_number pass)
-            × (inside_own result ≡ own pass) × (inside_known result ≡ known pass) }
+        ensures { IsEntered pass result }
     {
         let (number, known, mut seat) = pass.into_parts();
         let steps = &self.table.shared;
@@ -105,18 +89,7 @@ impl<V: Grows> HistoryLock<V> {
     pub fn leave(&self, inside: Inside<V>) -> Pass<V>
         requires lock { inside_lock inside ≡ lock_id self.now }
         requires grown { IsGrownBy V.caller_of (inside_number inside) (found inside) (V.history (value_of inside)) }
-
-        // The pass has seen the history that it left.
-        ensures seen { seen result ≡ V.history (value_of inside) }
-
-        // Its own list is longer by what was added in this hold.
-        ensures own { (added : List V.Entry) → V.history (value_of inside) ≡ found inside ++ added
-            → own result ≡ inside_own inside ++ added }
-
-        ensures left { IsLeft inside result }
-
-        ensures same { (lock_of result ≡ inside_lock inside) × (pass_number result ≡ inside_number inside)
-            × (holds result ≡ inside_holds inside) × (known result ≡ inside_known inside) }
+        ensures { IsLeft inside result }
     {
         let Inside { value, turn } = inside;
         let Turn {

@@ -2,7 +2,7 @@
 ghost use Rattle.std.specs.Prelude.{◌≡◌, ℕ, List, length};
 
 /// The caller's number of an entry that stood in the history before the lock was made. No pass has it.
-pub const OPENER: u32 = 4294967295;
+pub const OPENER: u32 = 4_294_967_295;
 
 /// A value that has a history: a list of entries, each with its caller's number.
 pub trait Grows {

@@ -14,6 +14,8 @@
 //! | `HistoryLock::close` | the value comes exactly where all passes are given, and its history fits each of them |
 //! | `Inside::value`, `Inside::value_mut` | the value inside, and what a write through it leaves |
 //!
+//! `opener_is_that_of_the_rules` says what number `OPENER` is.
+//!
 //! `specs/Rule.antt` has the rule that holds between any two steps, and `specs/Steps.antt` what each kind of step
 //! tells.
 #![tactic(auto)]
@@ -23,6 +25,7 @@ mod diary;
 mod entering;
 mod grows;
 mod inside;
+mod laws;
 mod lends;
 mod lock;
 mod making;
@@ -37,6 +40,7 @@ mod view;
 pub use closing::NotAll;
 pub use grows::{Grows, OPENER};
 pub use inside::Inside;
+pub use laws::opener_is_that_of_the_rules;
 pub use lock::HistoryLock;
 pub use making::make;
 pub use pass::Pass;

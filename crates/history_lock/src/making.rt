@@ -1,9 +1,10 @@
 //! How a lock is made, with its passes.
 ghost use Rattle.std.specs.Prelude.{◌≡◌, ◌<◌, ◌≤◌, [], ◌∷◌, All, IfErr, IfOk, Some, vec_capacity, vec_len};
+ghost use Rattle.history_lock.specs.Limits.{most_passes, opener};
 ghost use Rattle.history_lock.specs.Passes.{lock_id, pass_count, AreFresh};
 ghost use Rattle.history_lock.specs.Views.{first_share, opening_view};
 
-use crate::grows::{Grows, OPENER};
+use crate::grows::Grows;
 use crate::lock::HistoryLock;
 use crate::pass::Pass;
 use crate::plays::Deal;
@@ -17,7 +18,7 @@ fn deal<V: Grows>(steps: &Steps<V>, seat: LockSeat<V>, passes: Vec<Pass<V>>, n: 
     requires table { (seat.table_id ≡ steps.now.table_id) × (steps.now.table_id.words ≡ 4) }
     requires all { (seat.me.0 ≡ opening_view n (first_share seat.me.0.shares).seen) × (seat.me.1 ≡ []) × (0 < n) }
     requires room { (passes.items ≡ []) × (n ≤ vec_capacity passes) }
-    requires opener { (n ≤ 256) × All (λ e. V.caller_of e ≡ OPENER) (first_share seat.me.0.shares).seen }
+    requires opener { (n ≤ most_passes) × All (λ e. V.caller_of e ≡ opener) (first_share seat.me.0.shares).seen }
     ensures count { vec_len result ≡ n }
     ensures fresh { AreFresh seat.table_id (first_share seat.me.0.shares).seen result.items }
 {
@@ -53,8 +54,8 @@ fn one_slot<V>(alloc: Global, value: V) -> Result<Vec<Option<V>>, V>
 
 /// Makes a lock round the value, with `n` passes, 1 to 256. The value comes back for want of memory alone.
 pub fn make<V: Grows>(alloc: Global, value: V, n: u32) -> Result<(HistoryLock<V>, Vec<Pass<V>>), V>
-    requires passes { (0 < n) × (n ≤ 256) }
-    requires opener { All (λ e. V.caller_of e ≡ OPENER) (V.history value) }
+    requires passes { (0 < n) × (n ≤ most_passes) }
+    requires opener { All (λ e. V.caller_of e ≡ opener) (V.history value) }
     ensures lock { IfOk result (λ r. pass_count r.0 ≡ n) }
 
     // The passes have the numbers from 0 on. Each has seen the history that the value brought, and has done nothing.

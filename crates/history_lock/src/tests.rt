@@ -1,5 +1,6 @@
 //! The calls at a concrete type, a diary, on one thread and on several.
 ghost use Rattle.std.specs.Prelude.{◌≡◌, ◌<◌, ◌≤◌, [], All, IfOk, length, vec_len};
+ghost use Rattle.history_lock.specs.Limits.{most_passes};
 ghost use Rattle.history_lock.specs.Passes.{lock_id, lock_of};
 
 use super::*;
@@ -15,7 +16,7 @@ const PAGES: u32 = 1000;
 
 // A lock with n passes round an empty diary.
 fn open(alloc: Global, n: u32) -> Result<(HistoryLock<Diary>, Vec<Pass<Diary>>), AllocError>
-    requires { (0 < n) × (n ≤ 256) }
+    requires { (0 < n) × (n ≤ most_passes) }
     ensures count { IfOk result (λ r. vec_len r.1 ≡ n) }
     ensures theirs { IfOk result (λ r. All (λ p. lock_of p ≡ lock_id r.0) r.1.items) }
 {
@@ -66,7 +67,7 @@ fn fill_from_threads<R: Threads + Wait + Abort + Sync>(
     alloc: Global,
     n: u32,
 ) -> Result<(), AllocError>
-    requires { (0 < n) × (n ≤ 256) }
+    requires { (0 < n) × (n ≤ most_passes) }
 {
     let (lock, passes) = open(alloc, n)?;
     let shared = &lock;

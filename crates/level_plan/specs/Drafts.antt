@@ -10,7 +10,8 @@ use Rattle.level_plan.specs.declared.line.PlanLine.{PlanLine}
 use Rattle.level_plan.specs.declared.line.PlanLine.TheVariants as lines
 use Rattle.level_plan.specs.declared.line.PlanFault.{PlanFault}
 use Rattle.level_plan.specs.declared.line.PlanFault.TheVariants as faults
-use Rattle.level_plan.specs.declared.bounds.TheConstants.{FEWEST_SEATS, GREATEST_AMOUNT, MOST_LEVELS, MOST_SEATS, MOST_TABLES}
+use Rattle.rulebook.specs.Limits.{most_seats, most_tables}
+use Rattle.level_plan.specs.Limits.{fewest_seats, greatest_amount, most_levels}
 use Rattle.level_plan.specs.declared.plan.Blind.{Blind}
 use Rattle.level_plan.specs.Items.{is_between, is_blind, may_follow, are_levels, are_shares}
 use Rattle.level_plan.specs.Plans.{PlanTerms, unit_of_level}
@@ -47,20 +48,19 @@ item_of_line (lines.Seats n) = items.Seats
 item_of_line (lines.Stack n) = items.Stack
 item_of_line (lines.Buyin n) = items.Buyin
 item_of_line (lines.Late n) = items.Late
-item_of_line (lines.Blinds small big unit) = items.Blinds
+item_of_line (lines.Blinds blind) = items.Blinds
 item_of_line (lines.Shares shares) = items.Shares
 
 -- A line is wrong where its item was given before (blinds: 40 times), or where what it gives is not lawful.
 abbrev pub is_wrong_line : Draft → PlanLine → Bool
 is_wrong_line draft (lines.Game game) = is_some draft.game
-is_wrong_line draft (lines.Tables n) = is_some draft.tables || not (is_between 1 MOST_TABLES n)
-is_wrong_line draft (lines.Seats n) = is_some draft.seats || not (is_between FEWEST_SEATS MOST_SEATS n)
-is_wrong_line draft (lines.Stack n) = is_some draft.stack || not (is_between 1 GREATEST_AMOUNT n)
-is_wrong_line draft (lines.Buyin n) = is_some draft.buyin || nat_lt GREATEST_AMOUNT n
-is_wrong_line draft (lines.Late n) = is_some draft.late || not (is_between 1 MOST_LEVELS n)
-is_wrong_line draft (lines.Blinds small big unit) =
-    let blind : Blind = record { small = small; big = big; unit = unit } in
-    nat_le MOST_LEVELS (length draft.blinds) || not (is_blind blind && may_follow draft.blinds blind)
+is_wrong_line draft (lines.Tables n) = is_some draft.tables || not (is_between 1 most_tables n)
+is_wrong_line draft (lines.Seats n) = is_some draft.seats || not (is_between fewest_seats most_seats n)
+is_wrong_line draft (lines.Stack n) = is_some draft.stack || not (is_between 1 greatest_amount n)
+is_wrong_line draft (lines.Buyin n) = is_some draft.buyin || nat_lt greatest_amount n
+is_wrong_line draft (lines.Late n) = is_some draft.late || not (is_between 1 most_levels n)
+is_wrong_line draft (lines.Blinds blind) =
+    nat_le most_levels (length draft.blinds) || not (is_blind blind && may_follow draft.blinds blind)
 is_wrong_line draft (lines.Shares shares) = is_some draft.shares || not (are_shares shares)
 
 -- The wrong item of a line, where the line is wrong.
@@ -75,8 +75,7 @@ draft_after draft (lines.Seats n) = record draft { seats = Some n }
 draft_after draft (lines.Stack n) = record draft { stack = Some n }
 draft_after draft (lines.Buyin n) = record draft { buyin = Some n }
 draft_after draft (lines.Late n) = record draft { late = Some n }
-draft_after draft (lines.Blinds small big unit) =
-    record draft { blinds = draft.blinds ++ record { small = small; big = big; unit = unit } ∷ [] }
+draft_after draft (lines.Blinds blind) = record draft { blinds = draft.blinds ++ blind ∷ [] }
 draft_after draft (lines.Shares shares) = record draft { shares = Some shares }
 
 -- The plan that the draft's items make, once none is missing.
@@ -123,11 +122,11 @@ is_lawful_if_given test given = option_map_or test given true
 
 -- Each item of a draft is lawful where it was given.
 pub record IsLawful (draft : Draft) : Type 0 where
-  pub tables : is_lawful_if_given (is_between 1 MOST_TABLES) draft.tables ≡ true
-  pub seats : is_lawful_if_given (is_between FEWEST_SEATS MOST_SEATS) draft.seats ≡ true
-  pub stack : is_lawful_if_given (is_between 1 GREATEST_AMOUNT) draft.stack ≡ true
-  pub buyin : is_lawful_if_given (λ n. nat_le n GREATEST_AMOUNT) draft.buyin ≡ true
-  pub late : is_lawful_if_given (is_between 1 MOST_LEVELS) draft.late ≡ true
+  pub tables : is_lawful_if_given (is_between 1 most_tables) draft.tables ≡ true
+  pub seats : is_lawful_if_given (is_between fewest_seats most_seats) draft.seats ≡ true
+  pub stack : is_lawful_if_given (is_between 1 greatest_amount) draft.stack ≡ true
+  pub buyin : is_lawful_if_given (λ n. nat_le n greatest_amount) draft.buyin ≡ true
+  pub late : is_lawful_if_given (is_between 1 most_levels) draft.late ≡ true
   pub levels : are_levels draft.blinds ≡ true
-  pub level_count : nat_le (length draft.blinds) MOST_LEVELS ≡ true
+  pub level_count : nat_le (length draft.blinds) most_levels ≡ true
   pub shares : is_lawful_if_given are_shares draft.shares ≡ true

@@ -2,16 +2,12 @@
 use Rattle.std.specs.Prelude.{ℕ, ◌-◌, ◌*◌, ◌%◌, Bool, true, ◌==◌, ◌&&◌, nat_le, List, [], ◌∷◌, length, drop, sum, slice_get}
 use Rattle.std.specs.List.{list_any, list_all, zip}
 use Rattle.std.specs.Option.{option_map_or}
-use Rattle.level_plan.specs.declared.bounds.TheConstants.{GREATEST_AMOUNT, MOST_SHARES, WHOLE_POOL}
+use Rattle.level_plan.specs.Limits.{greatest_amount, most_shares, whole_pool}
 use Rattle.level_plan.specs.declared.plan.Blind.{Blind}
 
 -- A number is from low to high, both included.
 abbrev pub is_between : ℕ → ℕ → ℕ → Bool
 is_between low high n = nat_le low n && nat_le n high
-
--- The greatest amount, by its name of old.
-abbrev pub greatest_amount : ℕ
-greatest_amount = GREATEST_AMOUNT
 
 -- A new unit is the one before times one of the whole numbers 1 to 6.
 abbrev pub is_next_unit : ℕ → ℕ → Bool
@@ -24,7 +20,7 @@ is_blind blind =
     nat_le 1 blind.unit
     && (nat_le 1 blind.small
     && (nat_le blind.small blind.big
-    && (nat_le blind.big GREATEST_AMOUNT
+    && (nat_le blind.big greatest_amount
     && (blind.small % blind.unit == 0 && blind.big % blind.unit == 0))))
 
 -- The first level may have any unit, and each later one has a unit that may come next after that of the last level
@@ -39,8 +35,8 @@ is_falling numbers = list_all (λ pair. nat_le pair.1 pair.0) (zip numbers (drop
 
 -- 1 to 64 shares, each 1 to 1000, none greater than the one before, and together at most 1000.
 abbrev pub are_shares : List ℕ → Bool
-are_shares shares = is_between 1 MOST_SHARES (length shares)
-    && (list_all (is_between 1 WHOLE_POOL) shares && (is_falling shares && nat_le (sum shares) WHOLE_POOL))
+are_shares shares = is_between 1 most_shares (length shares)
+    && (list_all (is_between 1 whole_pool) shares && (is_falling shares && nat_le (sum shares) whole_pool))
 
 -- Levels in a row: the blinds of each are lawful, and its unit may come next after that of the level before.
 abbrev pub are_levels : List Blind → Bool

@@ -2,7 +2,8 @@
 use Rattle.std.specs.Prelude.{ℕ, ◌-◌, ◌%◌, Bool, ◌==◌, ◌&&◌, nat_le, List, length, slice_get}
 use Rattle.std.specs.Option.{option_map_or}
 use Rattle.card_set.specs.declared.game.Game.{Game}
-use Rattle.level_plan.specs.declared.bounds.TheConstants.{FEWEST_SEATS, GREATEST_AMOUNT, MOST_LEVELS, MOST_SEATS, MOST_TABLES}
+use Rattle.rulebook.specs.Limits.{most_seats, most_tables}
+use Rattle.level_plan.specs.Limits.{fewest_seats, greatest_amount, most_levels}
 use Rattle.level_plan.specs.declared.plan.Blind.{Blind}
 use Rattle.level_plan.specs.Items.{is_between, are_levels, are_shares}
 
@@ -25,12 +26,12 @@ unit_of_level blinds level = option_map_or (λ blind. blind.unit) (slice_get bli
 -- level's unit.
 abbrev pub is_right : PlanTerms → Bool
 is_right plan =
-    is_between 1 MOST_TABLES plan.tables
-    && (is_between FEWEST_SEATS MOST_SEATS plan.seats
-    && (is_between 1 GREATEST_AMOUNT plan.stack
-    && (nat_le plan.buyin GREATEST_AMOUNT
+    is_between 1 most_tables plan.tables
+    && (is_between fewest_seats most_seats plan.seats
+    && (is_between 1 greatest_amount plan.stack
+    && (nat_le plan.buyin greatest_amount
     && (is_between 1 (length plan.blinds) plan.late
-    && (nat_le (length plan.blinds) MOST_LEVELS
+    && (nat_le (length plan.blinds) most_levels
     && (are_levels plan.blinds
     && (are_shares plan.shares
     && plan.stack % unit_of_level plan.blinds plan.late == 0)))))))

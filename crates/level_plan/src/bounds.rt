@@ -1,13 +1,7 @@
 //! The bounds of a plan's items.
 
-/// The most tables of a tournament.
-pub const MOST_TABLES: u64 = 64;
-
 /// The fewest seats of a table.
 pub const FEWEST_SEATS: u64 = 2;
-
-/// The most seats of a table.
-pub const MOST_SEATS: u64 = 10;
 
 /// The greatest stack, buy-in, blind and unit, in chips.
 pub const GREATEST_AMOUNT: u64 = 1_000_000_000;

@@ -3,6 +3,7 @@
 ghost use Rattle.std.specs.Prelude.{◌≡◌, ◌<◌, ◌≤◌, ◌^◌, sum, nat_le};
 ghost use Rattle.std.specs.List.{list_all};
 ghost use Rattle.level_plan.specs.Items.{is_between, is_next_unit, is_blind, may_follow, is_falling, are_shares};
+ghost use Rattle.level_plan.specs.Limits.{whole_pool};
 ghost use Rattle.level_plan.specs.Plans.{unit_of_level};
 
 use crate::bounds::{GREATEST_AMOUNT, MOST_SHARES, WHOLE_POOL};
@@ -66,7 +67,7 @@ fn is_falling(numbers: &[u64]) -> bool
 
 /// Tells whether each share is 1 to 1000 thousandths.
 fn are_thousandths(shares: &[u64]) -> bool
-    ensures { result ≡ list_all (is_between 1 WHOLE_POOL) shares.now }
+    ensures { result ≡ list_all (is_between 1 whole_pool) shares.now }
 {
     shares.iter().all(|share| is_between(1, WHOLE_POOL, *share))
 }
@@ -74,7 +75,7 @@ fn are_thousandths(shares: &[u64]) -> bool
 /// Tells whether the shares are together at most the whole pool, 1000.
 fn is_within_pool(shares: &[u64]) -> bool
     requires { sum shares.now < 2 ^ 64 }
-    ensures { result ≡ nat_le (sum shares.now) WHOLE_POOL }
+    ensures { result ≡ nat_le (sum shares.now) whole_pool }
 {
     shares.iter().sum::<u64>() <= WHOLE_POOL
 }

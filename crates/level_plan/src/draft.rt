@@ -2,15 +2,17 @@
 
 ghost use Rattle.std.specs.Prelude.{◌≡◌, ◌<◌, false, true, [], ◌∷◌, ◌++◌, length, IsTrue, OnOk, OnErr, IfOk, IfErr, None};
 ghost use Rattle.level_plan.specs.Items.{is_blind, may_follow, are_shares};
+ghost use Rattle.level_plan.specs.Limits.{most_levels};
 ghost use Rattle.level_plan.specs.Drafts.{empty_draft, is_wrong_line, item_of_line, line_fault, draft_after, go_fault, plan_of, IsFault};
 ghost use Rattle.level_plan.specs.Plans.{is_right};
 
-use crate::bounds::{FEWEST_SEATS, GREATEST_AMOUNT, MOST_LEVELS, MOST_SEATS, MOST_TABLES};
+use crate::bounds::{FEWEST_SEATS, GREATEST_AMOUNT, MOST_LEVELS};
 use crate::checks::{are_shares, is_between, is_blind, may_follow, unit_of_level};
 use crate::line::{PlanFault, PlanItem, PlanLine};
 use crate::plan::{Blind, Plan};
 use card_set::Game;
 use floor_text::List;
+use rulebook::{MOST_SEATS, MOST_TABLES};
 use std::alloc::{AllocError, Global};
 use std::marker::Model;
 
@@ -76,14 +78,9 @@ impl PlanDraft {
             PlanLine::Stack(n) => self.stack.is_some() || !is_between(1, GREATEST_AMOUNT, *n),
             PlanLine::Buyin(n) => self.buyin.is_some() || *n > GREATEST_AMOUNT,
             PlanLine::Late(n) => self.late.is_some() || !is_between(1, MOST_LEVELS as u64, *n),
-            PlanLine::Blinds { small, big, unit } => {
-                let blind = Blind {
-                    small: *small,
-                    big: *big,
-                    unit: *unit,
-                };
+            PlanLine::Blinds(blind) => {
                 let blinds = self.blinds.items();
-                blinds.len() >= MOST_LEVELS || !(is_blind(blind) && may_follow(blinds, blind))
+                blinds.len() >= MOST_LEVELS || !(is_blind(*blind) && may_follow(blinds, *blind))
             }
             PlanLine::Shares(shares) => self.shares.is_some() || !are_shares(shares.items()),
         }
@@ -91,7 +88,7 @@ impl PlanDraft {
 
     /// Adds the next level. Want of memory leaves the draft as it was.
     fn add_level(&mut self, blind: Blind) -> Result<(), AllocError>
-        requires room { length self.old.blinds < MOST_LEVELS }
+        requires room { length self.old.blinds < most_levels }
         requires lawful { is_blind blind ≡ true }
         requires follows { may_follow self.old.blinds blind ≡ true }
         ensures ok { OnOk result (self.new ≡ record self.old { blinds = self.old.blinds ++ blind ∷ [] }) }
@@ -125,11 +122,7 @@ impl PlanDraft {
             PlanLine::Stack(n) => self.stack = Some(*n),
             PlanLine::Buyin(n) => self.buyin = Some(*n),
             PlanLine::Late(n) => self.late = Some(*n),
-            PlanLine::Blinds { small, big, unit } => self.add_level(Blind {
-                small: *small,
-                big: *big,
-                unit: *unit,
-            })?,
+            PlanLine::Blinds(blind) => self.add_level(*blind)?,
             PlanLine::Shares(shares) => self.set_shares(shares)?,
         }
         Ok(())

@@ -13,9 +13,7 @@ mod plan;
 #[cfg(test)]
 mod tests;
 
-pub use bounds::{
-    FEWEST_SEATS, GREATEST_AMOUNT, MOST_LEVELS, MOST_SEATS, MOST_SHARES, MOST_TABLES, WHOLE_POOL,
-};
+pub use bounds::{FEWEST_SEATS, GREATEST_AMOUNT, MOST_LEVELS, MOST_SHARES, WHOLE_POOL};
 pub use draft::PlanDraft;
 pub use line::{PlanFault, PlanItem, PlanLine};
 pub use plan::{Blind, Plan};

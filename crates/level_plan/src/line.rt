@@ -3,6 +3,7 @@
 ghost use Rattle.std.specs.Prelude.{◌≡◌};
 ghost use Rattle.level_plan.specs.declared.line.PlanFault.TheVariants.{NoMemory};
 
+use crate::plan::Blind;
 use card_set::Game;
 use floor_text::List;
 use std::alloc::{AllocError, AllocFailed};
@@ -49,15 +50,8 @@ pub enum PlanLine {
     Buyin(u64),
     /// The last level at which a player may enter, from 1.
     Late(u64),
-    /// The next level: its small and its big blind, and the unit of its chips.
-    Blinds {
-        /// The small blind, in chips.
-        small: u64,
-        /// The big blind, in chips.
-        big: u64,
-        /// The smallest denomination in play.
-        unit: u64,
-    },
+    /// The next level: its blinds, and the unit of its chips.
+    Blinds(Blind),
     /// The shares of the prizes from the first place on, in thousandths of the pool.
     Shares(List<u64>),
 }
@@ -76,7 +70,7 @@ impl PlanLine {
             PlanLine::Stack(_) => PlanItem::Stack,
             PlanLine::Buyin(_) => PlanItem::Buyin,
             PlanLine::Late(_) => PlanItem::Late,
-            PlanLine::Blinds { .. } => PlanItem::Blinds,
+            PlanLine::Blinds(_) => PlanItem::Blinds,
             PlanLine::Shares(_) => PlanItem::Shares,
         }
     }

@@ -1,4 +1,4 @@
-use crate::{PlanDraft, PlanFault, PlanItem, PlanLine};
+use crate::{Blind, PlanDraft, PlanFault, PlanItem, PlanLine};
 use card_set::Game;
 use floor_text::List;
 use std::alloc::{AllocError, Global};
@@ -11,11 +11,11 @@ fn shares(alloc: Global, numbers: &[u64]) -> Result<PlanLine, AllocError> {
 
 /// A level whose blinds are its unit and twice its unit.
 fn level(unit: u64) -> PlanLine {
-    PlanLine::Blinds {
+    PlanLine::Blinds(Blind {
         small: unit,
         big: unit.saturating_mul(2),
         unit,
-    }
+    })
 }
 
 /// A plan's lines but for one item: two levels of units 25 and 100, and entries to this level.
@@ -91,7 +91,7 @@ fn blinds_are_multiples_of_their_unit(rt: HostRuntime) {
         (25, 60, 25, false),
         (u64::MAX, u64::MAX, u64::MAX, false),
     ] {
-        let line = PlanLine::Blinds { small, big, unit };
+        let line = PlanLine::Blinds(Blind { small, big, unit });
         assert!(rt; takes(rt.alloc(), &line) == is_right, "{line:?}");
     }
 }

@@ -26,6 +26,13 @@ pub fn the_next_place_counts_those_who_tie()
         → place_of entries busts other ≡ place_of entries busts one + tied busts one }
 {}
 
+/// Says that a later entry moves each place by one: with one entry more and the same list, each player who is out is
+/// placed one lower.
+pub fn a_later_entry_moves_each_place_by_one()
+    ensures { (entries : ℕ) (busts : List Bust) (bust : Bust) → length busts ≤ entries
+        → place_of (entries + 1) busts bust ≡ place_of entries busts bust + 1 }
+{}
+
 /// Says that all prizes of a tournament that is over, in which one player is left, sum to the pool: a buy-in for each
 /// entry.
 pub fn all_prizes_sum_to_the_pool()

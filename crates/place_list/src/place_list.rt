@@ -2,6 +2,7 @@
 
 ghost use Rattle.std.specs.Prelude.{◌≡◌, ◌<◌, ◌≤◌, ◌==◌, ◌^◌, [], ◌∷◌, ◌++◌, false, IfOk, OnOk, length, map, sum};
 ghost use Rattle.std.specs.List.{list_any};
+ghost use Rattle.rulebook.specs.Limits.{most_entries};
 ghost use Rattle.place_list.specs.Standings.{standings_of, standing_of, winner_of};
 ghost use Rattle.place_list.specs.Orders.{Placed};
 
@@ -23,14 +24,14 @@ impl Model for PlaceList {
     ghost use Rattle.std.specs.Prelude.{◌≡◌, ◌==◌, ◌≤◌, true, List, length, map};
     ghost use Rattle.std.specs.Vec.{vec_capacity};
     ghost use Rattle.rulebook.specs.Pairs.{are_distinct};
-    ghost use Rattle.rulebook.specs.declared.limits.TheConstants.{MOST_ENTRIES};
+    ghost use Rattle.rulebook.specs.Limits.{most_entries};
     ghost use Rattle.place_list.specs.declared.bust.Bust.{Bust};
 
     ghost Value = { List Bust };
 
     ghost view = { λ list. list.busts.items };
 
-    ghost invariant = { λ list. (MOST_ENTRIES ≤ vec_capacity list.busts) × (length list.busts.items ≤ MOST_ENTRIES)
+    ghost invariant = { λ list. (most_entries ≤ vec_capacity list.busts) × (length list.busts.items ≤ most_entries)
         × (are_distinct (λ one other. one == other) (map (λ bust. bust.player) list.busts.items) ≡ true) };
 }
 
@@ -47,7 +48,7 @@ impl PlaceList {
     /// Puts a player on the list: his stack in chips at the start of his last hand, and the group that he goes out in.
     /// It takes no memory.
     pub fn bust(&mut self, player: u32, stack: u64, group: u64)
-        requires room { length self.old < MOST_ENTRIES }
+        requires room { length self.old < most_entries }
         requires once { list_any (λ bust. bust.player == player) self.old ≡ false }
         ensures { self.new ≡ self.old ++ record { player = player; stack = stack; group = group } ∷ [] }
     {
@@ -58,8 +59,8 @@ impl PlaceList {
         });
     }
 
-    /// Tells whether this player is out.
-    pub fn is_out(&self, player: u32) -> bool
+    /// Tells whether this player is bust: he is on the list.
+    pub fn is_bust(&self, player: u32) -> bool
         ensures { result ≡ list_any (λ bust. bust.player == player) self.now }
     {
         self.busts.iter().any(|bust| bust.player == player)
@@ -68,7 +69,7 @@ impl PlaceList {
     /// Tells how many players are out.
     pub fn len(&self) -> u32
         ensures len { result ≡ length self.now }
-        ensures most { result ≤ MOST_ENTRIES }
+        ensures most { result ≤ most_entries }
     {
         self.busts.len() as u32
     }
@@ -91,7 +92,7 @@ impl PlaceList {
         buyin: u64,
         shares: &[u64],
     ) -> Result<Vec<Standing>, AllocError>
-        requires entries { entries ≤ MOST_ENTRIES }
+        requires entries { entries ≤ most_entries }
         requires buyin { buyin ≤ 1000000000 }
         requires shares { sum shares.now ≤ 1000 }
         ensures { IfOk result (λ standings. standings.items ≡ standings_of entries last buyin shares.now self.now) }
@@ -132,8 +133,8 @@ fn add_standings(
     prizes: &[u64],
 ) -> Result<(), AllocError>
     requires placed { Placed busts.now }
-    requires most { length busts.now ≤ MOST_ENTRIES }
-    requires entries { entries ≤ MOST_ENTRIES }
+    requires most { length busts.now ≤ most_entries }
+    requires entries { entries ≤ most_entries }
     requires fits { sum prizes.now < 2 ^ 63 }
     ensures { OnOk result (standings.new.items
         ≡ standings.old.items ++ map (standing_of entries prizes.now busts.now) busts.now) }

@@ -1,9 +1,9 @@
 //! The prizes of the places.
 
 ghost use Rattle.std.specs.Prelude.{◌≡◌, ◌+◌, ◌*◌, ◌<◌, ◌≤◌, ◌^◌, IfOk, sum, take, drop};
+ghost use Rattle.rulebook.specs.Limits.{most_entries};
 ghost use Rattle.place_list.specs.Prizes.{part_of, pool_of, first_gets, prizes_of, equal_share};
 
-use rulebook::MOST_ENTRIES;
 use std::alloc::{AllocError, Global};
 
 /// Gives the share in chips of money, rounded down, where `share` is in thousandths of the pool.
@@ -32,7 +32,7 @@ pub(crate) fn prizes_of(
     buyin: u64,
     shares: &[u64],
 ) -> Result<Vec<u64>, AllocError>
-    requires entries { entries ≤ MOST_ENTRIES }
+    requires entries { entries ≤ most_entries }
     requires buyin { buyin ≤ 1000000000 }
     requires shares { sum shares.now ≤ 1000 }
     ensures prizes { IfOk result (λ prizes. prizes.items ≡ prizes_of entries buyin shares.now) }

@@ -30,9 +30,9 @@ fn equal_stacks_share_a_place_and_its_prizes(rt: HostRuntime) -> Result<(), Fail
 #[test]
 fn a_late_entry_shifts_a_place(rt: HostRuntime) -> Result<(), Fail> {
     let mut list = PlaceList::new(rt.alloc())?;
-    assert!(rt; !list.is_out(2));
+    assert!(rt; !list.is_bust(2));
     list.bust(2, 100, 0);
-    assert!(rt; list.is_out(2));
+    assert!(rt; list.is_bust(2));
     let before = list.standings(rt.alloc(), 3, None, 100, &[500, 300, 200])?;
     assert_eq!(rt; before.as_slice(), [at(2, 3, 60)].as_slice());
     let after = list.standings(rt.alloc(), 4, None, 100, &[500, 300, 200])?;
@@ -102,7 +102,7 @@ fn sixty_four_places_are_paid(rt: HostRuntime) -> Result<(), Fail> {
 }
 
 #[test]
-fn nobody_is_out(rt: HostRuntime) -> Result<(), Fail> {
+fn nobody_is_bust(rt: HostRuntime) -> Result<(), Fail> {
     let list = PlaceList::new(rt.alloc())?;
     assert!(rt; list.is_empty());
     let standings = list.standings(rt.alloc(), 2, None, 100, &[1000])?;

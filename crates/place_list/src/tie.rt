@@ -1,12 +1,12 @@
 //! Players who tie.
 
 ghost use Rattle.std.specs.Prelude.{◌≡◌, ◌<◌, ◌≤◌, length, slice_index_or, drop};
+ghost use Rattle.rulebook.specs.Limits.{most_entries};
 ghost use Rattle.place_list.specs.declared.bust.Bust.{Bust};
 ghost use Rattle.place_list.specs.TiedAtHead.{tied_at_head};
 
 use crate::Bust;
 use crate::order::ties;
-use rulebook::MOST_ENTRIES;
 
 /// The players of a list in the order of their places who tie, next to one another.
 #[derive(Clone, Copy, Debug)]
@@ -44,7 +44,7 @@ impl Tie {
     /// Gives the players who tie with the one at an index, where `self` is the tie of the one before.
     pub(crate) fn next(self, busts: &[Bust], index: usize) -> Tie
         requires within { index < length busts.now }
-        requires most { length busts.now ≤ MOST_ENTRIES }
+        requires most { length busts.now ≤ most_entries }
         requires placed { Placed busts.now }
         requires before { IsTieBefore busts.now self index }
         ensures { IsTieAt busts.now result index }

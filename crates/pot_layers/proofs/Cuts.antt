@@ -10,11 +10,11 @@ use Rattle.rulebook.proofs.Passing.{list_any-none}
 use Rattle.rulebook.proofs.Tests.{list_all-always}
 use Rattle.pot_layers.specs.declared.put.Put.{Put}
 use Rattle.pot_layers.specs.declared.pot_list.Pot.{Pot}
-use Rattle.pot_layers.specs.declared.standing.Standing.{Standing}
+use Rattle.pot_layers.specs.declared.reach.Reach.{Reach}
 use Rattle.pot_layers.specs.Layers.{is_eligible, live_payers, greatest_put, is_contested, pots_to, layers}
 use Rattle.pot_layers.specs.Tallies.{total_put, total_to}
 use Rattle.pot_layers.specs.PotTests.{are_whole_pots, are_whole_puts}
-use Rattle.pot_layers.specs.Standings.{puts_of, standing_of, is_above, nearer}
+use Rattle.pot_layers.specs.Reaches.{puts_of, reach_of, is_above, nearer}
 use Rattle.pot_layers.proofs.ListTests.{reverse-cons}
 use Rattle.pot_layers.proofs.Heights.{is_within, is_live_at, live_at-passes, pays-none_above, total_to-grows, total_to-greatest, greatest_put-most}
 use Rattle.pot_layers.proofs.Stretches.{pot_of, IsTop, next-cut, above-top}
@@ -22,56 +22,56 @@ use Rattle.pot_layers.proofs.Units.{total_to-whole, total_put-whole, there-whole
 use Rattle.pot_layers.proofs.Nearest.{stands_at, nearest-found, none-above, above-falls, outside-puts_of, within-puts_of, there-puts_of}
 
 -- The heights up to one are cut.
-pub record IsCut (standings : List Standing) (pots : List Pot) (below total : ℕ) : Type 0 where
-  pub so_far : pots ≡ reverse (pots_to (puts_of standings) below)
-  pub paid : total ≡ total_to (puts_of standings) below
-  pub top : (below ≡ 0) ⊎ IsTop (puts_of standings) below
-  pub units : (unit : ℕ) → are_whole_puts unit (puts_of standings) ≡ true
+pub record IsCut (reaches : List Reach) (pots : List Pot) (below total : ℕ) : Type 0 where
+  pub so_far : pots ≡ reverse (pots_to (puts_of reaches) below)
+  pub paid : total ≡ total_to (puts_of reaches) below
+  pub top : (below ≡ 0) ⊎ IsTop (puts_of reaches) below
+  pub units : (unit : ℕ) → are_whole_puts unit (puts_of reaches) ≡ true
       → (are_whole_pots unit pots ≡ true) × (total % unit ≡ 0)
-  pub room : length pots + count_by (is_above below) standings ≤ 10
+  pub room : length pots + count_by (is_above below) reaches ≤ 10
 
 -- What is known once the nearest live player above is found.
-pub record CutsNext (standings : List Standing) (pots : List Pot) (below paid : ℕ) (next : Standing) : Type 0 where
+pub record CutsNext (reaches : List Reach) (pots : List Pot) (below paid : ℕ) (next : Reach) : Type 0 where
   pub higher : below < next.put.amount
   pub more : paid ≤ next.total
-  pub fewer : count_by (is_above next.put.amount) standings < count_by (is_above below) standings
-  pub cut : IsCut standings (pots ++ pot_of (next.total - paid) (live_payers (puts_of standings) next.put.amount) ∷ [])
+  pub fewer : count_by (is_above next.put.amount) reaches < count_by (is_above below) reaches
+  pub cut : IsCut reaches (pots ++ pot_of (next.total - paid) (live_payers (puts_of reaches) next.put.amount) ∷ [])
       next.put.amount next.total
 
 -- A player's total is what is put in up to his height.
-stands_right : List Put → Standing → Bool
-stands_right puts standing = standing.total == total_to puts standing.put.amount
+stands_right : List Put → Reach → Bool
+stands_right puts reach = reach.total == total_to puts reach.put.amount
 
-all-stand_right : (puts all : List Put) → list_all (stands_right all) (map (standing_of all) puts) ≡ true
+all-stand_right : (puts all : List Put) → list_all (stands_right all) (map (reach_of all) puts) ≡ true
 unfolding stands_right
-all-stand_right puts all = list_all-map (stands_right all) (standing_of all) puts
-    ∙ list_all-always (λ put. stands_right all (standing_of all put)) puts
+all-stand_right puts all = list_all-map (stands_right all) (reach_of all) puts
+    ∙ list_all-always (λ put. stands_right all (reach_of all put)) puts
     (λ put. eq-eqb (total_to all put.amount) (total_to all put.amount) refl)
 
-right-total : (puts : List Put) (standing : Standing) → stands_right puts standing ≡ true
-    → standing.total ≡ total_to puts standing.put.amount
+right-total : (puts : List Put) (reach : Reach) → stands_right puts reach ≡ true
+    → reach.total ≡ total_to puts reach.put.amount
 unfolding stands_right
-right-total puts standing is = eqb-true standing.total (total_to puts standing.put.amount) is
+right-total puts reach is = eqb-true reach.total (total_to puts reach.put.amount) is
 
 -- The nearest live player above cuts the next pot.
-pub cuts-next : (standings : List Standing) (pots : List Pot) (below paid : ℕ) (next : Standing)
-    → standings ≡ map (standing_of (puts_of standings)) (puts_of standings) → IsCut standings pots below paid
-    → fold (nearer below) None standings ≡ Some next → CutsNext standings pots below paid next
-cuts-next standings pots below paid next right cut found =
-    let puts = puts_of standings in
-    let all_right : list_all (stands_right puts) standings ≡ true =
-    subst (λ (s : List Standing). list_all (stands_right puts) s ≡ true) (sym right) (all-stand_right puts puts) in
-    let nearest = nearest-found (stands_right puts) below None standings next
+pub cuts-next : (reaches : List Reach) (pots : List Pot) (below paid : ℕ) (next : Reach)
+    → reaches ≡ map (reach_of (puts_of reaches)) (puts_of reaches) → IsCut reaches pots below paid
+    → fold (nearer below) None reaches ≡ Some next → CutsNext reaches pots below paid next
+cuts-next reaches pots below paid next right cut found =
+    let puts = puts_of reaches in
+    let all_right : list_all (stands_right puts) reaches ≡ true =
+    subst (λ (s : List Reach). list_all (stands_right puts) s ≡ true) (sym right) (all-stand_right puts puts) in
+    let nearest = nearest-found (stands_right puts) below None reaches next
     (λ before was. absurd cc) all_right found in
     let higher = ltb-true below next.put.amount
     (and_parts next.put.live (nat_lt below next.put.amount) nearest.above).1 in
-    let there : list_any (stands_at next.put.amount) standings ≡ true =
+    let there : list_any (stands_at next.put.amount) reaches ≡ true =
     elim nearest.there [ inl none ↦ absurd cc | inr some ↦ some ] in
     let total = right-total puts next nearest.passes in
-    let fewer = above-falls standings below next.put.amount higher there in
-    let stands : list_any (is_live_at next.put.amount) puts ≡ true = there-puts_of standings next.put.amount there in
+    let fewer = above-falls reaches below next.put.amount higher there in
+    let stands : list_any (is_live_at next.put.amount) puts ≡ true = there-puts_of reaches next.put.amount there in
     let pot = next-cut puts below next.put.amount cut.top higher
-    (outside-puts_of standings below next.put.amount nearest.least) stands in
+    (outside-puts_of reaches below next.put.amount nearest.least) stands in
     let pot_is : pot_of (total_to puts next.put.amount - total_to puts below) (live_payers puts next.put.amount)
     ≡ pot_of (next.total - paid) (live_payers puts next.put.amount) = rw (total, cut.paid) in
     record {
@@ -114,31 +114,31 @@ cuts-next standings pots below paid next right cut found =
     }
 
 -- What is known once no live player is above.
-pub record IsWhole (standings : List Standing) (pots : List Pot) (total paid : ℕ) : Type 0 where
+pub record IsWhole (reaches : List Reach) (pots : List Pot) (total paid : ℕ) : Type 0 where
   pub below : List Pot
   pub last : Pot
   pub ends : pots ≡ below ++ last ∷ []
   pub least : paid ≤ total
   pub within : last.amount ≤ paid
-  pub all : below ++ record last { amount = last.amount + (total - paid) } ∷ [] ≡ layers (puts_of standings)
-  pub units : (unit : ℕ) → are_whole_puts unit (puts_of standings) ≡ true
-      → are_whole_pots unit (layers (puts_of standings)) ≡ true
+  pub all : below ++ record last { amount = last.amount + (total - paid) } ∷ [] ≡ layers (puts_of reaches)
+  pub units : (unit : ℕ) → are_whole_puts unit (puts_of reaches) ≡ true
+      → are_whole_pots unit (layers (puts_of reaches)) ≡ true
 
 -- Where no live player is above, what is left goes into the top pot.
-pub is-whole : (standings : List Standing) (pots : List Pot) (below paid total : ℕ) → IsCut standings pots below paid
-    → fold (nearer below) None standings ≡ None → is_contested (puts_of standings) ≡ true
-    → total ≡ total_put (puts_of standings) → IsWhole standings pots total paid
+pub is-whole : (reaches : List Reach) (pots : List Pot) (below paid total : ℕ) → IsCut reaches pots below paid
+    → fold (nearer below) None reaches ≡ None → is_contested (puts_of reaches) ≡ true
+    → total ≡ total_put (puts_of reaches) → IsWhole reaches pots total paid
 unfolding layers
-is-whole standings pots below paid total cut none contested whole = elim cut.top [
+is-whole reaches pots below paid total cut none contested whole = elim cut.top [
   | inl first ↦
-      let within = within-puts_of standings below (none-above below None standings none).1 in
-      let nobody : is_contested (puts_of standings) ≡ false =
-      list_any-none (is_within 0) (is_eligible 1) (puts_of standings)
+      let within = within-puts_of reaches below (none-above below None reaches none).1 in
+      let nobody : is_contested (puts_of reaches) ≡ false =
+      list_any-none (is_within 0) (is_eligible 1) (puts_of reaches)
       (λ put is. pays-none_above put.live put.amount 0 1 is (omega arith)) (rw first at within) in
       absurd (true≢false (sym contested ∙ nobody))
   | inr top ↦
-      let puts = puts_of standings in
-      let within = within-puts_of standings below (none-above below None standings none).1 in
+      let puts = puts_of reaches in
+      let within = within-puts_of reaches below (none-above below None reaches none).1 in
       let least = leb-true below (greatest_put puts)
       (live_at-passes (λ n. nat_le n (greatest_put puts)) below puts (greatest_put-most puts) top.there) in
       let all = above-top puts below (greatest_put puts) top within least in

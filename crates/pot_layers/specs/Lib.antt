@@ -1,6 +1,6 @@
 pub mod Layers
 pub mod PotTests
+pub mod Reaches
 pub mod Running
 pub mod Shares
-pub mod Standings
 pub mod Tallies

@@ -5,7 +5,7 @@ ghost use Rattle.pot_layers.specs.Layers.{layers, is_contested};
 ghost use Rattle.pot_layers.specs.PotTests.{total_of, live_seats, are_for, have_somebody, are_whole_pots, are_whole_puts};
 ghost use Rattle.pot_layers.specs.Tallies.{nothing_put, put_in_at, folded_at, total_put};
 
-use crate::standing::{Standing, fold, live_payers, nearest_above, put_in};
+use crate::reach::{Reach, fold, live_payers, nearest_above, put_in};
 use crate::{Pot, Pots, Put};
 use std::marker::Model;
 
@@ -16,7 +16,7 @@ const MOST_SEATS: usize = 10;
 /// running total. Contracts see the list of puts by seat: index 0 is seat 1.
 #[derive(Debug, Drop)]
 pub struct PotTally {
-    standings: [Standing; 10],
+    reaches: [Reach; 10],
     total: u64,
 }
 
@@ -26,12 +26,12 @@ impl Model for PotTally {
 
     ghost Value = { List Put };
 
-    ghost use Rattle.pot_layers.specs.Standings.{puts_of};
+    ghost use Rattle.pot_layers.specs.Reaches.{puts_of};
     ghost use Rattle.pot_layers.specs.Running.{IsRunning};
 
-    ghost view = { λ tally. puts_of tally.standings };
+    ghost view = { λ tally. puts_of tally.reaches };
 
-    ghost invariant = { λ tally. IsRunning tally.standings tally.total };
+    ghost invariant = { λ tally. IsRunning tally.reaches tally.total };
 }
 
 impl PotTally {
@@ -41,7 +41,7 @@ impl PotTally {
     {
         let put = Put::live(0);
         PotTally {
-            standings: [Standing { put, total: 0 }; MOST_SEATS],
+            reaches: [Reach { put, total: 0 }; MOST_SEATS],
             total: 0,
         }
     }
@@ -72,7 +72,7 @@ impl PotTally {
         if amount == 0 {
             return;
         }
-        put_in(&mut self.standings, seat as usize - 1, amount);
+        put_in(&mut self.reaches, seat as usize - 1, amount);
         self.total += amount;
     }
 
@@ -82,7 +82,7 @@ impl PotTally {
         requires last { seat ≤ 10 }
         ensures { self.new ≡ folded_at self.old (seat - 1) }
     {
-        fold(&mut self.standings, seat as usize - 1);
+        fold(&mut self.reaches, seat as usize - 1);
     }
 
     /// Gives the pots of what is put in so far.
@@ -97,11 +97,11 @@ impl PotTally {
         let mut pots = Pots::empty();
         let mut below = 0;
         let mut paid = 0;
-        while let Some(next) = nearest_above(&self.standings, below) {
+        while let Some(next) = nearest_above(&self.reaches, below) {
             let height = next.put.amount;
             pots.push(Pot {
                 amount: next.total - paid,
-                eligible: live_payers(&self.standings, height),
+                eligible: live_payers(&self.reaches, height),
             });
             below = height;
             paid = next.total;

@@ -1,4 +1,5 @@
 pub mod Checks
+pub mod Limits
 pub mod Pairs
 pub mod Search
 pub mod Seats

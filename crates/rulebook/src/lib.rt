@@ -3,13 +3,14 @@
 //!
 //! It stands on no other crate. Its definitions are plain lists and tests over them (`Seats`, `Search`, `Checks`,
 //! `Pairs`), and its lemmas are for the crates above; the functions here take one step from seat to seat.
-//! `search_is_the_walk` says that a search through people listed in rising seat is the walk round the table.
+//! `search_is_the_walk` says that a search through people listed in rising seat is the walk round the table, and
+//! `limits_are_the_rules` that the most entries are those of `Limits`.
 #![tactic(auto)]
 
 mod laws;
 mod limits;
 mod seat_order;
 
-pub use laws::search_is_the_walk;
-pub use limits::MOST_ENTRIES;
+pub use laws::{limits_are_the_rules, search_is_the_walk};
+pub use limits::{MOST_ENTRIES, MOST_SEATS, MOST_TABLES};
 pub use seat_order::{seat_after, seat_before};

@@ -3,7 +3,7 @@ use Rattle.std.proofs.Common.{◌≡◌, ◌∙◌, refl, sym, ap, ℕ, ◌+◌,
 use Rattle.std.specs.Prelude.{IfSome, IsSome}
 use Rattle.std.proofs.lemmas.Bool.{eqb-true, eq-eqb, cond-true}
 use Rattle.std.proofs.lemmas.List.{get_or_read}
-use Rattle.rulebook.specs.declared.limits.TheConstants.{MOST_ENTRIES}
+use Rattle.rulebook.specs.Limits.{most_entries}
 use Rattle.rulebook.proofs.Tests.{find-passes}
 use Rattle.seat_book.specs.declared.place.Place.{Place}
 use Rattle.seat_book.specs.declared.seated.Seated.{Seated}
@@ -21,29 +21,29 @@ use Rattle.seat_book.proofs.Keeping.{slot-read, found-number, count-kept, table-
 module _ {tables seats : ℕ} {slots : List (Option Seated)} {places : List (Option Place)} {counts : List ℕ}
     {statuses : List TableStatus} (kept : IsKept tables seats slots places counts statuses) where
   -- the place that is kept of a number is one that the tables have
-  pub place-read : (number : ℕ) (read : Option Place) → number < MOST_ENTRIES → read ≡ get_or places number read
+  pub place-read : (number : ℕ) (read : Option Place) → number < most_entries → read ≡ get_or places number read
       → IfSome read (IsPlaceOf tables seats)
   place-read number None entry is = tt
   place-read number (Some place) entry is =
-      let size : length places ≡ MOST_ENTRIES = kept.numbers in
+      let size : length places ≡ most_entries = kept.numbers in
       let here = found-number kept entry (sym (get_or_read places number (Some place) (omega (arith, size, entry)) is
       None)) in
       here.1.2
 
   -- the player of a number, by the place that is kept of it
-  pub number-read : (number : ℕ) (place : Place) (read : Option Place) → number < MOST_ENTRIES
+  pub number-read : (number : ℕ) (place : Place) (read : Option Place) → number < most_entries
       → read ≡ get_or places number read → read ≡ Some place
       → (seated : Seated) × ((player_of (players_in slots) number ≡ Some seated) × (seated.place ≡ place) × IsPlaceOf
       tables seats place × (get_or slots (slot_of seats place) None ≡ Some seated))
   number-read number place read entry is some =
-      let size : length places ≡ MOST_ENTRIES = kept.numbers in
+      let size : length places ≡ most_entries = kept.numbers in
       found-number kept entry (sym (get_or_read places number read (omega (arith, size, entry)) is None) ∙ some)
 
   -- a player sits down
   module _ (seated : Seated) (slot index count : ℕ) (at : IsPlaceOf tables seats seated.place)
       (slot_is : slot ≡ slot_of seats seated.place) where
     -- what holds of a seat book holds once a player who did not sit takes an empty seat
-    pub seat-keeps : index ≡ seated.place.table - 1 → count ≡ get_or counts index count → seated.player < MOST_ENTRIES
+    pub seat-keeps : index ≡ seated.place.table - 1 → count ≡ get_or counts index count → seated.player < most_entries
         → player_at (players_in slots) seated.place ≡ None → place_of (players_in slots) seated.player ≡ None
         → IsKept tables seats (set slots slot (Some seated)) (set places seated.player (Some seated.place))
         (set counts index (count + 1)) statuses
@@ -67,7 +67,7 @@ module _ {tables seats : ℕ} {slots : List (Option Seated)} {places : List (Opt
     in_slot = (slot-numbered tables seats number slots seated kept.stand kept.room found).1
 
     -- what holds of a seat book holds once a player has left his seat
-    pub lift-keeps : index ≡ seated.place.table - 1 → count ≡ get_or counts index count → number < MOST_ENTRIES
+    pub lift-keeps : index ≡ seated.place.table - 1 → count ≡ get_or counts index count → number < most_entries
         → IsKept tables seats (set slots slot None) (set places number None) (set counts index (count - 1)) statuses
     lift-keeps index_is read entry =
         let counted = count-kept index count kept at.table index_is read in

@@ -4,7 +4,7 @@ use Rattle.std.specs.Prelude.{not, find, option_map}
 use Rattle.std.specs.List.{list_all}
 use Rattle.std.proofs.lemmas.Bool.{and_from, and_parts, cases_eq, eqb-true, eq-eqb, ne_eqb, lt-ltb, ltb-true}
 use Rattle.std.proofs.lemmas.List.{length-replicate, get_or_read, set_split, get_or-replicate}
-use Rattle.rulebook.specs.declared.limits.TheConstants.{MOST_ENTRIES}
+use Rattle.rulebook.specs.Limits.{most_entries}
 use Rattle.rulebook.proofs.Repeats.{get_or-repeated}
 use Rattle.rulebook.proofs.Tests.{find-all}
 use Rattle.seat_book.specs.declared.place.Place.{Place}
@@ -16,7 +16,7 @@ use Rattle.seat_book.specs.Counts.{count_at}
 use Rattle.seat_book.specs.Tables.{fresh_status, status_at, IsStatusOf}
 use Rattle.seat_book.specs.Seatings.{is_entry, IsSeating}
 use Rattle.seat_book.specs.Kept.{slot_of, StandsIn, AllStand, IsKept}
-use Rattle.seat_book.proofs.Standing.{stand-empty, stand-moved, stand-take, stand-drop, stand-append, stand-ordered}
+use Rattle.seat_book.proofs.AllStand.{stand-empty, stand-moved, stand-take, stand-drop, stand-append, stand-ordered}
 use Rattle.rulebook.proofs.Passing.{none-find}
 use Rattle.seat_book.proofs.Splits.{front_of, back_of, players_in-split, players_in-set, stands-between, sit_down-between, lifted-between, with_stack-there}
 use Rattle.seat_book.proofs.Numbers.{have_not, list_all-parts, list_all-joined, apart-insert, apart-remove, place_of-with, place_of-without, count_at-with}
@@ -108,14 +108,14 @@ slot-read {tables} {seats} {slots} {places} {counts} {statuses} {place} slot rea
 
 -- a player who is found is an entry
 pub entry-found : (players : List Seated) (place : Place) (seated : Seated) → list_all is_entry players ≡ true
-    → player_at players place ≡ Some seated → seated.player < MOST_ENTRIES
-entry-found players place seated entries is = ltb-true seated.player MOST_ENTRIES
+    → player_at players place ≡ Some seated → seated.player < most_entries
+entry-found players place seated entries is = ltb-true seated.player most_entries
     (find-all (sits_in place) is_entry players seated is entries)
 
 -- what is kept of a number: the player, his place, and the slot that has him
 pub found-number : {tables seats : ℕ} {slots : List (Option Seated)} {places : List (Option Place)} {counts : List ℕ}
     {statuses : List TableStatus} {number : ℕ} {place : Place}
-    → IsKept tables seats slots places counts statuses → number < MOST_ENTRIES → get_or places number None ≡ Some place
+    → IsKept tables seats slots places counts statuses → number < most_entries → get_or places number None ≡ Some place
     → (seated : Seated) × ((player_of (players_in slots) number ≡ Some seated) × (seated.place ≡ place) × IsPlaceOf
     tables seats place × (get_or slots (slot_of seats place) None ≡ Some seated))
 found-number {tables} {seats} {slots} {places} {counts} {statuses} {number} {place} kept entry is = by_found
@@ -214,8 +214,8 @@ counts-less tables table other counts was now size at there is_was is_now =
 
 -- the kept places once one of them is written
 places-set : (places : List (Option Place)) (player number : ℕ) (new was now : Option Place)
-    → length places ≡ MOST_ENTRIES
-    → player < MOST_ENTRIES → get_or places number None ≡ was
+    → length places ≡ most_entries
+    → player < most_entries → get_or places number None ≡ was
     → now ≡ cond (player == number) new was → get_or (set places player new) number None ≡ now
 places-set places player number new was now size entry is_was is_now =
     elim (cases_eq player number) [
@@ -257,7 +257,7 @@ players-seated tables seats slots seated stand room at empty =
 pub kept-seated : (tables seats : ℕ) (slots : List (Option Seated)) (places : List (Option Place)) (counts : List ℕ)
     (statuses : List TableStatus) (seated : Seated)
     → IsKept tables seats slots places counts statuses → IsPlaceOf tables seats seated.place
-    → seated.player < MOST_ENTRIES
+    → seated.player < most_entries
     → player_at (players_in slots) seated.place ≡ None → place_of (players_in slots) seated.player ≡ None
     → IsKept tables seats (set slots (slot_of seats seated.place) (Some seated))
     (set places seated.player (Some seated.place)) (set counts (seated.place.table - 1)
@@ -284,7 +284,7 @@ kept-seated tables seats slots places counts statuses seated kept at entry empty
       stand = stand-set seats slot slots (Some seated) within kept.stand
           (record { table = at.table.first; first = at.first; last = at.last; here = refl }, tt);
       entries = rw now (list_all-joined is_entry front (seated ∷ back) entries.0
-          (and_from (is_entry seated) (list_all is_entry back) (lt-ltb seated.player MOST_ENTRIES entry) entries.1));
+          (and_from (is_entry seated) (list_all is_entry back) (lt-ltb seated.player most_entries entry) entries.1));
       apart = rw now (apart-insert front back seated (rw was at kept.apart) absent.0 absent.1);
       numbers = length-set places seated.player (Some seated.place) ∙ kept.numbers;
       found = λ number less. places-set places seated.player number (Some seated.place)
@@ -329,7 +329,7 @@ players-lifted tables seats slots seated stand room at apart is =
 pub kept-lifted : (tables seats : ℕ) (slots : List (Option Seated)) (places : List (Option Place)) (counts : List ℕ)
     (statuses : List TableStatus) (seated : Seated)
     → IsKept tables seats slots places counts statuses → IsPlaceOf tables seats seated.place
-    → seated.player < MOST_ENTRIES
+    → seated.player < most_entries
     → get_or slots (slot_of seats seated.place) None ≡ Some seated
     → IsKept tables seats (set slots (slot_of seats seated.place) None) (set places seated.player None)
     (set counts (seated.place.table - 1) (get_or counts (seated.place.table - 1) 0 - 1)) statuses
@@ -499,7 +499,7 @@ players_in-empty (suc count) = players_in-empty count
 
 -- the fields of a book where nobody sits
 pub kept-empty : (tables seats : ℕ) → 1 ≤ tables → tables ≤ 64 → 2 ≤ seats → seats ≤ 10
-    → IsKept tables seats (replicate (tables * seats) None) (replicate MOST_ENTRIES None) (replicate tables 0)
+    → IsKept tables seats (replicate (tables * seats) None) (replicate most_entries None) (replicate tables 0)
     (replicate tables fresh_status)
 kept-empty tables seats some_tables most_tables some_seats most_seats = record {
   some_tables = some_tables;
@@ -510,8 +510,8 @@ kept-empty tables seats some_tables most_tables some_seats most_seats = record {
   stand = stand-empty seats 0 (tables * seats);
   entries = ap (list_all is_entry) (players_in-empty (tables * seats));
   apart = ap are_apart (players_in-empty (tables * seats));
-  numbers = length-replicate {A = Option Place} MOST_ENTRIES None;
-  found = λ number less. get_or-replicate {A = Option Place} MOST_ENTRIES number None None less
+  numbers = length-replicate {A = Option Place} most_entries None;
+  found = λ number less. get_or-replicate {A = Option Place} most_entries number None None less
       ∙ sym (ap (λ players. place_of players number) (players_in-empty (tables * seats)));
   counted = length-replicate tables 0;
   full = λ table there. let within : table - 1 < tables = let first : 1 ≤ table = there.first in let last : table ≤

@@ -1,8 +1,9 @@
 pub mod PlaceOrder
-pub mod Standing
+pub mod AllStand
 pub mod Splits
 pub mod Numbers
 pub mod Slots
+pub mod MadeOfSlots
 pub mod Rows
 pub mod Keeping
 pub mod Calls

@@ -12,7 +12,7 @@ use Rattle.seat_book.specs.Places.{IsTableOf}
 use Rattle.seat_book.specs.Players.{players_in, sits_at, players_at}
 use Rattle.seat_book.specs.Counts.{count_at}
 use Rattle.seat_book.specs.Kept.{slot_of, StandsIn, AllStand}
-use Rattle.seat_book.proofs.Standing.{stand-take, stand-drop, stand-moved, list_all-stand, stands-table}
+use Rattle.seat_book.proofs.AllStand.{stand-take, stand-drop, stand-moved, list_all-stand, stands-table}
 use Rattle.rulebook.proofs.Passing.{filter-all, filter-none}
 
 -- the first slot of a table

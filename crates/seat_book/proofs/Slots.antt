@@ -13,7 +13,7 @@ use Rattle.seat_book.specs.Players.{players_in, sits_in, is_numbered, player_at,
 use Rattle.seat_book.specs.Seatings.{sits_within}
 use Rattle.seat_book.specs.Kept.{slot_of, StandsIn, AllStand}
 use Rattle.seat_book.proofs.PlaceOrder.{same-place}
-use Rattle.seat_book.proofs.Standing.{list_all-stand, stands-within}
+use Rattle.seat_book.proofs.AllStand.{list_all-stand, stands-within}
 use Rattle.seat_book.proofs.Splits.{front_of, back_of, players_in-split, StandsBetween, stands-between, player_at-empty, player_at-there}
 use Rattle.seat_book.proofs.Numbers.{found-append}
 

@@ -13,7 +13,7 @@ use Rattle.seat_book.specs.Places.{comes_before, IsPlaceOf}
 use Rattle.seat_book.specs.Players.{players_in, sits_in, is_numbered, player_at, sit_down, lifted, with_stack}
 use Rattle.seat_book.specs.Kept.{slot_of, AllStand}
 use Rattle.seat_book.proofs.PlaceOrder.{before-apart, before-other, before-back}
-use Rattle.seat_book.proofs.Standing.{stand-take, stand-drop, list_all-stand, stands-before, stands-after}
+use Rattle.seat_book.proofs.AllStand.{stand-take, stand-drop, list_all-stand, stands-before, stands-after}
 use Rattle.rulebook.proofs.Passing.{count_by-all, count_by-none, find-none, filter-all, map-fixed}
 
 -- the players in the slots before one

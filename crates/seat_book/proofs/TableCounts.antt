@@ -1,15 +1,19 @@
 -- The counts of the tables, as they are kept.
-use Rattle.std.proofs.Common.{◌≡◌, ◌∙◌, refl, sym, ap, ℕ, zero, suc, ◌-◌, ◌<◌, min, max, Bool, true, false, cond, ◌==◌, ◌&&◌, ◌||◌, List, [], ◌∷◌, map, length, get_or, Option, arith}
+use Rattle.std.proofs.Common.{◌≡◌, ◌∙◌, refl, sym, ap, ℕ, zero, suc, ◌+◌, ◌-◌, ◌<◌, ◌≤◌, min, max, drop, Bool, true, false, cond, ◌==◌, ◌&&◌, ◌||◌, List, [], ◌∷◌, map, length, get_or, Option, arith}
 use Rattle.std.specs.Prelude.{nat_lt, filter, fold}
-use Rattle.std.proofs.lemmas.Bool.{lt-ltb}
+use Rattle.std.specs.List.{list_any}
+use Rattle.std.proofs.Math.Bool.{and-false, and-true}
+use Rattle.std.proofs.lemmas.Bool.{lt-ltb, le-ltb}
 use Rattle.std.proofs.lemmas.Bool.Decides.{nat_tests}
-use Rattle.std.proofs.lemmas.List.{same_lists, get_or-map, length-map, get_or_default}
+use Rattle.std.proofs.lemmas.List.{same_lists, drop-map, get_or-map, length-map, get_or_default}
+use Rattle.rulebook.specs.Seats.{walk}
+use Rattle.rulebook.proofs.Tests.{list_any-made}
 use Rattle.rulebook.proofs.Walks.{get_or-walk, length-walk}
 use Rattle.seat_book.specs.declared.place.Place.{Place}
 use Rattle.seat_book.specs.declared.seated.Seated.{Seated}
 use Rattle.seat_book.specs.declared.table_status.TableStatus.{TableStatus}
 use Rattle.seat_book.specs.Players.{players_in}
-use Rattle.seat_book.specs.Counts.{count_at, table_numbers, open_counts, greatest_of, least_of, greatest_count, least_count}
+use Rattle.seat_book.specs.Counts.{count_at, is_open, table_numbers, open_counts, greatest_of, least_of, greatest_count, least_count}
 use Rattle.seat_book.specs.Kept.{IsKept}
 
 -- the counts that are kept are those of the tables, by number
@@ -98,3 +102,42 @@ pub least-kept : {tables seats : ℕ} {slots : List (Option Seated)} {places : L
     → fold lesser 0 counts ≡ least_count tables (players_in slots)
 least-kept {tables} {seats} {slots} {places} {counts} {statuses} kept = fold-lesser counts
     ∙ sym (ap least_of (open_counts-are kept))
+
+-- each number of a walk that counts up from one no lower is higher
+all-above : (test : ℕ → Bool) (number steps from : ℕ) → number ≤ from
+    → list_any (λ other. test other && nat_lt number other) (walk suc steps from) ≡ list_any test (walk suc steps from)
+all-above test number zero from low = refl
+all-above test number (suc steps) from low =
+    let above : nat_lt number (suc from) ≡ true = lt-ltb number (suc from) (omega (arith, low)) in
+    let here : (test (suc from) && nat_lt number (suc from)) ≡ test (suc from) =
+    ap (λ (b : Bool). test (suc from) && b) above ∙ and-true (test (suc from)) in
+    ap (λ (b : Bool). b || list_any (λ other. test other && nat_lt number other) (walk suc steps (suc from))) here
+    ∙ ap (λ (b : Bool). test (suc from) || b) (all-above test number steps (suc from) (omega (arith, low)))
+
+-- the numbers of a walk that counts up which are higher than another are those that are left without the first
+some-above : (test : ℕ → Bool) (steps from left : ℕ)
+    → list_any (λ other. test other && nat_lt (from + left) other) (walk suc steps from)
+    ≡ list_any test (drop left (walk suc steps from))
+some-above test steps from zero = all-above test (from + 0) steps from (omega arith)
+some-above test zero from (suc left) = refl
+some-above test (suc steps) from (suc left) =
+    let below : nat_lt (from + suc left) (suc from) ≡ false = le-ltb (from + suc left) (suc from) (omega arith) in
+    let next : from + suc left ≡ suc from + left = omega arith in
+    ap (λ (b : Bool). b || list_any (λ other. test other && nat_lt (from + suc left) other) (walk suc steps (suc from)))
+    (ap (λ (b : Bool). test (suc from) && b) below ∙ and-false (test (suc from)))
+    ∙ (ap (λ (n : ℕ). list_any (λ other. test other && nat_lt n other) (walk suc steps (suc from))) next
+    ∙ some-above test steps (suc from) left)
+
+-- a kept count behind those of so many tables is not 0 where an open table has a higher number
+pub open-above : {tables seats : ℕ} {slots : List (Option Seated)} {places : List (Option Place)} {counts : List ℕ}
+    {statuses : List TableStatus} (table : ℕ) → IsKept tables seats slots places counts statuses
+    → list_any (nat_lt 0) (drop table counts)
+    ≡ list_any (λ other. is_open (players_in slots) other && nat_lt table other) (table_numbers tables)
+open-above {tables} {seats} {slots} {places} {counts} {statuses} table kept =
+    let first : 0 + table ≡ table = omega arith in
+    ap (λ (counts : List ℕ). list_any (nat_lt 0) (drop table counts)) (counts-are kept)
+    ∙ (ap (list_any (nat_lt 0)) (drop-map (count_at (players_in slots)) table (table_numbers tables))
+    ∙ (list_any-made (nat_lt 0) (count_at (players_in slots)) (drop table (table_numbers tables))
+    ∙ (sym (some-above (is_open (players_in slots)) tables 0 table)
+    ∙ ap (λ (n : ℕ). list_any (λ other. is_open (players_in slots) other && nat_lt n other) (table_numbers tables))
+    first)))

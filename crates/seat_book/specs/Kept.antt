@@ -1,7 +1,7 @@
 -- How a seat book keeps its seating: a slot for each place of the tables, in order. This project's own.
 use Rattle.std.specs.Prelude.{◌≡◌, ◌≤◌, ◌<◌, ◌+◌, ◌-◌, ◌*◌, ℕ, suc, true, List, [], ◌∷◌, length, slice_index_or, Option, None, Some}
 use Rattle.std.specs.List.{list_all}
-use Rattle.rulebook.specs.declared.limits.TheConstants.{MOST_ENTRIES}
+use Rattle.rulebook.specs.Limits.{most_entries}
 use Rattle.seat_book.specs.declared.place.Place.{Place}
 use Rattle.seat_book.specs.declared.seated.Seated.{Seated}
 use Rattle.seat_book.specs.declared.table_status.TableStatus.{TableStatus}
@@ -42,8 +42,8 @@ pub record IsKept (tables seats : ℕ) (slots : List (Option Seated)) (places : 
   pub entries : list_all is_entry (players_in slots) ≡ true
   pub apart : are_apart (players_in slots) ≡ true
   -- the place of each number is kept
-  pub numbers : length places ≡ MOST_ENTRIES
-  pub found : (number : ℕ) → number < MOST_ENTRIES
+  pub numbers : length places ≡ most_entries
+  pub found : (number : ℕ) → number < most_entries
       → slice_index_or places number None ≡ place_of (players_in slots) number
   -- the count of each table is kept
   pub counted : length counts ≡ tables

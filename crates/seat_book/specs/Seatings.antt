@@ -1,11 +1,13 @@
 -- A seating: the tables, and who sits there. This project's own.
-use Rattle.std.specs.Prelude.{◌≡◌, ◌≤◌, ℕ, Bool, true, false, nat_lt, List, [], length, replicate}
-use Rattle.std.specs.List.{list_all}
-use Rattle.rulebook.specs.declared.limits.TheConstants.{MOST_ENTRIES}
+use Rattle.std.specs.Prelude.{◌≡◌, ◌≤◌, ℕ, Bool, true, false, ◌&&◌, nat_lt, List, [], length, replicate}
+use Rattle.std.specs.List.{list_all, list_any}
+use Rattle.std.specs.Option.{is_some}
+use Rattle.rulebook.specs.Limits.{most_entries}
 use Rattle.seat_book.specs.declared.seated.Seated.{Seated}
 use Rattle.seat_book.specs.declared.table_status.TableStatus.{TableStatus}
 use Rattle.seat_book.specs.Places.{is_place_of}
 use Rattle.seat_book.specs.Players.{are_in_order, are_apart}
+use Rattle.seat_book.specs.Counts.{is_open, table_numbers}
 use Rattle.seat_book.specs.Tables.{fresh_status, status_at, IsStatusOf}
 
 pub record Seating : Type 0 where
@@ -36,7 +38,7 @@ sits_within tables seats seated = is_place_of tables seats seated.place
 
 -- A player's number is one of those of 640 entries, from 0.
 abbrev pub is_entry : Seated → Bool
-is_entry seated = nat_lt seated.player MOST_ENTRIES
+is_entry seated = nat_lt seated.player most_entries
 
 -- What holds of a seating at every moment.
 pub record IsSeating (seating : Seating) : Type 0 where
@@ -57,3 +59,24 @@ pub record IsSeating (seating : Seating) : Type 0 where
   pub entries : list_all is_entry seating.players ≡ true
   -- and no two players have one number
   pub apart : are_apart seating.players ≡ true
+
+-- A chip race is pending at some table.
+abbrev pub is_race_pending : Seating → Bool
+is_race_pending seating = list_any (λ status. is_some status.race) seating.tables
+
+-- Some table plays a hand.
+abbrev pub is_any_playing : Seating → Bool
+is_any_playing seating = list_any (λ status. status.playing) seating.tables
+
+-- Some table has begun a hand in the round of hand-for-hand.
+abbrev pub is_any_begun : Seating → Bool
+is_any_begun seating = list_any (λ status. status.begun) seating.tables
+
+-- Hand-for-hand is on, and some table has begun in this round.
+abbrev pub is_round_open : Seating → Bool
+is_round_open seating = seating.hands && is_any_begun seating
+
+-- An open table has a higher number than this one.
+abbrev pub is_not_last : Seating → ℕ → Bool
+is_not_last seating table =
+    list_any (λ other. is_open seating.players other && nat_lt table other) (table_numbers seating.table_count)

@@ -1,14 +1,15 @@
 //! The seats of all tables.
 
-ghost use Rattle.std.specs.Prelude.{◌≡◌, ◌<◌, ◌≤◌, ◌*◌, ◌-◌, length, None, Some, IsSome, IfSome, IfOk, option_map};
+ghost use Rattle.std.specs.Prelude.{◌≡◌, ◌<◌, ◌≤◌, ◌*◌, ◌-◌, nat_lt, length, None, Some, IsSome, IfSome, IfOk, option_map};
+ghost use Rattle.std.specs.List.{list_any};
+ghost use Rattle.rulebook.specs.Limits.{most_entries};
 ghost use Rattle.button_blinds.specs.SeatSets.{seat_count, AreSeatsOf};
 ghost use Rattle.seat_book.specs.Places.{IsTableOf, IsPlaceOf};
 ghost use Rattle.seat_book.specs.Players.{players_in, player_at, player_of, place_of, players_at, taken_seats, sit_down, lifted, with_stack};
 ghost use Rattle.seat_book.specs.Counts.{count_at, greatest_count, least_count};
 ghost use Rattle.seat_book.specs.Tables.{status_at, with_status, IsStatusOf};
 ghost use Rattle.seat_book.specs.Kept.{slot_of};
-ghost use Rattle.std.specs.List.{list_any};
-ghost use Rattle.std.specs.Option.{is_some};
+ghost use Rattle.seat_book.specs.Seatings.{is_race_pending, is_any_playing, is_any_begun, is_round_open, is_not_last};
 
 use crate::{Place, Seated, TableStatus};
 use button_blinds::SeatSet;
@@ -66,6 +67,13 @@ fn table_index(table: u8) -> usize
     usize::from(table - 1)
 }
 
+/// Tells whether somebody sits at one of the tables with these counts.
+fn has_players(counts: &[u8]) -> bool
+    ensures { result ≡ list_any (nat_lt 0) counts.now }
+{
+    counts.iter().any(|count| *count > 0)
+}
+
 impl SeatBook {
     ghost use Rattle.seat_book.specs.Seatings.{empty_seating, IsSeating};
 
@@ -109,7 +117,7 @@ impl SeatBook {
 
     /// Seats the player of this number and name, with this stack in chips.
     pub fn seat(&mut self, player: u32, name: Name, place: Place, stack: u64)
-        requires entry { player < MOST_ENTRIES }
+        requires entry { player < most_entries }
         requires place { IsPlaceOf self.old.table_count self.old.seat_count place }
         requires empty { player_at self.old.players place ≡ None }
         requires stands { place_of self.old.players player ≡ None }
@@ -132,7 +140,7 @@ impl SeatBook {
 
     /// Gives the player of this number, who sits.
     fn seated(&self, player: u32) -> Seated
-        requires entry { player < MOST_ENTRIES }
+        requires entry { player < most_entries }
         requires sits { IsSome (place_of self.now.players player) }
         ensures player { player_of self.now.players player ≡ Some result }
         ensures place { IsPlaceOf self.now.table_count self.now.seat_count result.place }
@@ -143,7 +151,7 @@ impl SeatBook {
 
     /// Lifts the player of this number from his seat, and tells where he sat, and his stack in chips.
     pub fn lift(&mut self, player: u32) -> (Place, u64)
-        requires entry { player < MOST_ENTRIES }
+        requires entry { player < most_entries }
         requires sits { IsSome (place_of self.old.players player) }
         ensures same { self.new ≡ record self.old { players = lifted player self.old.players } }
         ensures place { place_of self.old.players player ≡ Some result.0 }
@@ -159,7 +167,7 @@ impl SeatBook {
 
     /// Tells where the player of this number sits, if he does.
     pub fn find(&self, player: u32) -> Option<Place>
-        requires { player < MOST_ENTRIES }
+        requires { player < most_entries }
         ensures place { result ≡ place_of self.now.players player }
         ensures within { IfSome result (IsPlaceOf self.now.table_count self.now.seat_count) }
     {
@@ -171,7 +179,7 @@ impl SeatBook {
         requires { IsPlaceOf self.now.table_count self.now.seat_count place }
         ensures player { result ≡ option_map (λ seated. (seated.player, seated.name, seated.stack))
             (player_at self.now.players place) }
-        ensures entry { IfSome result (λ seated. seated.0 < MOST_ENTRIES) }
+        ensures entry { IfSome result (λ seated. seated.0 < most_entries) }
     {
         let slot = slot_of(place, self.seat_count);
         let seated = self.slots[slot]?;
@@ -260,27 +268,40 @@ impl SeatBook {
         least
     }
 
-    /// Gives how the tables stand, by number.
-    pub fn statuses(&self) -> &[TableStatus]
-        ensures { result.now ≡ self.now.tables }
-    {
-        &self.statuses
-    }
-
     /// Tells whether a chip race is pending at some table.
     pub fn is_race_pending(&self) -> bool
-        ensures { result ≡ list_any (λ status. is_some status.race) self.now.tables }
+        ensures { result ≡ is_race_pending self.now }
     {
-        self.statuses
-            .iter()
-            .any(|status| status.race.is_some())
+        self.statuses.iter().any(|status| status.race.is_some())
     }
 
-    /// Tells whether some table has begun in the round of hand-for-hand that is open.
-    pub fn is_any_begun(&self) -> bool
-        ensures { result ≡ list_any (λ status. status.begun) self.now.tables }
+    /// Tells whether some table plays a hand.
+    pub fn is_any_playing(&self) -> bool
+        ensures { result ≡ is_any_playing self.now }
+    {
+        self.statuses.iter().any(|status| status.playing)
+    }
+
+    /// Tells whether some table has begun in the round of hand-for-hand.
+    fn is_any_begun(&self) -> bool
+        ensures { result ≡ is_any_begun self.now }
     {
         self.statuses.iter().any(|status| status.begun)
+    }
+
+    /// Tells whether hand-for-hand is on and some table has begun in this round.
+    pub fn is_round_open(&self) -> bool
+        ensures { result ≡ is_round_open self.now }
+    {
+        self.hands && self.is_any_begun()
+    }
+
+    /// Tells whether an open table has a higher number.
+    pub fn is_not_last(&self, table: u8) -> bool
+        requires { IsTableOf self.now.table_count table }
+        ensures { result ≡ is_not_last self.now table }
+    {
+        has_players(&self.counts[usize::from(table)..])
     }
 
     /// Tells how a table stands.

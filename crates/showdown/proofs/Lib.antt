@@ -7,3 +7,4 @@ pub mod SameSeats
 pub mod AllPots
 pub mod AwardLaws
 pub mod Each
+pub mod SoleWinner

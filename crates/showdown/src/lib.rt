@@ -1,6 +1,6 @@
 //! Who wins what at a showdown.
 //!
-//! It stands on card_set, hand_rank and low_rank for the hands, on rulebook and button_blinds for the seats, and on
+//! It stands on card_set, card_choices, hand_rank and low_rank for the hands, on rulebook and button_blinds for the seats, and on
 //! pot_layers for the pots. `award` says what each player is awarded of the pots, in all three games. `laws` has what
 //! holds of all awards.
 #![tactic(auto)]

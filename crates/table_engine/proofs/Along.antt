@@ -8,14 +8,14 @@ use Rattle.betting_round.specs.declared.act.Act.{Act}
 use Rattle.betting_round.specs.ActChecks.{act_refusal}
 use Rattle.table_engine.specs.declared.record.ActOf.{ActOf}
 use Rattle.table_engine.specs.declared.start.HandStart.{HandStart}
-use Rattle.table_engine.specs.Acts.{limits_of, refusal_in_seat, refusal_of_act}
+use Rattle.table_engine.specs.Acts.{limits_on, refusal_in_seat, refusal_of_act}
 use Rattle.table_engine.specs.Hands.{HandTerms, Streets, dealt_on, first_streets, has_ended, seat_of_name, street_now, streets_of, with_act, with_next_street}
-use Rattle.table_engine.specs.Plays.{IsLawfulPlay, are_lawful_after}
+use Rattle.table_engine.specs.Plays.{AreTimedAfter, IsLawfulPlay, are_lawful_after}
 use Rattle.table_engine.specs.Starts.{IsLawfulStart}
 use Rattle.table_engine.proofs.Plays.{lawful_play-more, lawful_play-none}
 use Rattle.table_engine.proofs.Refusals.{refused-in_seat, refused-without_seat}
 use Rattle.table_engine.proofs.Sound.{IsSound, sound-act, sound-first, sound-next, sound-play}
-use Rattle.table_engine.proofs.Standings.{streets-more, streets-none}
+use Rattle.table_engine.proofs.Running.{streets-more, streets-none}
 
 -- What holds before any act is kept where a street that has ended is followed by the next, and by each act that is not
 -- refused.
@@ -24,7 +24,7 @@ pub record IsKeptAlong (start : HandStart) (P : Streets → Type 0) : Type 0 whe
   pub next : (streets : Streets) (acts : ℕ) → IsSound start streets acts → has_ended (street_now streets) ≡ true
       → P streets → P (with_next_street start streets)
   pub act : (streets : Streets) (acts seat : ℕ) (act : Act) → IsSound start streets acts
-      → act_refusal (limits_of start.game) (street_now streets) seat act ≡ None
+      → act_refusal (limits_on start streets) (street_now streets) seat act ≡ None
       → P streets → P (with_act streets (record { seat = seat; act = act }))
 
 -- It is kept once every street has begun that may.
@@ -67,10 +67,11 @@ along-more start P before act (Some seat) lawful kept play holds free found =
 along-acts : (start : HandStart) (P : Streets → Type 0) (before acts : List ActOf) → IsLawfulStart start
     → IsKeptAlong start P
     → IsLawfulPlay (record { start = start; acts = before }) → P (streets_of (record { start = start; acts = before }))
-    → are_lawful_after start before acts ≡ true → P (streets_of (record { start = start; acts = before ++ acts }))
-along-acts start P before [] lawful kept play holds free =
+    → are_lawful_after start before acts ≡ true → AreTimedAfter start before acts
+    → P (streets_of (record { start = start; acts = before ++ acts }))
+along-acts start P before [] lawful kept play holds free timed =
     subst (λ (all : List ActOf). P (streets_of (record { start = start; acts = all }))) (sym (append-nil before)) holds
-along-acts start P before (act ∷ acts) lawful kept play holds free =
+along-acts start P before (act ∷ acts) lawful kept play holds free timed =
     let hand : HandTerms = record { start = start; acts = before } in
     let parts = and_parts (is_none (refusal_of_act hand act.name act.act))
     (are_lawful_after start (before ++ act ∷ []) acts) free in
@@ -78,7 +79,8 @@ along-acts start P before (act ∷ acts) lawful kept play holds free =
     let more = along-more start P before act (seat_of_name start act.name) lawful kept play holds accepted refl in
     let joined : (before ++ act ∷ []) ++ acts ≡ before ++ act ∷ acts = append_assoc before (act ∷ []) acts in
     subst (λ (all : List ActOf). P (streets_of (record { start = start; acts = all }))) joined
-    (along-acts start P (before ++ act ∷ []) acts lawful kept (lawful_play-more hand act play accepted) more parts.1)
+    (along-acts start P (before ++ act ∷ []) acts lawful kept (lawful_play-more hand act play accepted timed.0) more
+    parts.1 timed.1)
 
 -- It holds of the streets of every lawful play.
 pub kept-play : (hand : HandTerms) (P : Streets → Type 0) → IsLawfulStart hand.start → IsLawfulPlay hand
@@ -88,4 +90,4 @@ kept-play hand P lawful play kept =
     along-acts start P [] hand.acts lawful kept (lawful_play-none start)
     (subst (λ (streets : Streets). P streets) (sym (streets-none start))
     (along-dealt start P 3 (first_streets start) 0 lawful kept (sound-first start lawful) (omega arith) kept.first))
-    play.acts
+    play.acts play.timed

@@ -54,7 +54,7 @@ chips-players hand lawful play over =
     after ∙ sym stacks ∙ chips-after hand lawful play over ∙ start
 
 -- What a player gets, as the hand works it out.
-award-is : (hand : HandTerms) (player : StartSeat)
+pub award-is : (hand : HandTerms) (player : StartSeat)
     → award_in (awards_in_hand hand) player.seat (is_live hand player) ≡ award hand player
 award-is hand player =
     elim (cases_Bool (is_won_by_folds hand)) [ inl won ↦ rw won refl | inr many ↦ rw many refl ]
@@ -93,9 +93,9 @@ whole-at unit (first ∷ awards) (suc index) all =
 
 -- After a lawful play of a lawful start each stack is a multiple of the unit.
 pub stacks-whole : (hand : HandTerms) → IsLawfulStart hand.start → IsLawfulPlay hand
-    → list_all (λ (player : StartSeat). player.stack % hand.start.unit == 0) (players_after hand) ≡ true
+    → list_all (λ (player : StartSeat). player.stack % hand.start.blind.unit == 0) (players_after hand) ≡ true
 stacks-whole hand lawful play =
-    let unit = hand.start.unit in
+    let unit = hand.start.blind.unit in
     let sound = sound-play hand lawful play in
     list_all-map (λ (player : StartSeat). player.stack % unit == 0)
     (λ (player : StartSeat). with_stack player (stack_after_hand hand player)) hand.start.seats
@@ -112,13 +112,15 @@ stacks-whole hand lawful play =
     (gets-whole player)))
     lawful.stacks
   where
-    sole-whole : (live : Bool) → pot hand % hand.start.unit ≡ 0 → cond live (pot hand) 0 % hand.start.unit ≡ 0
+    sole-whole : (live : Bool) → pot hand % hand.start.blind.unit ≡ 0
+        → cond live (pot hand) 0 % hand.start.blind.unit ≡ 0
     sole-whole true whole = whole
-    sole-whole false whole = zero-mod hand.start.unit
+    sole-whole false whole = zero-mod hand.start.blind.unit
 
-    gets-whole : (player : StartSeat) → award hand player % hand.start.unit ≡ 0
+    gets-whole : (player : StartSeat) → award hand player % hand.start.blind.unit ≡ 0
     gets-whole player =
         elim (cases_Bool (is_won_by_folds hand)) [
           | inl won ↦ rw won (sole-whole (is_live hand player) (pot-whole hand lawful play))
-          | inr many ↦ rw many (whole-at hand.start.unit (showdown_awards hand) (player.seat - 1) (awards-whole hand))
+          | inr many ↦
+              rw many (whole-at hand.start.blind.unit (showdown_awards hand) (player.seat - 1) (awards-whole hand))
         ]

@@ -28,7 +28,7 @@ use Rattle.pot_layers.specs.declared.put.Put.{Put}
 use Rattle.pot_layers.specs.Layers.{is_contested, is_eligible}
 use Rattle.table_engine.specs.declared.start.HandStart.{HandStart}
 use Rattle.table_engine.specs.declared.start.StartSeat.{StartSeat}
-use Rattle.table_engine.specs.Acts.{limits_of}
+use Rattle.table_engine.specs.Acts.{limits_on}
 use Rattle.table_engine.specs.Hands.{HandTerms, StreetPlayed, Streets, first_street, first_streets, has_ended, is_over, later_street, players_by_seat, put_from, seated, street_now, street_of, streets_of, with_act, with_next_street}
 use Rattle.table_engine.specs.Plays.{IsLawfulPlay}
 use Rattle.table_engine.specs.Results.{is_won_by_folds, puts_in_hand}
@@ -96,7 +96,7 @@ alive-first start lawful =
     let count = sum-ones start.seats in
     let two = lawful.two in
     let big = (blinds-lawful start lawful).some in
-    let least = greatest-least start.big (λ (bettor : Bettor). bettor.put) first.bettors in
+    let least = greatest-least start.blind.big (λ (bettor : Bettor). bettor.put) first.bettors in
     let level = ap (λ (s : Street). s.level) began in
     record {
       some = omega arith;
@@ -317,20 +317,20 @@ due-many street seat due =
 
 -- An act that is not refused leaves somebody live, and what is paid is paid.
 alive-act : (start : HandStart) (streets : Streets) (acts seat : ℕ) (act : Act) → IsSound start streets acts
-    → act_refusal (limits_of start.game) (street_now streets) seat act ≡ None → IsAlive start streets
+    → act_refusal (limits_on start streets) (street_now streets) seat act ≡ None → IsAlive start streets
     → IsAlive start (with_act streets (record { seat = seat; act = act }))
 alive-act start streets acts seat act sound free alive =
     let street = street_now streets in
     let entry : SeatAct = record { seat = seat; act = act } in
-    let acting = who-acts (limits_of start.game) street seat act free in
+    let acting = who-acts (limits_on start streets) street seat act free in
     let now = acting.0 in
     let acted = acting.1 in
     let put_in = amount_of street.level now act in
     let after = moved put_in now act in
-    let is = placed-is (limits_of start.game) streets.last.start streets.last.acts entry now sound.right acted in
+    let is = placed-is (limits_on start streets) streets.last.start streets.last.acts entry now sound.right acted in
     let sums = sum_set (seat - 1) lives now after street.players acted.sits in
     let one : lives now ≡ 1 = ap (λ (b : Bool). cond b 1 0) acted.live in
-    let due = accepted-due (limits_of start.game) street seat act free in
+    let due = accepted-due (limits_on start streets) street seat act free in
     let many : (count_by (is_there is_live) street.players == 1) ≡ false = due-many street seat due in
     let count = count-lives street.players in
     let some = alive.some in

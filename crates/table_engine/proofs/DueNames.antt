@@ -15,8 +15,8 @@ use Rattle.betting_round.specs.WhoIsDue.{can_act, due_seat, player_at}
 use Rattle.betting_round.proofs.Turns.{due-can_act, due-low, due-may_check, due-may_fold, slot-there}
 use Rattle.table_engine.specs.declared.start.HandStart.{HandStart}
 use Rattle.table_engine.specs.declared.start.StartSeat.{StartSeat}
-use Rattle.table_engine.specs.Hands.{HandTerms, due_in_hand, due_name, name_in_seat, player_of, players_by_seat, seat_of_name, street_of}
-use Rattle.table_engine.specs.Acts.{act_in_time, limits_of, refusal_in_seat, refusal_of_time, time_act}
+use Rattle.table_engine.specs.Hands.{HandTerms, due_in_hand, due_name, name_in_seat, player_of, players_by_seat, seat_of_name, street_of, streets_of}
+use Rattle.table_engine.specs.Acts.{act_in_time, limits_on, refusal_in_seat, refusal_of_time, time_act}
 use Rattle.table_engine.proofs.BySeat.{along-there, some-at}
 use Rattle.table_engine.proofs.Starts.{player_of-seat}
 
@@ -115,8 +115,8 @@ time-allowed hand seat due = by_test (nat_lt (facing_in (street_of hand) seat).p
   where
     by_test : (short : Bool) → nat_lt (facing_in (street_of hand) seat).put (facing_in (street_of hand) seat).level
         ≡ short → refusal_in_seat hand (act_in_time hand seat) seat ≡ None
-    by_test true is = rw is (due-may_fold (limits_of hand.start.game) (street_of hand) seat due)
-    by_test false is = rw is (due-may_check (limits_of hand.start.game) (street_of hand) seat due is)
+    by_test true is = rw is (due-may_fold (limits_on hand.start (streets_of hand)) (street_of hand) seat due)
+    by_test false is = rw is (due-may_check (limits_on hand.start (streets_of hand)) (street_of hand) seat due is)
 
 -- The act that a called time makes, by the seat and the name that are due.
 pub time_act-is : (hand : HandTerms) (seat : ℕ) (name : List ℕ) → due_in_hand hand ≡ Some seat

@@ -15,8 +15,9 @@ pub mod Slots
 pub mod Sound
 pub mod Stacks
 pub mod StacksAfter
-pub mod Standings
+pub mod Running
 pub mod Starts
 pub mod Tabled
 pub mod TurnLaws
 pub mod WholeUnits
+mod Uncalled

@@ -1,32 +1,26 @@
 -- Betting does not depend on the deck of the start.
-use Rattle.std.proofs.Common.{◌≡◌, ◌∙◌, ℕ, zero, suc, true, false, List, [], ◌∷◌, ◌++◌, map, refl, ap}
-use Rattle.std.specs.Prelude.{Bool, not, Option, reverse, is_none, ◌&&◌}
+use Rattle.std.proofs.Common.{◌≡◌, ◌∙◌, ℕ, zero, suc, List, [], ◌∷◌, ◌++◌, map, refl, ap, sym}
+use Rattle.std.specs.Prelude.{not, Option, reverse}
 use Rattle.card_set.specs.declared.card.Card.{Card}
-use Rattle.floor_text.specs.declared.refusal.Refusal.{Refusal}
+use Rattle.card_set.specs.Decks.{IsDeck}
 use Rattle.betting_round.specs.StreetActs.{SeatAct}
 use Rattle.betting_round.specs.declared.act.Act.{Act}
-use Rattle.betting_round.specs.declared.act.Done.{Done}
 use Rattle.table_engine.specs.declared.record.ActOf.{ActOf}
 use Rattle.table_engine.specs.declared.start.HandStart.{HandStart}
 use Rattle.table_engine.specs.declared.start.StartSeat.{StartSeat}
-use Rattle.table_engine.specs.Hands.{HandTerms, Streets, all_dealt_on, by_seat, dealt_on, due_in_hand, due_name, first_streets, has_ended, is_over, put_in_hand, behind, street_now, street_of, streets_after, streets_of, with_act, with_next_street}
+use Rattle.table_engine.specs.Hands.{HandTerms, Streets, all_dealt_on, by_seat, dealt_on, due_name, first_streets, put_in_hand, street_now, streets_after, streets_of, with_act, with_next_street}
 use Rattle.floor_text.specs.declared.refusal.Refusal.TheVariants.{NotDealt}
 use Rattle.rulebook.specs.Checks.{first_that_holds}
 use Rattle.betting_round.specs.ActChecks.{seat_checks}
-use Rattle.table_engine.specs.Acts.{act_checks, acting_seat, done_of_act, is_dealt, limits_of, refusal_of_act, time_act}
+use Rattle.table_engine.specs.Acts.{act_checks, acting_seat, done_of_act, is_dealt, limits_on, refusal_of_act, time_act}
 use Rattle.std.specs.Prelude.{Some, None}
-use Rattle.std.specs.Option.{option_map_or}
-use Rattle.betting_round.specs.declared.bettor.Player.{Player}
-use Rattle.betting_round.specs.declared.street.Street.{Street}
-use Rattle.betting_round.specs.WhoIsDue.{player_in}
-use Rattle.showdown.specs.declared.live.Live.{Live}
-use Rattle.table_engine.specs.Deals.{board_of, tabled}
+use Rattle.table_engine.specs.Deals.{board_of}
 use Rattle.table_engine.specs.Hands.{is_live, players_by_seat}
-use Rattle.table_engine.specs.Results.{award, is_won_by_folds, live_in_hand, live_on, pot, put_at, puts_in_hand, showdown_awards, stack_after_hand, stacks_after_hand}
+use Rattle.table_engine.specs.Results.{live_in_hand, put_at, puts_in_hand, showdown_awards}
 use Rattle.showdown.specs.Awards.{awards_of}
 use Rattle.showdown.specs.Hands.{hands_of}
 use Rattle.pot_layers.specs.Layers.{layers}
-use Rattle.table_engine.specs.Plays.{are_lawful_after}
+use Rattle.table_engine.specs.Plays.{AreTimedAfter, IsLawfulPlay, are_lawful_after}
 use Rattle.table_engine.specs.Starts.{IsLawfulStart}
 
 -- A start with another deck.
@@ -64,7 +58,8 @@ pub refusal-deck : (hand : HandTerms) (deck : List Card) (name : List ℕ) (act 
     → refusal_of_act (redealt hand deck) name act ≡ refusal_of_act hand name act
 unfolding act_checks
 refusal-deck hand deck name act = ap (λ streets. first_that_holds ((NotDealt, not (is_dealt hand.start name))
-    ∷ seat_checks (limits_of hand.start.game) (street_now streets) (acting_seat hand name) act)) (streets-deck hand deck)
+    ∷ seat_checks (limits_on hand.start (streets_of hand)) (street_now streets) (acting_seat hand name) act))
+    (streets-deck hand deck)
 
 pub done-deck : (hand : HandTerms) (deck : List Card) (name : List ℕ) (act : Act)
     → done_of_act (redealt hand deck) name act ≡ done_of_act hand name act
@@ -79,15 +74,45 @@ pub lawful-deck : (start : HandStart) (deck : List Card) (before acts : List Act
     → are_lawful_after (with_deck start deck) before acts ≡ are_lawful_after start before acts
 lawful-deck start deck before [] = refl
 lawful-deck start deck before (act ∷ acts) =
-    rw (refusal-deck (record { start = start; acts = before }) deck act.name act.act,
-    lawful-deck start deck (before ++ act ∷ []) acts)
+    rw (
+      refusal-deck (record { start = start; acts = before }) deck act.name act.act,
+      lawful-deck start deck (before ++ act ∷ []) acts,
+    )
 
-pub start-deck : (start : HandStart) (deck : List Card) → IsLawfulStart start → IsLawfulStart (with_deck start deck)
-start-deck start deck lawful = record {
-  two = lawful.two; some_seats = lawful.some_seats; most_seats = lawful.most_seats; rising = lawful.rising;
-  within = lawful.within; numbers = lawful.numbers; entries = lawful.entries; names = lawful.names;
-  stacks = lawful.stacks; chips = lawful.chips; marks = lawful.marks; big = lawful.big; small = lawful.small;
+pub start-deck : (start : HandStart) (deck : List Card) → IsLawfulStart start → IsDeck deck
+    → IsLawfulStart (with_deck start deck)
+start-deck start deck lawful is = record {
+  two = lawful.two;
+  some_seats = lawful.some_seats;
+  most_seats = lawful.most_seats;
+  rising = lawful.rising;
+  within = lawful.within;
+  numbers = lawful.numbers;
+  entries = lawful.entries;
+  names = lawful.names;
+  stacks = lawful.stacks;
+  chips = lawful.chips;
+  marks = lawful.marks;
+  big = lawful.big;
+  small = lawful.small;
   blinds = lawful.blinds;
+  deck = is;
+}
+
+-- Acts that came by called times are those of called times, whatever the deck is.
+timed-deck : (start : HandStart) (deck : List Card) (before acts : List ActOf) → AreTimedAfter start before acts
+    → AreTimedAfter (with_deck start deck) before acts
+timed-deck start deck before [] timed = tt
+timed-deck start deck before (act ∷ acts) timed = (
+  λ by_time. timed.0 by_time ∙ sym (time-deck (record { start = start; acts = before }) deck),
+  timed-deck start deck (before ++ act ∷ []) acts timed.1,
+)
+
+-- A lawful play of a start is one of the start with another deck.
+pub play-deck : (hand : HandTerms) (deck : List Card) → IsLawfulPlay hand → IsLawfulPlay (redealt hand deck)
+play-deck hand deck play = record {
+  acts = lawful-deck hand.start deck [] hand.acts ∙ play.acts;
+  timed = timed-deck hand.start deck [] hand.acts play.timed;
 }
 
 pub live-deck : (hand : HandTerms) (deck : List Card) (player : StartSeat)
@@ -113,5 +138,6 @@ pub awards-deck : (hand : HandTerms) (deck : List Card) → ShowAlike hand deck
     → showdown_awards (redealt hand deck) ≡ showdown_awards hand
 unfolding showdown_awards
 awards-deck hand deck alike =
-    λ i. awards_of (hands_of hand.start.game (alike.board i) (alike.live i)) hand.start.unit hand.start.marks.button
+    λ i. awards_of (hands_of hand.start.game (alike.board i) (alike.live i)) hand.start.blind.unit
+    hand.start.marks.button
     hand.start.seat_count (layers (puts-deck hand deck i))

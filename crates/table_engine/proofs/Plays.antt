@@ -1,5 +1,5 @@
 -- Lawful plays of a start.
-use Rattle.std.proofs.Common.{◌≡◌, ◌∙◌, refl, sym, ap, true, List, [], ◌∷◌, ◌++◌, None, append_assoc, append-nil}
+use Rattle.std.proofs.Common.{◌≡◌, ◌∙◌, refl, sym, ap, subst, true, List, [], ◌∷◌, ◌++◌, None, append_assoc, append-nil}
 use Rattle.std.specs.Prelude.{is_none}
 use Rattle.std.proofs.lemmas.Bool.{and_parts, and_from}
 use Rattle.rulebook.proofs.Found.{none-by_test}
@@ -7,7 +7,7 @@ use Rattle.table_engine.specs.declared.start.HandStart.{HandStart}
 use Rattle.table_engine.specs.declared.record.ActOf.{ActOf}
 use Rattle.table_engine.specs.Hands.{HandTerms}
 use Rattle.table_engine.specs.Acts.{refusal_of_act, time_act}
-use Rattle.table_engine.specs.Plays.{AreTimedAfter, IsTimed, are_lawful_after, IsLawfulPlay}
+use Rattle.table_engine.specs.Plays.{AreTimedAfter, are_lawful_after, IsLawfulPlay}
 
 -- After any acts, others are lawful with one more where they are and the one more is refused by no check.
 lawful_after-more : (start : HandStart) (before acts : List ActOf) (act : ActOf)
@@ -24,14 +24,28 @@ lawful_after-more start before (first ∷ acts) act lawful free =
     let joined : (before ++ first ∷ []) ++ acts ≡ before ++ first ∷ acts = append_assoc before (first ∷ []) acts in
     and_from _ _ parts.0 (lawful_after-more start (before ++ first ∷ []) acts act parts.1 (rw joined free))
 
+-- After any acts, others are as called with one more where they are and the one more is.
+timed_after-more : (start : HandStart) (before acts : List ActOf) (act : ActOf) → AreTimedAfter start before acts
+    → (act.by_time ≡ true → act ≡ time_act (record { start = start; acts = before ++ acts }))
+    → AreTimedAfter start before (acts ++ act ∷ [])
+timed_after-more start before [] act timed called = (rw append-nil at called, tt)
+timed_after-more start before (first ∷ acts) act timed called =
+    let joined : (before ++ first ∷ []) ++ acts ≡ before ++ first ∷ acts = append_assoc before (first ∷ []) acts in
+    (timed.0, timed_after-more start (before ++ first ∷ []) acts act timed.1 (rw joined called))
+
 -- Before any act a hand is a lawful play.
 pub lawful_play-none : (start : HandStart) → IsLawfulPlay (record { start = start; acts = [] })
-lawful_play-none start = record { acts = refl }
+lawful_play-none start = record { acts = refl; timed = tt }
 
--- A lawful play is one with one more act that is refused by no check.
+-- A lawful play is one with one more act that is refused by no check, and that is the one of a called time where it came
+-- by one.
 pub lawful_play-more : (hand : HandTerms) (act : ActOf) → IsLawfulPlay hand
-    → refusal_of_act hand act.name act.act ≡ None → IsLawfulPlay (record hand { acts = hand.acts ++ act ∷ [] })
-lawful_play-more hand act play free = record { acts = lawful_after-more hand.start [] hand.acts act play.acts free }
+    → refusal_of_act hand act.name act.act ≡ None → (act.by_time ≡ true → act ≡ time_act hand)
+    → IsLawfulPlay (record hand { acts = hand.acts ++ act ∷ [] })
+lawful_play-more hand act play free called = record {
+  acts = lawful_after-more hand.start [] hand.acts act play.acts free;
+  timed = timed_after-more hand.start [] hand.acts act play.timed called;
+}
 
 -- Of acts that are lawful after others, each is refused by no check on all before it.
 lawful_after-each : (start : HandStart) (before front : List ActOf) (act : ActOf) (back : List ActOf)
@@ -54,18 +68,17 @@ pub lawful_play-each : (hand : HandTerms) (front : List ActOf) (act : ActOf) (ba
 lawful_play-each hand front act back play is = lawful_after-each hand.start [] front act back
     (ap (are_lawful_after hand.start []) (sym is) ∙ play.acts)
 
--- After any acts, others are as called with one more where they are and the one more is.
-timed_after-more : (start : HandStart) (before acts : List ActOf) (act : ActOf) → AreTimedAfter start before acts
-    → (act.by_time ≡ true → act ≡ time_act (record { start = start; acts = before ++ acts }))
-    → AreTimedAfter start before (acts ++ act ∷ [])
-timed_after-more start before [] act timed called = (rw append-nil at called, tt)
-timed_after-more start before (first ∷ acts) act timed called =
-    let joined : (before ++ first ∷ []) ++ acts ≡ before ++ first ∷ acts = append_assoc before (first ∷ []) acts in
-    (timed.0, timed_after-more start (before ++ first ∷ []) acts act timed.1 (rw joined called))
+-- Of acts that are as called after others, each that came by a called time is the one that it makes there.
+timed_after-each : (start : HandStart) (before front : List ActOf) (act : ActOf) (back : List ActOf)
+    → AreTimedAfter start before (front ++ act ∷ back) → act.by_time ≡ true
+    → act ≡ time_act (record { start = start; acts = before ++ front })
+timed_after-each start before [] act back timed by_time = rw append-nil (timed.0 by_time)
+timed_after-each start before (first ∷ front) act back timed by_time =
+    let joined : (before ++ first ∷ []) ++ front ≡ before ++ first ∷ front = append_assoc before (first ∷ []) front in
+    rw joined at (timed_after-each start (before ++ first ∷ []) front act back timed.1 by_time)
 
-pub timed-none : (start : HandStart) → IsTimed (record { start = start; acts = [] })
-timed-none start = record { acts = tt }
-
-pub timed-more : (hand : HandTerms) (act : ActOf) → IsTimed hand
-    → (act.by_time ≡ true → act ≡ time_act hand) → IsTimed (record hand { acts = hand.acts ++ act ∷ [] })
-timed-more hand act timed called = record { acts = timed_after-more hand.start [] hand.acts act timed.acts called }
+-- Each act of a lawful play that came by a called time is the one that it makes there.
+pub lawful_play-timed : (hand : HandTerms) (front : List ActOf) (act : ActOf) (back : List ActOf) → IsLawfulPlay hand
+    → hand.acts ≡ front ++ act ∷ back → act.by_time ≡ true → act ≡ time_act (record hand { acts = front })
+lawful_play-timed hand front act back play is by_time = timed_after-each hand.start [] front act back
+    (subst (λ (acts : List ActOf). AreTimedAfter hand.start [] acts) is play.timed) by_time

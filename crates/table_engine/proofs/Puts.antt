@@ -19,7 +19,7 @@ use Rattle.pot_layers.specs.Tallies.{total_put}
 use Rattle.table_engine.specs.declared.record.ActOf.{ActOf}
 use Rattle.table_engine.specs.declared.start.HandStart.{HandStart}
 use Rattle.table_engine.specs.declared.start.StartSeat.{StartSeat}
-use Rattle.table_engine.specs.Acts.{limits_of, refusal_in_seat, refusal_of_act}
+use Rattle.table_engine.specs.Acts.{limits_on, refusal_in_seat, refusal_of_act, time_act}
 use Rattle.table_engine.specs.Hands.{HandTerms, Streets, dealt_on, first_street, first_streets, has_ended, is_live, later_street, player_of, players_by_seat, posted, put_in_hand, seat_of_name, seated, street_now, street_of, streets_of, with_act, with_next_street}
 use Rattle.table_engine.specs.Plays.{IsLawfulPlay}
 use Rattle.table_engine.specs.Results.{put_at, puts_in_hand}
@@ -30,7 +30,7 @@ use Rattle.table_engine.proofs.Chips.{stands}
 use Rattle.table_engine.proofs.Plays.{lawful_play-more, lawful_play-none}
 use Rattle.table_engine.proofs.Refusals.{refused-in_seat}
 use Rattle.table_engine.proofs.Sound.{IsSound, placed-is, sound-play}
-use Rattle.table_engine.proofs.Standings.{streets-more, streets-none}
+use Rattle.table_engine.proofs.Running.{streets-more, streets-none}
 use Rattle.table_engine.proofs.Starts.{player_of-seat}
 
 -- Nothing is put in where nobody is dealt in.
@@ -279,7 +279,7 @@ folds-live false false = refl
 -- The puts after an act that is not refused, by the streets.
 pub puts-moved : (start : HandStart) (streets : Streets) (acts seat : ℕ) (act : Act) (now : Player)
     → IsSound start streets acts
-    → Acts (limits_of start.game) (street_now streets) seat act now
+    → Acts (limits_on start streets) (street_now streets) seat act now
     → puts_of (players_by_seat start) (placed (street_now streets) seat now act
     (amount_of (street_now streets).level now act)).players
     ≡ told (puts_of (players_by_seat start) (street_now streets).players) (seat - 1)
@@ -312,12 +312,13 @@ act-tells hand seat act lawful play free =
     let street = street_of hand in
     let streets = streets_of hand in
     let entry : SeatAct = record { seat = seat; act = act } in
-    let acting = who-acts (limits_of hand.start.game) street seat act free in
+    let acting = who-acts (limits_on hand.start (streets_of hand)) street seat act free in
     let now = acting.0 in
     let acted = acting.1 in
     let put_in = amount_of street.level now act in
     let after = moved put_in now act in
-    let is = placed-is (limits_of hand.start.game) streets.last.start streets.last.acts entry now sound.right acted in
+    let limits = limits_on hand.start (streets_of hand) in
+    let is = placed-is limits streets.last.start streets.last.acts entry now sound.right acted in
     let dealt = dealt-there hand.start street.players (seat - 1) now sound.there acted.sits in
     let player = dealt.0 in
     let found = listed-found hand.start (seat - 1) player dealt.1 in
@@ -363,14 +364,14 @@ act-tells hand seat act lawful play free =
 -- The puts after one more act that is not refused.
 pub puts-more : (hand : HandTerms) (act : ActOf) (seat : ℕ) → IsLawfulStart hand.start → IsLawfulPlay hand
     → seat_of_name hand.start act.name ≡ Some seat
-    → refusal_in_seat hand act.act seat ≡ None
+    → refusal_in_seat hand act.act seat ≡ None → (act.by_time ≡ true → act ≡ time_act hand)
     → puts_in_hand (record { start = hand.start; acts = hand.acts ++ act ∷ [] })
     ≡ puts_of (players_by_seat hand.start) (street_now
     (with_act (streets_of hand) (record { seat = seat; act = act.act }))).players
-puts-more hand act seat lawful play found free =
+puts-more hand act seat lawful play found free called =
     let refused : refusal_of_act hand act.name act.act ≡ None = refused-in_seat hand act.name act.act seat found
     ∙ free in
-    let more = lawful_play-more hand act play refused in
+    let more = lawful_play-more hand act play refused called in
     let streets = with_act (streets_of hand) (record { seat = seat; act = act.act }) in
     puts-hand (record { start = hand.start; acts = hand.acts ++ act ∷ [] }) lawful more
     ∙ ap (λ (all : Streets). puts_of (players_by_seat hand.start) (street_now all).players)

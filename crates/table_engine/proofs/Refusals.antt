@@ -8,8 +8,8 @@ use Rattle.floor_text.specs.declared.refusal.Refusal.TheVariants.{NotDealt}
 use Rattle.betting_round.specs.declared.act.Act.{Act}
 use Rattle.betting_round.specs.ActChecks.{act_refusal, seat_checks}
 use Rattle.table_engine.specs.declared.start.HandStart.{HandStart}
-use Rattle.table_engine.specs.Hands.{HandTerms, seat_of_name, street_of}
-use Rattle.table_engine.specs.Acts.{act_checks, acting_seat, limits_of, done_in_seat, done_of_act, is_dealt, refusal_in_seat, refusal_of_act}
+use Rattle.table_engine.specs.Hands.{HandTerms, seat_of_name, street_of, streets_of}
+use Rattle.table_engine.specs.Acts.{act_checks, acting_seat, limits_on, done_in_seat, done_of_act, is_dealt, refusal_in_seat, refusal_of_act}
 
 -- Somebody passes a test exactly where somebody is found by it.
 any-found_step : {X Y : Type 0} (f : X → Y) (x : X) (passes more : Bool) (left : Option X)
@@ -42,7 +42,7 @@ pub refused-in_seat : (hand : HandTerms) (name : List ℕ) (act : Act) (seat : �
 unfolding act_checks act_refusal
 refused-in_seat hand name act seat found =
     let dealt : is_dealt hand.start name ≡ true = dealt-seat hand.start name ∙ ap is_some found in
-    let limits = limits_of hand.start.game in
+    let limits = limits_on hand.start (streets_of hand) in
     ap (λ (is : Bool). first_that_holds ((NotDealt, not is) ∷ seat_checks limits (street_of hand)
     (acting_seat hand name) act)) dealt
     ∙ ap (λ (slot : Option ℕ). act_refusal limits (street_of hand) (unwrap_or slot 0) act) found

@@ -1,6 +1,6 @@
 -- Checks in rising number, and a whole board at a showdown.
-use Rattle.std.proofs.Common.{◌≡◌, ◌∙◌, ℕ, zero, suc, ◌+◌, ◌-◌, true, false, List, [], ◌∷◌, map, refl, ap, sym, inl, inr, arith}
-use Rattle.std.specs.Prelude.{Bool, Option, is_none, not, ◌&&◌, reverse}
+use Rattle.std.proofs.Common.{◌≡◌, ◌∙◌, ℕ, zero, suc, true, false, List, [], ◌∷◌, map, refl, sym, inl, inr, arith}
+use Rattle.std.specs.Prelude.{not, ◌&&◌, reverse}
 use Rattle.std.proofs.lemmas.Bool.{cases_Bool}
 use Rattle.floor_text.specs.Refusals.{refusal_number}
 use Rattle.rulebook.specs.Pairs.{are_rising}
@@ -9,7 +9,7 @@ use Rattle.betting_round.specs.declared.act.Act.{Act}
 use Rattle.betting_round.specs.declared.act.Act.TheVariants.{Fold, Check, Call, AllIn, Bet, Raise}
 use Rattle.table_engine.specs.declared.start.HandStart.{HandStart}
 use Rattle.table_engine.specs.Acts.{act_checks}
-use Rattle.table_engine.specs.Hands.{HandTerms, Streets, all_dealt_on, by_seat, dealt_on, first_streets, has_ended, is_over, street_now, street_of, streets_after, streets_of, with_act, with_next_street}
+use Rattle.table_engine.specs.Hands.{HandTerms, Streets, by_seat, dealt_on, first_streets, has_ended, is_over, street_now, streets_after, streets_of, with_act, with_next_street}
 use Rattle.table_engine.specs.Results.{is_won_by_folds}
 
 pub checks-rise : (hand : HandTerms) (name : List ℕ) (act : Act)

@@ -45,7 +45,7 @@ use Rattle.table_engine.proofs.WholeUnits.{found-playable}
 pub record IsShowdown (hand : HandTerms) : Type 0 where
   pub contested : is_contested (puts_in_hand hand) ≡ true
   pub fits : total_put (puts_in_hand hand) < 2 ^ 53
-  pub whole : are_whole_puts hand.start.unit (puts_in_hand hand) ≡ true
+  pub whole : are_whole_puts hand.start.blind.unit (puts_in_hand hand) ≡ true
   pub alike : map is_some (live_in_hand hand) ≡ live_seats (puts_in_hand hand)
   pub table : AreSeatsOf hand.start.seat_count (map is_some (live_in_hand hand))
 
@@ -103,7 +103,7 @@ is-showdown hand lawful play over many =
     record {
       contested = hand-contested hand lawful play over many;
       fits = omega arith;
-      whole = whole-players hand start.unit (players_by_seat start)
+      whole = whole-players hand start.blind.unit (players_by_seat start)
           (λ index player listed.
           let found = listed-found start index player listed in
           put-whole hand player lawful play found.1 (found-playable start player.seat player lawful found.1).1);
@@ -151,7 +151,8 @@ live-is hand street is = ap (λ (s : Street). map (live_on hand.start s) (player
 pub showdown-is : (hand : HandTerms) (board : List Card) (live : List (Option Live)) (pots : List Pot)
     → board ≡ board_of hand.start
     → live ≡ live_in_hand hand → pots ≡ layers (puts_in_hand hand)
-    → awards_of (hands_of hand.start.game board live) hand.start.unit hand.start.marks.button hand.start.seat_count
+    → awards_of (hands_of hand.start.game board live) hand.start.blind.unit hand.start.marks.button
+    hand.start.seat_count
     pots ≡ showdown_awards hand
 unfolding showdown_awards
 showdown-is hand board live pots cards players cut = rw (cards, players, cut) refl
@@ -179,7 +180,7 @@ pots-sum hand lawful = total_of-layers (puts_in_hand hand) ∙ put-pot hand lawf
 pub record ArePots (hand : HandTerms) : Type 0 where
   pub own : are_for (map is_some (live_in_hand hand)) (layers (puts_in_hand hand)) ≡ true
   pub somebody : have_somebody (layers (puts_in_hand hand)) ≡ true
-  pub units : are_whole_pots hand.start.unit (layers (puts_in_hand hand)) ≡ true
+  pub units : are_whole_pots hand.start.blind.unit (layers (puts_in_hand hand)) ≡ true
 
 -- A hand that comes to a showdown has pots of whole units for its live players, and somebody may win each.
 pub are-pots : (hand : HandTerms) → IsShowdown hand → ArePots hand
@@ -187,7 +188,7 @@ are-pots hand showdown = record {
   own = subst (λ (set : List Bool). are_for set (layers (puts_in_hand hand)) ≡ true) (sym showdown.alike)
       (layers-live (puts_in_hand hand));
   somebody = layers-somebody (puts_in_hand hand) showdown.contested;
-  units = layers-whole (puts_in_hand hand) hand.start.unit showdown.whole;
+  units = layers-whole (puts_in_hand hand) hand.start.blind.unit showdown.whole;
 }
 
 -- The awards of a showdown sum to the pot.
@@ -196,7 +197,7 @@ unfolding showdown_awards
 awards-sum hand lawful showdown =
     let pots = are-pots hand showdown in
     let seats = sym (seats-hands_of hand.start.game (board_of hand.start) (live_in_hand hand)) in
-    sum-awards_of (hands_of hand.start.game (board_of hand.start) (live_in_hand hand)) hand.start.unit
+    sum-awards_of (hands_of hand.start.game (board_of hand.start) (live_in_hand hand)) hand.start.blind.unit
     hand.start.marks.button hand.start.seat_count
     (layers (puts_in_hand hand)) lawful.most_seats lawful.marks.button
     (subst (λ (set : List Bool). AreSeatsOf hand.start.seat_count set) seats showdown.table)
@@ -208,15 +209,16 @@ awards-sum hand lawful showdown =
 awards-ten : (hand : HandTerms) → length (showdown_awards hand) ≡ 10
 unfolding showdown_awards
 awards-ten hand =
-    length-awards_of (hands_of hand.start.game (board_of hand.start) (live_in_hand hand)) hand.start.unit
+    length-awards_of (hands_of hand.start.game (board_of hand.start) (live_in_hand hand)) hand.start.blind.unit
     hand.start.marks.button hand.start.seat_count
     (layers (puts_in_hand hand))
 
 -- Each award is a multiple of the unit.
-pub awards-whole : (hand : HandTerms) → list_all (λ award. award % hand.start.unit == 0) (showdown_awards hand) ≡ true
+pub awards-whole : (hand : HandTerms)
+    → list_all (λ award. award % hand.start.blind.unit == 0) (showdown_awards hand) ≡ true
 unfolding showdown_awards
 awards-whole hand =
-    whole-awards_of (hands_of hand.start.game (board_of hand.start) (live_in_hand hand)) hand.start.unit
+    whole-awards_of (hands_of hand.start.game (board_of hand.start) (live_in_hand hand)) hand.start.blind.unit
     hand.start.marks.button hand.start.seat_count
     (layers (puts_in_hand hand))
 
@@ -242,7 +244,7 @@ unfolding showdown_awards
 awards-nobody hand showdown index nobody =
     let pots = are-pots hand showdown in
     let seats = sym (seats-hands_of hand.start.game (board_of hand.start) (live_in_hand hand)) in
-    none-awards_of (hands_of hand.start.game (board_of hand.start) (live_in_hand hand)) hand.start.unit
+    none-awards_of (hands_of hand.start.game (board_of hand.start) (live_in_hand hand)) hand.start.blind.unit
     hand.start.marks.button hand.start.seat_count
     (layers (puts_in_hand hand)) index
     (subst (λ (set : List Bool). has_seat set (suc index) ≡ false) seats (nobody-live hand index nobody))

@@ -28,17 +28,17 @@ use Rattle.betting_round.specs.WhoIsDue.{player_at}
 use Rattle.betting_round.proofs.Acted.{Acts, still, still-falls, who-acts}
 use Rattle.betting_round.proofs.Steps.{map_at, street_start_is, street_stepped, sum_map, sum_set}
 use Rattle.table_engine.specs.declared.record.ActOf.{ActOf}
-use Rattle.table_engine.specs.declared.standing.Standing.{Standing}
+use Rattle.table_engine.specs.declared.betting.Betting.{Betting}
 use Rattle.table_engine.specs.declared.start.HandStart.{HandStart}
 use Rattle.table_engine.specs.declared.start.StartSeat.{StartSeat}
-use Rattle.table_engine.specs.Acts.{limits_of, refusal_in_seat, refusal_of_act}
+use Rattle.table_engine.specs.Acts.{limits_of, limits_on, refusal_in_seat, refusal_of_act}
 use Rattle.table_engine.specs.Hands.{HandTerms, StreetPlayed, Streets, dealt_on, first_street, first_streets, has_ended, later_street, player_of, players_by_seat, posted, put_from, put_on, seat_of_name, seated, street_now, streets_of, with_act, with_next_street}
 use Rattle.table_engine.specs.Plays.{IsLawfulPlay, are_lawful_after}
-use Rattle.table_engine.specs.Standings.{IsAt, IsReady}
+use Rattle.table_engine.specs.Running.{IsAt, IsReady}
 use Rattle.table_engine.specs.Starts.{IsLawfulStart, chips_of}
 use Rattle.table_engine.proofs.BySeat.{along-at, along-past, player_in-there, sum-of_start}
 use Rattle.table_engine.proofs.Refusals.{refused-in_seat, refused-without_seat}
-use Rattle.table_engine.proofs.Standings.{lawful-small, ready-act, ready-start, right-next, somes-street, streets-more, streets-none}
+use Rattle.table_engine.proofs.Running.{lawful-small, ready-act, ready-start, right-next, somes-street, streets-more, streets-none}
 use Rattle.table_engine.proofs.Starts.{right-first}
 use Rattle.table_engine.proofs.WholeUnits.{amount-whole, blinds-lawful, found-playable, posted-whole}
 
@@ -51,8 +51,8 @@ put_by_seat seat streets = put_from seat streets.last + sum_by (put_from seat) s
 pub record IsPlayerSound (start : HandStart) (street : Street) (put_in seat : ℕ) (now : Player) : Type 0 where
   pub met : now.bettor.put ≤ street.level
   pub more : (now.bettor.live || nat_lt 0 now.bettor.behind) ≡ true
-  pub put : now.bettor.put % start.unit ≡ 0
-  pub behind : now.bettor.behind % start.unit ≡ 0
+  pub put : now.bettor.put % start.blind.unit ≡ 0
+  pub behind : now.bettor.behind % start.blind.unit ≡ 0
   pub stack : (player : StartSeat) → player_of start seat ≡ Some player → now.bettor.behind + put_in ≡ player.stack
 
 -- Somebody is in each slot of each of these streets where one is dealt in at its seat.
@@ -62,18 +62,18 @@ AreThere start (played ∷ streets) =
     (map is_some (street_after played.start played.acts).players
     ≡ map is_some (players_by_seat start)) × AreThere start streets
 
--- A hand that stands on these streets.
-abbrev pub standing_on : Streets → Standing
-standing_on streets = record { round = street_now streets; before = sum_by put_on streets.before; left = streets.left }
+-- The betting that stands for these streets.
+abbrev pub betting_on : Streets → Betting
+betting_on streets = record { round = street_now streets; before = sum_by put_on streets.before; left = streets.left }
 
 -- What holds of the streets of a lawful play after so many acts.
 pub record IsSound (start : HandStart) (streets : Streets) (acts : ℕ) : Type 0 where
   pub right : IsStreetStart streets.last.start
-  pub ready : IsReady (standing_on streets)
-  pub unit : (street_now streets).unit ≡ start.unit
+  pub ready : IsReady (betting_on streets)
+  pub unit : (street_now streets).unit ≡ start.blind.unit
   pub there : map is_some (street_now streets).players ≡ map is_some (players_by_seat start)
   pub earlier : AreThere start streets.before
-  pub level : (street_now streets).level % start.unit ≡ 0
+  pub level : (street_now streets).level % start.blind.unit ≡ 0
   pub full : 0 < (street_now streets).full
   pub each : (seat : ℕ) (now : Player) → 1 ≤ seat → player_at (street_now streets).players seat ≡ Some now
       → IsPlayerSound start (street_now streets) (put_by_seat seat streets) seat now
@@ -125,22 +125,22 @@ more-moved false fold behind put_in is some none = absurd cc
 -- What holds of a player holds of him after his act.
 player-moved : (start : HandStart) (limits : Limits) (street : Street) (seat : ℕ) (act : Act) (now : Player)
     (before after : ℕ)
-    → Acts limits street seat act now → street.unit ≡ start.unit → street.level % start.unit ≡ 0
+    → Acts limits street seat act now → street.unit ≡ start.blind.unit → street.level % start.blind.unit ≡ 0
     → IsPlayerSound start street before seat now → after ≡ before + amount_of street.level now act
     → IsPlayerSound start (placed street seat now act (amount_of street.level now act)) after seat
     (moved (amount_of street.level now act) now act)
 player-moved start limits street seat act now before after acts unit level sound is =
     let put_in = amount_of street.level now act in
     let held : put_in ≤ now.bettor.behind = acts.covered in
-    let whole : put_in % start.unit ≡ 0 =
+    let whole : put_in % start.blind.unit ≡ 0 =
     rw unit at (amount-whole limits street seat act now acts (rw unit level) (rw unit sound.put)
     (rw unit sound.behind) sound.met) in
     record {
       met = omega arith;
       more = more-moved now.bettor.live (is_fold act) now.bettor.behind put_in acts.live acts.more
           (fold-none street.level now.bettor.put now.bettor.behind act);
-      put = multiple-add start.unit now.bettor.put put_in sound.put whole;
-      behind = multiple-sub start.unit now.bettor.behind put_in held sound.behind whole;
+      put = multiple-add start.blind.unit now.bettor.put put_in sound.put whole;
+      behind = multiple-sub start.blind.unit now.bettor.behind put_in held sound.behind whole;
       stack = λ player found. let was = sound.stack player found in omega arith;
     }
 
@@ -178,10 +178,10 @@ least-of_game Hilo facing = refl
 
 -- What holds of the streets after an act that is not refused.
 pub sound-act : (start : HandStart) (streets : Streets) (acts : ℕ) (seat : ℕ) (act : Act) → IsSound start streets acts
-    → act_refusal (limits_of start.game) (street_now streets) seat act ≡ None
+    → act_refusal (limits_on start streets) (street_now streets) seat act ≡ None
     → IsSound start (with_act streets (record { seat = seat; act = act })) (acts + 1)
 sound-act start streets acts seat act sound free =
-    let limits = limits_of start.game in
+    let limits = limits_on start streets in
     let street = street_now streets in
     let entry : SeatAct = record { seat = seat; act = act } in
     let acting = who-acts limits street seat act free in
@@ -195,27 +195,27 @@ sound-act start streets acts seat act sound free =
     let falls = still-falls limits street seat act now acted (least-of_game start.game _) sound.full his.met in
     let sums = sum_set (seat - 1) still now (moved put_in now act) street.players acted.sits in
     let same = ap (λ (s : Street). sum_over still s.players) is in
-    let at : IsAt streets (standing_on streets) = record {
+    let at : IsAt streets (betting_on streets) = record {
       round = refl;
       before = refl;
       left = refl;
       right =
           sound.right;
     } in
-    let level : (placed street seat now act put_in).level % start.unit ≡ 0 =
+    let level : (placed street seat now act put_in).level % start.blind.unit ≡ 0 =
     (let whole = player-moved start limits street seat act now (put_by_seat seat streets)
     (put_by_seat seat streets + put_in) acted sound.unit sound.level his refl in
-    multiple-max start.unit street.level (now.bettor.put + put_in) sound.level whole.put) in
+    multiple-max start.blind.unit street.level (now.bettor.put + put_in) sound.level whole.put) in
     let full = sound.full in
     let short = sound.short in
     record {
       right = sound.right;
-      ready = ready-act limits streets (standing_on streets) (standing_on after) seat act at sound.ready free refl refl;
+      ready = ready-act limits streets (betting_on streets) (betting_on after) seat act at sound.ready free refl refl;
       unit = ap (λ (s : Street). s.unit) is ∙ sound.unit;
       there = somes-street streets.last.start (entry ∷ streets.last.acts)
           ∙ sym (somes-street streets.last.start streets.last.acts) ∙ sound.there;
       earlier = sound.earlier;
-      level = ap (λ (s : Street). s.level % start.unit) is ∙ level;
+      level = ap (λ (s : Street). s.level % start.blind.unit) is ∙ level;
       full = subst (λ (s : Street). 0 < s.full) (sym is) (omega arith);
       each = λ other found low there. each-after start limits streets acts seat act now sound acted is other found low
           there;
@@ -331,7 +331,7 @@ each-next start streets acts seat now sound low there =
     record {
       met = omega arith;
       more = his.more;
-      put = zero-mod start.unit;
+      put = zero-mod start.blind.unit;
       behind = his.behind;
       stack = λ player found. let all = his.stack player found in omega arith;
     } in
@@ -345,7 +345,7 @@ sound-next start streets acts lawful sound some =
     let street = street_now streets in
     let next = later_street start streets in
     let began = street_start_is next in
-    let right : IsStreetStart next = right-next start (standing_on streets) next.counted lawful sound.ready
+    let right : IsStreetStart next = right-next start (betting_on streets) next.counted lawful sound.ready
     (omega arith) in
     let all = sum_by-cons put_on streets.last streets.before in
     let blinds = blinds-lawful start lawful in
@@ -365,11 +365,11 @@ sound-next start streets acts lawful sound some =
     let short = sound.short in
     record {
       right = right;
-      ready = ready-start next (standing_on (with_next_street start streets)) right refl (omega arith);
+      ready = ready-start next (betting_on (with_next_street start streets)) right refl (omega arith);
       unit = ap (λ (s : Street). s.unit) began;
       there = somes-street next [] ∙ somes-made at_next_street street.players ∙ sound.there;
       earlier = (sound.there, sound.earlier);
-      level = ap (λ (n : ℕ). n % start.unit) level ∙ zero-mod start.unit;
+      level = ap (λ (n : ℕ). n % start.blind.unit) level ∙ zero-mod start.blind.unit;
       full = subst (λ (s : Street). 0 < s.full) (sym began) big;
       each = λ seat now low there. each-next start streets acts seat now sound low there;
       short = omega arith;
@@ -388,7 +388,8 @@ sound-dealt start (suc left) streets acts lawful sound within =
     ]
 
 -- A player posts at most the big blind.
-posted-most : (start : HandStart) (player : StartSeat) → start.small ≤ start.big → posted start player ≤ start.big
+posted-most : (start : HandStart) (player : StartSeat) → start.blind.small ≤ start.blind.big
+    → posted start player ≤ start.blind.big
 posted-most start player small =
     elim (cases_Bool (player.seat == start.marks.big)) [
       | inl is ↦ rw is (omega arith)
@@ -421,7 +422,7 @@ each-first start seat now lawful low there =
     let posted_so = posted-whole start player blinds stack.1 in
     let small = lawful-small start lawful in
     let big = posted-most start player small in
-    let least = greatest-least start.big (λ (bettor : Bettor). bettor.put) first.bettors in
+    let least = greatest-least start.blind.big (λ (bettor : Bettor). bettor.put) first.bettors in
     let level = ap (λ (s : Street). s.level) began in
     let held : posted start player ≤ player.stack = omega arith in
     let put = ap (λ (p : Player). p.bettor.put) is in
@@ -431,7 +432,7 @@ each-first start seat now lawful low there =
       met = omega arith;
       more = refl;
       put = posted_so;
-      behind = multiple-sub start.unit player.stack (posted start player) held stack.1 posted_so;
+      behind = multiple-sub start.blind.unit player.stack (posted start player) held stack.1 posted_so;
       stack = λ other same.
           let him : player ≡ other = (let both : Some player ≡ Some other = sym found ∙ same in cc) in
           let his = ap (λ (p : StartSeat). p.stack) him in
@@ -461,9 +462,9 @@ sound-first start lawful =
     let blinds = blinds-lawful start lawful in
     let some = blinds.some in
     let small = lawful-small start lawful in
-    let level : (street_after first []).level ≡ start.big =
+    let level : (street_after first []).level ≡ start.blind.big =
     ap (λ (s : Street). s.level) began
-    ∙ greatest-no_more start.big (λ (bettor : Bettor). bettor.put) (seated start) (players_by_seat start)
+    ∙ greatest-no_more start.blind.big (λ (bettor : Bettor). bettor.put) (seated start) (players_by_seat start)
     (λ player. posted-most start player small) in
     let still_now : sum_over still (street_after first []).players
     ≡ sum_over (λ player. still (fresh (seated start player))) (players_by_seat start) =
@@ -475,11 +476,11 @@ sound-first start lawful =
     let ten : length (players_by_seat start) * 2 ≡ 20 = refl in
     record {
       right = right;
-      ready = ready-start first (standing_on (first_streets start)) right refl (omega arith);
+      ready = ready-start first (betting_on (first_streets start)) right refl (omega arith);
       unit = ap (λ (s : Street). s.unit) began;
       there = somes-street first [] ∙ somes-made (seated start) (players_by_seat start);
       earlier = tt;
-      level = ap (λ (n : ℕ). n % start.unit) level ∙ blinds.big;
+      level = ap (λ (n : ℕ). n % start.blind.unit) level ∙ blinds.big;
       full = subst (λ (s : Street). 0 < s.full) (sym began) some;
       each = λ seat now low there. each-first start seat now lawful low there;
       short = omega arith;

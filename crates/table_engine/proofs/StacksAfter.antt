@@ -27,7 +27,7 @@ playable-from unit stack above whole = grind (arith, nat_tests)
 -- What a player who is found at his seat put in is a multiple of the unit.
 pub put-whole : (hand : HandTerms) (player : StartSeat) → IsLawfulStart hand.start → IsLawfulPlay hand
     → player_of hand.start player.seat ≡ Some player
-    → player.stack % hand.start.unit ≡ 0 → put_in_hand hand player % hand.start.unit ≡ 0
+    → player.stack % hand.start.blind.unit ≡ 0 → put_in_hand hand player % hand.start.blind.unit ≡ 0
 put-whole hand player lawful play found whole =
     let sound = sound-play hand lawful play in
     let his = stands hand player lawful sound found in
@@ -36,17 +36,17 @@ put-whole hand player lawful play found whole =
     let now = sound.each player.seat his.0 low at in
     let stack = his.1.stack in
     let put : put_in_hand hand player ≡ player.stack - his.0.bettor.behind = omega arith in
-    rw put (multiple-sub hand.start.unit player.stack his.0.bettor.behind (omega arith) whole now.behind)
+    rw put (multiple-sub hand.start.blind.unit player.stack his.0.bettor.behind (omega arith) whole now.behind)
 
 -- The pot is a multiple of the unit.
-pub pot-whole : (hand : HandTerms) → IsLawfulStart hand.start → IsLawfulPlay hand → pot hand % hand.start.unit ≡ 0
+pub pot-whole : (hand : HandTerms) → IsLawfulStart hand.start → IsLawfulPlay hand → pot hand % hand.start.blind.unit ≡ 0
 pot-whole hand lawful play =
-    multiple-sum hand.start.unit (put_in_hand hand) hand.start.seats
-    (all-found hand.start.seats (λ (player : StartSeat). is_playable_stack hand.start.unit player.stack)
-    (λ player. put_in_hand hand player % hand.start.unit == 0) hand.start.seats
+    multiple-sum hand.start.blind.unit (put_in_hand hand) hand.start.seats
+    (all-found hand.start.seats (λ (player : StartSeat). is_playable_stack hand.start.blind.unit player.stack)
+    (λ player. put_in_hand hand player % hand.start.blind.unit == 0) hand.start.seats
     (found-all hand.start lawful)
-    (λ player found playable. eq-eqb (put_in_hand hand player % hand.start.unit) 0
-    (put-whole hand player lawful play found (playable-parts hand.start.unit player.stack playable).1))
+    (λ player found playable. eq-eqb (put_in_hand hand player % hand.start.blind.unit) 0
+    (put-whole hand player lawful play found (playable-parts hand.start.blind.unit player.stack playable).1))
     lawful.stacks)
 
 -- A player who is live or has chips behind has chips after the hand: all that he put in is in the pot.
@@ -65,8 +65,8 @@ whole-after unit behind pot false first second = multiple-add unit behind 0 firs
 -- After the hand a player who is found at his seat has a stack that can be played with.
 playable-after : (hand : HandTerms) (player : StartSeat) → IsLawfulStart hand.start → IsLawfulPlay hand
     → player_of hand.start player.seat ≡ Some player
-    → is_playable_stack hand.start.unit player.stack ≡ true → put_in_hand hand player ≤ pot hand
-    → is_won_by_folds hand ≡ true → is_playable_stack hand.start.unit (stack_after_hand hand player) ≡ true
+    → is_playable_stack hand.start.blind.unit player.stack ≡ true → put_in_hand hand player ≤ pot hand
+    → is_won_by_folds hand ≡ true → is_playable_stack hand.start.blind.unit (stack_after_hand hand player) ≡ true
 playable-after hand player lawful play found playable within won =
     let sound = sound-play hand lawful play in
     let his = stands hand player lawful sound found in
@@ -74,36 +74,36 @@ playable-after hand player lawful play found playable within won =
     let low = (found-within hand.start player.seat player lawful found).1 in
     let at = sym (player_in-there (street_of hand).players player.seat low) ∙ his.1.there in
     let sound_now = sound.each player.seat now low at in
-    let some = (playable-parts hand.start.unit player.stack playable).0 in
+    let some = (playable-parts hand.start.blind.unit player.stack playable).0 in
     let live : is_live hand player ≡ now.bettor.live =
     ap (λ (slot : Option Player). option_map_or (λ (other : Player). other.bettor.live) slot false) his.1.there in
     let above = above-after now.bettor.behind (put_in_hand hand player)
     (pot hand) player.stack now.bettor.live sound_now.more his.1.stack some within in
-    let whole = whole-after hand.start.unit now.bettor.behind (pot hand) now.bettor.live sound_now.behind
+    let whole = whole-after hand.start.blind.unit now.bettor.behind (pot hand) now.bettor.live sound_now.behind
     (pot-whole hand lawful play) in
     let by_folds : stack_after_hand hand player ≡ behind hand player + cond (is_live hand player) (pot hand) 0 =
     rw won in
     let is : stack_after_hand hand player ≡ now.bettor.behind + cond now.bettor.live (pot hand) 0 =
     by_folds ∙ ap (λ (n : ℕ). n + cond (is_live hand player) (pot hand) 0) his.1.behind
     ∙ ap (λ (b : Bool). now.bettor.behind + cond b (pot hand) 0) live in
-    ap (is_playable_stack hand.start.unit) is ∙ playable-from hand.start.unit
+    ap (is_playable_stack hand.start.blind.unit) is ∙ playable-from hand.start.blind.unit
     (now.bettor.behind + cond now.bettor.live (pot hand) 0) above whole
 
 -- After a lawful play of a lawful start that is won by folds each player has a stack above 0 that is a multiple of the
 -- unit.
 pub stacks-playable : (hand : HandTerms) → IsLawfulStart hand.start → IsLawfulPlay hand → is_won_by_folds hand ≡ true
-    → have_playable_stacks hand.start.unit (players_after hand) ≡ true
+    → have_playable_stacks hand.start.blind.unit (players_after hand) ≡ true
 stacks-playable hand lawful play won =
-    let made = list_all-map (λ (player : StartSeat). is_playable_stack hand.start.unit player.stack)
+    let made = list_all-map (λ (player : StartSeat). is_playable_stack hand.start.blind.unit player.stack)
     (λ (player : StartSeat). with_stack player (stack_after_hand hand player)) hand.start.seats in
     let within : StartSeat → Bool = λ player. nat_le (put_in_hand hand player) (pot hand) in
-    let can_play : StartSeat → Bool = λ player. is_playable_stack hand.start.unit player.stack in
+    let can_play : StartSeat → Bool = λ player. is_playable_stack hand.start.blind.unit player.stack in
     let both = list_all-both within can_play (λ player. within player && can_play player) hand.start.seats
     (λ player first second. and_from (within player) (can_play player) first second)
     (each-in_sum (put_in_hand hand) hand.start.seats) lawful.stacks in
     made
     ∙ all-found hand.start.seats (λ player. within player && can_play player)
-    (λ player. is_playable_stack hand.start.unit (stack_after_hand hand player))
+    (λ player. is_playable_stack hand.start.blind.unit (stack_after_hand hand player))
     hand.start.seats (found-all hand.start lawful)
     (λ player found passes.
     let parts = and_parts (within player) (can_play player) passes in

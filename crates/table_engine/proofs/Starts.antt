@@ -14,7 +14,7 @@ use Rattle.table_engine.specs.declared.start.HandStart.{HandStart}
 use Rattle.table_engine.specs.declared.start.StartSeat.{StartSeat}
 use Rattle.table_engine.specs.Starts.{IsLawfulStart}
 use Rattle.table_engine.specs.Hands.{blind_of, first_street, lacking, player_of, players_by_seat, seated}
-use Rattle.table_engine.proofs.Standings.{lawful-big, lawful-small, lawful-unit}
+use Rattle.table_engine.proofs.Running.{lawful-big, lawful-small, lawful-unit}
 
 -- Who is found at a seat sits there.
 pub player_of-seat : (start : HandStart) (seat : ℕ) (player : StartSeat) → player_of start seat ≡ Some player

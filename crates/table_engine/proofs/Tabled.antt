@@ -1,7 +1,7 @@
 -- The players at a showdown, and that all their cards and the board are different.
 use mathlib.Core.HLevel.{is_prop→PathP}
 use native.Mathlib.Nat.{ℕ_set}
-use Rattle.std.proofs.Common.{◌≡◌, ◌∙◌, ℕ, zero, suc, ◌<◌, ◌≤◌, List, [], ◌∷◌, ◌++◌, length, map, Bool, true, cond, Some, None, refl, ap, sym, subst, inl, inr, arith}
+use Rattle.std.proofs.Common.{◌≡◌, ◌∙◌, ℕ, zero, suc, ◌+◌, ◌*◌, ◌<◌, ◌≤◌, List, [], ◌∷◌, ◌++◌, length, map, Bool, true, cond, Some, None, refl, ap, sym, subst, inl, inr, arith, lit≤}
 use Rattle.std.specs.Prelude.{Option, ◌==◌, nat_lt, slice_index_or}
 use Rattle.std.specs.List.{list_all}
 use Rattle.std.specs.Option.{is_some}
@@ -18,7 +18,7 @@ use Rattle.card_choices.specs.Choices.{AreDistinct}
 use Rattle.showdown.specs.declared.live.Live.{Live}
 use Rattle.showdown.specs.Hands.{hole_cards}
 use Rattle.table_engine.specs.declared.start.HandStart.{HandStart}
-use Rattle.table_engine.specs.Deals.{board_of, card_at, dealt_seats, hole_card, hole_count, listed, tabled, two_of_clubs}
+use Rattle.table_engine.specs.Deals.{board_of, card_at, dealt_cards, dealt_seats, hole_card, hole_count, listed, tabled, two_of_clubs}
 use Rattle.table_engine.specs.declared.start.StartSeat.{StartSeat}
 use Rattle.table_engine.specs.Hands.{players_by_seat}
 use Rattle.table_engine.specs.Starts.{IsLawfulStart}
@@ -27,8 +27,9 @@ use Rattle.table_engine.proofs.Puts.{listed-found}
 use Rattle.level_plan.specs.Items.{is_between}
 use Rattle.rulebook.proofs.Tests.{at_most_one, find-all}
 use Rattle.button_blinds.specs.SeatSets.{AreSeatsOf, has_seat, seat_count}
-use Rattle.deal_order.specs.DealOrder.{board_card_place, places_of_board, places_of_player}
+use Rattle.deal_order.specs.DealOrder.{board_card_place, count_up, deal_places, places_of_board, places_of_player}
 use Rattle.deal_order.proofs.Apart.{player-rising}
+use Rattle.deal_order.proofs.Deals.{deal-count_up, deal-rising, deal-within}
 
 -- A player at a showdown is his seat and his cards.
 pub same_live : (one other : Live) → one.seat ≡ other.seat → one.hole ≡ other.hole → one ≡ other
@@ -180,6 +181,36 @@ dealt-few start = count-few (map is_some (players_by_seat start))
         let all = sum_by-cons (λ (b : Bool). cond b 1 0) test tests in
         let later = count-few tests in
         omega (arith, all, at_most_one test)
+
+-- No player is dealt more than four cards.
+hole_count-most : (game : Game) → hole_count game ≤ 4
+hole_count-most Holdem = lit≤ tt
+hole_count-most Omaha = lit≤ tt
+hole_count-most Hilo = lit≤ tt
+
+count_up-length : (from steps : ℕ) → length (count_up from steps) ≡ steps
+count_up-length from zero = refl
+count_up-length from (suc steps) = let later = count_up-length (from + 1) steps in omega arith
+
+-- No card is dealt twice.
+pub dealt-apart : (start : HandStart) → IsLawfulStart start → AreDistinct (dealt_cards start)
+unfolding dealt_cards
+dealt-apart start lawful =
+    let dealt = dealt_seats start in
+    let button = start.marks.button in
+    let holes = hole_count start.game in
+    let table = dealt-table start lawful in
+    let at = lawful.marks.button.1 in
+    let places = deal_places dealt button start.seat_count holes in
+    let count : length places ≡ suc (holes * seat_count dealt + 7) =
+    ap length (deal-count_up dealt button start.seat_count holes table lawful.most_seats at)
+    ∙ count_up-length 0 (holes * seat_count dealt + 8) ∙ (omega arith) in
+    let within = deal-within dealt button start.seat_count holes table lawful.most_seats at
+    (hole_count-most start.game) in
+    places-apart start places (holes * seat_count dealt + 7) lawful.deck
+    (deal-rising dealt button start.seat_count holes table lawful.most_seats at) count
+    (ltb-true _ _ (AllPass-from_list_all (λ place. nat_lt place 52) places within (holes * seat_count dealt + 7) 0
+    (omega (arith, count))))
 
 -- Whoever is dealt in has no card twice, and none of the board.
 pub player-apart : (start : HandStart) (index : ℕ) (player : StartSeat) → IsDeck start.deck → IsLawfulStart start

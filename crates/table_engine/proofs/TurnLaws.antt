@@ -9,21 +9,21 @@ use Rattle.betting_round.specs.declared.act.Act.TheVariants.{Fold}
 use Rattle.betting_round.specs.declared.street.Street.{Street}
 use Rattle.betting_round.specs.StreetActs.{SeatAct, street_after}
 use Rattle.betting_round.specs.WhoIsDue.{can_act, player_at, player_in}
-use Rattle.betting_round.proofs.Turns.{due-can_act, due-may_fold, level-grows}
+use Rattle.betting_round.proofs.Turns.{accepted-due, due-can_act, due-may_fold, level-grows}
 use Rattle.table_engine.specs.declared.record.ActOf.{ActOf}
 use Rattle.table_engine.specs.declared.start.HandStart.{HandStart}
 use Rattle.table_engine.specs.declared.start.StartSeat.{StartSeat}
 use Rattle.table_engine.specs.Starts.{IsLawfulStart, chips_of}
 use Rattle.table_engine.specs.Hands.{HandTerms, Streets, behind, dealt_on, due_in_hand, due_name, has_ended, is_over, name_in_seat, player_of, seat_of_name, street_now, street_of, streets_of, with_act, with_next_street}
-use Rattle.table_engine.specs.Acts.{act_in_time, hand_after_time, limits_of, refusal_of_act, refusal_of_time}
+use Rattle.table_engine.specs.Acts.{act_in_time, hand_after_time, limits_on, refusal_of_act, refusal_of_time}
 use Rattle.table_engine.specs.Plays.{IsLawfulPlay}
 use Rattle.table_engine.proofs.BySeat.{found-within, player_in-there}
 use Rattle.table_engine.proofs.Chips.{stands}
 use Rattle.table_engine.proofs.DueNames.{due_name-none, due-named, seat-of_named, time-allowed, time_act-is}
-use Rattle.table_engine.proofs.Plays.{lawful_play-more}
+use Rattle.table_engine.proofs.Plays.{lawful_play-each, lawful_play-more, lawful_play-timed}
 use Rattle.table_engine.proofs.Refusals.{refused-in_seat, refused-without_seat}
 use Rattle.table_engine.proofs.Sound.{sound-play}
-use Rattle.table_engine.proofs.Standings.{streets-more}
+use Rattle.table_engine.proofs.Running.{streets-more}
 
 -- Somebody is due as long as the hand is not over.
 pub due-somebody : (hand : HandTerms) → IsLawfulStart hand.start → IsLawfulPlay hand → is_over hand ≡ false
@@ -77,7 +77,7 @@ pub due-can_fold : (hand : HandTerms) (name : List ℕ) → IsLawfulStart hand.s
     → refusal_of_act hand name Fold ≡ None
 due-can_fold hand name lawful called =
     let is = due-is hand name lawful called in
-    refused-in_seat hand name Fold is.0 is.1.found ∙ due-may_fold (limits_of hand.start.game)
+    refused-in_seat hand name Fold is.0 is.1.found ∙ due-may_fold (limits_on hand.start (streets_of hand))
     (street_of hand) is.0 is.1.due
 
 -- A called time that is not refused is of a player who is due.
@@ -105,7 +105,33 @@ lawful_play-time hand lawful play free =
         let found = seat-of_named hand.start seat name lawful.names named in
         let allowed : refusal_of_act hand name (act_in_time hand seat) ≡ None =
         refused-in_seat hand name (act_in_time hand seat) seat found ∙ time-allowed hand seat due in
-        rw (time_act-is hand seat name due named) (lawful_play-more hand act play allowed)
+        let is = time_act-is hand seat name due named in
+        rw is (lawful_play-more hand act play allowed (λ by_time. sym is))
+
+-- Where an act is not refused, time may be called.
+act-due : (hand : HandTerms) (act : ActOf) → refusal_of_act hand act.name act.act ≡ None → refusal_of_time hand ≡ None
+act-due hand act free = by_seat (seat_of_name hand.start act.name) refl
+  where
+    by_seat : (slot : Option ℕ) → seat_of_name hand.start act.name ≡ slot → refusal_of_time hand ≡ None
+    by_seat None found =
+        let never : None ≡ Some NotDealt = sym free ∙ refused-without_seat hand act.name act.act found in absurd cc
+    by_seat (Some seat) found =
+        let accepted = sym (refused-in_seat hand act.name act.act seat found) ∙ free in
+        rw (accepted-due (limits_on hand.start (streets_of hand)) (street_of hand) seat act.act accepted)
+
+-- Where an act of a lawful play came by a called time, to call time there is not refused.
+pub time-free_again : (hand : HandTerms) (front : List ActOf) (act : ActOf) (back : List ActOf) → IsLawfulPlay hand
+    → hand.acts ≡ front ++ act ∷ back → act.by_time ≡ true → refusal_of_time (record hand { acts = front }) ≡ None
+time-free_again hand front act back play is by_time =
+    act-due (record hand { acts = front }) act (lawful_play-each hand front act back play is)
+
+-- It makes the hand with that act.
+pub time-again : (hand : HandTerms) (front : List ActOf) (act : ActOf) (back : List ActOf) → IsLawfulPlay hand
+    → hand.acts ≡ front ++ act ∷ back → act.by_time ≡ true
+    → hand_after_time (record hand { acts = front }) ≡ record hand { acts = front ++ act ∷ [] }
+time-again hand front act back play is by_time =
+    ap (λ (called : ActOf). record hand { acts = front ++ called ∷ [] })
+    (sym (lawful_play-timed hand front act back play is by_time))
 
 -- The streets that are left once every street has begun that may.
 dealt-left : (start : HandStart) (left : ℕ) (streets : Streets) → (dealt_on start left streets).left ≤ streets.left

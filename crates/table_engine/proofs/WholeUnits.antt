@@ -15,7 +15,7 @@ use Rattle.betting_round.specs.ActChecks.{act_checks}
 use Rattle.betting_round.specs.Limits.{Limits}
 use Rattle.betting_round.specs.Running.{amount_of}
 use Rattle.betting_round.proofs.Acted.{Acts, facing_of}
-use Rattle.level_plan.specs.Items.{greatest_amount}
+use Rattle.level_plan.specs.Limits.{greatest_amount}
 use Rattle.table_engine.specs.declared.start.HandStart.{HandStart}
 use Rattle.table_engine.specs.declared.start.StartSeat.{StartSeat}
 use Rattle.table_engine.specs.Starts.{IsLawfulStart, is_playable_stack}
@@ -69,23 +69,23 @@ amount-whole limits street seat (Raise n) now acts level put behind met =
 
 -- Lawful blinds are above 0 and multiples of a unit above 0.
 pub record AreBlinds (start : HandStart) : Type 0 where
-  pub unit : 0 < start.unit
-  pub small : start.small % start.unit ≡ 0
-  pub big : start.big % start.unit ≡ 0
-  pub some : 0 < start.big
+  pub unit : 0 < start.blind.unit
+  pub small : start.blind.small % start.blind.unit ≡ 0
+  pub big : start.blind.big % start.blind.unit ≡ 0
+  pub some : 0 < start.blind.big
 
 -- The blinds of a lawful start are multiples of a unit above 0, and the big blind is above 0.
 pub blinds-lawful : (start : HandStart) → IsLawfulStart start → AreBlinds start
 blinds-lawful start lawful =
-    let a = and_parts (nat_le 1 start.unit) _ lawful.blinds in
-    let b = and_parts (nat_le 1 start.small) _ a.1 in
-    let c = and_parts (nat_le start.small start.big) _ b.1 in
-    let d = and_parts (nat_le start.big greatest_amount) _ c.1 in
-    let e = and_parts (start.small % start.unit == 0) (start.big % start.unit == 0) d.1 in
-    let unit : 0 < start.unit = grind (arith, nat_tests) in
-    let some : 0 < start.big = grind (arith, nat_tests) in
-    let small : start.small % start.unit ≡ 0 = grind (arith, nat_tests) in
-    let big : start.big % start.unit ≡ 0 = grind (arith, nat_tests) in
+    let a = and_parts (nat_le 1 start.blind.unit) _ lawful.blinds in
+    let b = and_parts (nat_le 1 start.blind.small) _ a.1 in
+    let c = and_parts (nat_le start.blind.small start.blind.big) _ b.1 in
+    let d = and_parts (nat_le start.blind.big greatest_amount) _ c.1 in
+    let e = and_parts (start.blind.small % start.blind.unit == 0) (start.blind.big % start.blind.unit == 0) d.1 in
+    let unit : 0 < start.blind.unit = grind (arith, nat_tests) in
+    let some : 0 < start.blind.big = grind (arith, nat_tests) in
+    let small : start.blind.small % start.blind.unit ≡ 0 = grind (arith, nat_tests) in
+    let big : start.blind.big % start.blind.unit ≡ 0 = grind (arith, nat_tests) in
     record { unit = unit; small = small; big = big; some = some }
 
 -- A stack that can be played with is above 0 and a multiple of the unit.
@@ -99,27 +99,27 @@ playable-parts unit stack playable =
 -- The stack of who is found at a seat of a lawful start can be played with.
 pub found-playable : (start : HandStart) (seat : ℕ) (player : StartSeat) → IsLawfulStart start
     → player_of start seat ≡ Some player
-    → (0 < player.stack) × (player.stack % start.unit ≡ 0)
+    → (0 < player.stack) × (player.stack % start.blind.unit ≡ 0)
 found-playable start seat player lawful found =
-    playable-parts start.unit player.stack
+    playable-parts start.blind.unit player.stack
     (find-all (λ (other : StartSeat). other.seat == seat)
-    (λ (other : StartSeat). is_playable_stack start.unit other.stack)
+    (λ (other : StartSeat). is_playable_stack start.blind.unit other.stack)
     start.seats player found lawful.stacks)
 
 -- A blind is a multiple of the unit.
-blind-whole : (start : HandStart) (seat : ℕ) → AreBlinds start → blind_of start seat % start.unit ≡ 0
+blind-whole : (start : HandStart) (seat : ℕ) → AreBlinds start → blind_of start seat % start.blind.unit ≡ 0
 blind-whole start seat blinds =
     elim (cases_Bool (seat == start.marks.big)) [
       | inl is ↦ rw is blinds.big
       | inr other ↦
           elim (cases_Bool (seat == start.marks.small)) [
             | inl is ↦ rw (other, is) blinds.small
-            | inr none ↦ rw (other, none) (zero-mod start.unit)
+            | inr none ↦ rw (other, none) (zero-mod start.blind.unit)
           ]
     ]
 
 -- What a player posts is a multiple of the unit where his stack is.
-pub posted-whole : (start : HandStart) (player : StartSeat) → AreBlinds start → player.stack % start.unit ≡ 0
-    → posted start player % start.unit ≡ 0
+pub posted-whole : (start : HandStart) (player : StartSeat) → AreBlinds start → player.stack % start.blind.unit ≡ 0
+    → posted start player % start.blind.unit ≡ 0
 posted-whole start player blinds whole =
-    multiple-min start.unit player.stack (blind_of start player.seat) whole (blind-whole start player.seat blinds)
+    multiple-min start.blind.unit player.stack (blind_of start player.seat) whole (blind-whole start player.seat blinds)

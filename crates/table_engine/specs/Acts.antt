@@ -17,16 +17,20 @@ use Rattle.table_engine.specs.declared.start.HandStart.{HandStart}
 use Rattle.table_engine.specs.declared.record.ActOf.{ActOf}
 use Rattle.table_engine.specs.declared.record.ActFault.{ActFault}
 use Rattle.table_engine.specs.declared.record.ActFault.TheVariants as faults
-use Rattle.table_engine.specs.Hands.{HandTerms, due_in_hand, due_name, seat_of_name, street_of}
+use Rattle.table_engine.specs.Hands.{HandTerms, Streets, due_in_hand, due_name, seat_of_name, street_of, streets_of}
 
 -- Hold'em is no-limit, and the other games are pot-limit.
 abbrev pub limits_of : Game → Limits
 limits_of Holdem = no_limit
 limits_of game = pot_limit
 
+-- How much may be bet on the last of a hand's streets: on each it goes by the game.
+abbrev pub limits_on : HandStart → Streets → Limits
+limits_on start streets = limits_of start.game
+
 -- Why an act of the player in a seat is refused, if it is.
 abbrev pub refusal_in_seat : HandTerms → Act → ℕ → Option Refusal
-refusal_in_seat hand act seat = act_refusal (limits_of hand.start.game) (street_of hand) seat act
+refusal_in_seat hand act seat = act_refusal (limits_on hand.start (streets_of hand)) (street_of hand) seat act
 
 -- Whether a player of this name is dealt in.
 abbrev pub is_dealt : HandStart → List ℕ → Bool
@@ -40,7 +44,7 @@ acting_seat hand name = unwrap_or (seat_of_name hand.start name) 0
 unfoldable pub act_checks : HandTerms → List ℕ → Act → List (Refusal × Bool)
 act_checks hand name act =
     (NotDealt, not (is_dealt hand.start name)) ∷
-    seat_checks (limits_of hand.start.game) (street_of hand) (acting_seat hand name) act
+    seat_checks (limits_on hand.start (streets_of hand)) (street_of hand) (acting_seat hand name) act
 
 -- Why an act of a player is refused, if it is: by the first check that holds.
 abbrev pub refusal_of_act : HandTerms → List ℕ → Act → Option Refusal

@@ -6,7 +6,7 @@ use Rattle.button_blinds.specs.SeatSets.{seat_count}
 use Rattle.card_set.specs.declared.card.Card.{Card}
 use Rattle.card_set.specs.declared.game.Game.{Game}
 use Rattle.card_set.specs.declared.game.Game.TheVariants.{Holdem}
-use Rattle.deal_order.specs.DealOrder.{board_card_place, hole_card_place}
+use Rattle.deal_order.specs.DealOrder.{board_card_place, deal_places, hole_card_place}
 use Rattle.showdown.specs.declared.live.Live.{Live}
 use Rattle.table_engine.specs.declared.start.HandStart.{HandStart}
 use Rattle.table_engine.specs.Hands.{players_by_seat}
@@ -27,6 +27,11 @@ dealt_seats start = map is_some (players_by_seat start)
 abbrev pub hole_count : Game → ℕ
 hole_count Holdem = 2
 hole_count game = 4
+
+-- All cards that are dealt, in the order of the deal: the hole cards, and then the board with the burned cards.
+unfoldable pub dealt_cards : HandStart → List Card
+dealt_cards start =
+    map (card_at start) (deal_places (dealt_seats start) start.marks.button start.seat_count (hole_count start.game))
 
 -- A player's hole card, counted from 0, by his seat.
 abbrev pub hole_card : HandStart → ℕ → ℕ → Card

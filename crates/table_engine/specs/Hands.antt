@@ -21,8 +21,8 @@ pub record HandTerms : Type 0 where
 -- The blind that is due of a seat. An empty small mark posts nothing.
 abbrev pub blind_of : HandStart → ℕ → ℕ
 blind_of start seat =
-    if seat == start.marks.big then start.big
-    else if seat == start.marks.small then start.small
+    if seat == start.marks.big then start.blind.big
+    else if seat == start.marks.small then start.blind.small
     else 0
 
 -- What a player posts: the lesser of his stack and the blind that is due of his seat.
@@ -57,9 +57,9 @@ abbrev pub first_street : HandStart → StreetStart
 first_street start = record {
   bettors = map (option_map (seated start)) (players_by_seat start);
   after = start.marks.big;
-  opening = start.big;
-  big = start.big;
-  unit = start.unit;
+  opening = start.blind.big;
+  big = start.blind.big;
+  unit = start.blind.unit;
   counted = sum_over (lacking start) (players_by_seat start);
 }
 
@@ -93,8 +93,8 @@ later_street start streets = record {
   bettors = next_bettors (street_now streets);
   after = start.marks.button;
   opening = 0;
-  big = start.big;
-  unit = start.unit;
+  big = start.blind.big;
+  unit = start.blind.unit;
   counted = put_so_far streets;
 }
 

@@ -2,19 +2,19 @@
 use Rattle.std.specs.Prelude.{◌≡◌, ℕ, List, length, map}
 use Rattle.std.specs.Option.{is_some}
 use Rattle.pot_layers.specs.declared.put.Put.{Put}
-use Rattle.table_engine.specs.declared.standing.Standing.{Standing}
+use Rattle.table_engine.specs.declared.betting.Betting.{Betting}
 use Rattle.table_engine.specs.Starts.{IsLawfulStart}
 use Rattle.table_engine.specs.Hands.{HandTerms, players_by_seat, streets_of}
-use Rattle.table_engine.specs.Plays.{IsLawfulPlay, IsTimed}
+use Rattle.table_engine.specs.Plays.{IsLawfulPlay}
 use Rattle.table_engine.specs.Results.{puts_in_hand}
-use Rattle.table_engine.specs.Standings.{IsAt, IsReady}
+use Rattle.table_engine.specs.Running.{IsAt, IsReady}
 
-pub record IsHandKept (hand : HandTerms) (standing : Standing) (tally : List Put) (stacks : List ℕ) : Type 0 where
-  -- the hand stands on its streets
-  pub at : IsAt (streets_of hand) standing
-  pub ready : IsReady standing
+pub record IsHandKept (hand : HandTerms) (betting : Betting) (tally : List Put) (stacks : List ℕ) : Type 0 where
+  -- the betting stands for the streets of the hand
+  pub at : IsAt (streets_of hand) betting
+  pub ready : IsReady betting
   -- a player sits in a seat of the street exactly where one was dealt in
-  pub there : map is_some standing.round.players ≡ map is_some (players_by_seat hand.start)
+  pub there : map is_some betting.round.players ≡ map is_some (players_by_seat hand.start)
   -- the tally has been told what was put in, and who has folded
   pub told : tally ≡ puts_in_hand hand
   -- there is room for a stack of each player
@@ -22,4 +22,3 @@ pub record IsHandKept (hand : HandTerms) (standing : Standing) (tally : List Put
   -- the start is lawful, and the acts are a lawful play of it
   pub lawful : IsLawfulStart hand.start
   pub played : IsLawfulPlay hand
-  pub timed : IsTimed hand

@@ -1,3 +1,4 @@
+pub mod Accepted
 pub mod Acts
 pub mod Awards
 pub mod Deals
@@ -5,6 +6,6 @@ pub mod Hands
 pub mod Kept
 pub mod Plays
 pub mod Results
-pub mod Standings
+pub mod Running
 pub mod Starts
 pub mod Tellings

@@ -14,10 +14,6 @@ are_lawful_after start before (act ∷ acts) =
     is_none (refusal_of_act (record { start = start; acts = before }) act.name act.act)
     && are_lawful_after start (before ++ act ∷ []) acts
 
--- A hand is a lawful play of its start where each act is refused by no check on those before it.
-pub record IsLawfulPlay (hand : HandTerms) : Type 0 where
-  pub acts : are_lawful_after hand.start [] hand.acts ≡ true
-
 -- After the acts before them, each of these acts that came by a called time is the one that a called time makes.
 abbrev pub AreTimedAfter : HandStart → List ActOf → List ActOf → Type 0
 AreTimedAfter start before [] = Unit {0}
@@ -25,9 +21,11 @@ AreTimedAfter start before (act ∷ acts) =
     (act.by_time ≡ true → act ≡ time_act (record { start = start; acts = before }))
     × AreTimedAfter start (before ++ act ∷ []) acts
 
--- Each act of a hand that came by a called time is the one that a called time makes there.
-pub record IsTimed (hand : HandTerms) : Type 0 where
-  pub acts : AreTimedAfter hand.start [] hand.acts
+-- A hand is a lawful play of its start where each act is refused by no check on those before it, and each that came by
+-- a called time is the one that a called time makes there.
+pub record IsLawfulPlay (hand : HandTerms) : Type 0 where
+  pub acts : are_lawful_after hand.start [] hand.acts ≡ true
+  pub timed : AreTimedAfter hand.start [] hand.acts
 
 -- The hand of which a record is.
 abbrev pub recorded_hand : HandRecord → HandTerms
@@ -37,6 +35,5 @@ recorded_hand done = record { start = done.start; acts = done.acts }
 -- this play comes to.
 pub record IsCompletePlay (done : HandRecord) : Type 0 where
   pub play : IsLawfulPlay (recorded_hand done)
-  pub timed : IsTimed (recorded_hand done)
   pub over : is_over (recorded_hand done) ≡ true
   pub stacks : done.stacks ≡ stacks_after_hand (recorded_hand done)

@@ -48,7 +48,7 @@ live_in_hand hand = map (live_on hand.start (street_of hand)) (players_by_seat h
 -- are eligible for it. Units that are left over go clockwise from the seat after the button.
 unfoldable pub showdown_awards : HandTerms → List ℕ
 showdown_awards hand =
-    awards_of (hands_of hand.start.game (board_of hand.start) (live_in_hand hand)) hand.start.unit
+    awards_of (hands_of hand.start.game (board_of hand.start) (live_in_hand hand)) hand.start.blind.unit
     hand.start.marks.button
     hand.start.seat_count (layers (puts_in_hand hand))
 

@@ -3,9 +3,10 @@ use Rattle.std.specs.Prelude.{◌≡◌, ◌≢◌, ◌≤◌, ◌<◌, ◌^◌,
 use Rattle.std.specs.List.{list_any, list_all}
 use Rattle.std.specs.Str.{bytes_eq}
 use Rattle.rulebook.specs.Pairs.{are_rising, are_distinct}
-use Rattle.rulebook.specs.declared.limits.TheConstants.{MOST_ENTRIES}
+use Rattle.rulebook.specs.Limits.{most_entries}
 use Rattle.level_plan.specs.Items.{is_between, is_blind}
 use Rattle.button_blinds.specs.Marks.{AreMarksOf}
+use Rattle.card_set.specs.Decks.{IsDeck}
 use Rattle.table_engine.specs.declared.start.HandStart.{HandStart}
 use Rattle.table_engine.specs.declared.start.StartSeat.{StartSeat}
 
@@ -33,11 +34,11 @@ pub record IsLawfulStart (start : HandStart) : Type 0 where
   pub within : list_all (λ player. is_between 1 start.seat_count player.seat) start.seats ≡ true
   -- no two have one number, and each number is that of one of at most 640 entries
   pub numbers : are_distinct (λ one other. one == other) (map (λ player. player.player) start.seats) ≡ true
-  pub entries : list_all (λ player. nat_lt player.player MOST_ENTRIES) start.seats ≡ true
+  pub entries : list_all (λ player. nat_lt player.player most_entries) start.seats ≡ true
   -- no two have one name
   pub names : are_distinct bytes_eq (map (λ player. player.name) start.seats) ≡ true
   -- each has a stack above 0 that is a multiple of the unit, and all are far from the end of their type
-  pub stacks : have_playable_stacks start.unit start.seats ≡ true
+  pub stacks : have_playable_stacks start.blind.unit start.seats ≡ true
   pub chips : chips_of start.seats < 2 ^ 53
   -- the button and the blinds are at seats of the table, a player sits in the big mark's seat, and the small mark is
   -- another seat
@@ -45,4 +46,6 @@ pub record IsLawfulStart (start : HandStart) : Type 0 where
   pub big : list_any (λ player. player.seat == start.marks.big) start.seats ≡ true
   pub small : start.marks.small ≢ start.marks.big
   -- the blinds and the unit are lawful
-  pub blinds : is_blind (record { small = start.small; big = start.big; unit = start.unit }) ≡ true
+  pub blinds : is_blind start.blind ≡ true
+  -- no card of the deck comes twice
+  pub deck : IsDeck start.deck

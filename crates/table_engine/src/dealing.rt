@@ -8,6 +8,7 @@ ghost use Rattle.table_engine.specs.Hands.{players_by_seat};
 ghost use Rattle.table_engine.specs.Deals.{board_card, board_of, dealt_seats, hole_card, hole_count, listed, tabled};
 ghost use Rattle.table_engine.specs.Results.{live_on};
 
+use crate::players::players_by_seat;
 use crate::start::{HandStart, StartSeat};
 use betting_round::Round;
 use button_blinds::SeatSet;
@@ -168,4 +169,41 @@ pub(crate) fn all_live(
         live_on(start, dealt, round, players[8]),
         live_on(start, dealt, round, players[9]),
     ]
+}
+
+impl HandStart {
+    /// Gives the seats that are dealt in.
+    fn dealt(&self) -> SeatSet
+        requires { IsLawfulStart self.now }
+        ensures { result ≡ dealt_seats self.now }
+    {
+        dealt_seats(self, &players_by_seat(self))
+    }
+
+    /// Tells how many hole cards each player is dealt.
+    pub fn hole_count(&self) -> u8
+        ensures count { result ≡ hole_count self.now.game }
+        ensures some { 2 ≤ result }
+        ensures most { result ≤ 4 }
+    {
+        hole_count(self.game)
+    }
+
+    /// Gives a player's hole card, counted from 0, by his seat. It takes no memory.
+    pub fn hole_card(&self, seat: u8, card: u8) -> Card
+        requires lawful { IsLawfulStart self.now }
+        requires card { card < hole_count self.now.game }
+        ensures { result ≡ hole_card self.now seat card }
+    {
+        hole_card(self, self.dealt(), seat, card)
+    }
+
+    /// Gives a card of the board, counted from 0: three of the flop, the turn and the river. It takes no memory.
+    pub fn board_card(&self, card: u8) -> Card
+        requires lawful { IsLawfulStart self.now }
+        requires card { card ≤ 4 }
+        ensures { result ≡ board_card self.now card }
+    {
+        board_card(self, self.dealt(), card)
+    }
 }

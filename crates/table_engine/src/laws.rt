@@ -1,19 +1,22 @@
 //! Laws of a hand: over every lawful start and every lawful play of it.
 
-ghost use Rattle.std.specs.Prelude.{◌≡◌, ◌+◌, ◌%◌, ◌==◌, ◌<◌, ◌≤◌, ℕ, List, [], ◌∷◌, ◌++◌, Some, None, IsSome, false, true, map, nat_le, length, sum, sum_by};
+ghost use Rattle.std.specs.Prelude.{◌≡◌, ◌+◌, ◌%◌, ◌==◌, ◌<◌, ◌≤◌, ℕ, List, [], ◌∷◌, ◌++◌, Some, None, IsSome, false, true, map, nat_le, length, slice_index_or, sum, sum_by};
 ghost use Rattle.std.specs.List.{list_all};
 ghost use Rattle.betting_round.specs.declared.act.Act.TheVariants as acts;
 ghost use Rattle.betting_round.specs.declared.act.Act.{Act};
+ghost use Rattle.card_choices.specs.Choices.{AreDistinct};
 ghost use Rattle.card_set.specs.declared.card.Card.{Card};
+ghost use Rattle.card_set.specs.Decks.{IsDeck};
 ghost use Rattle.pot_layers.specs.Layers.{is_contested, layers};
-ghost use Rattle.pot_layers.specs.PotTests.{total_of};
+ghost use Rattle.pot_layers.specs.PotTests.{are_others_within, total_of};
 ghost use Rattle.table_engine.specs.declared.record.ActOf.{ActOf};
 ghost use Rattle.table_engine.specs.declared.start.StartSeat.{StartSeat};
 ghost use Rattle.table_engine.specs.Starts.{IsLawfulStart, chips_of, have_playable_stacks};
-ghost use Rattle.table_engine.specs.Hands.{HandTerms, behind, due_in_hand, due_name, is_over, player_of, put_in_hand, street_of, streets_of};
+ghost use Rattle.table_engine.specs.Deals.{dealt_cards};
+ghost use Rattle.table_engine.specs.Hands.{HandTerms, behind, due_in_hand, due_name, is_live, is_over, player_of, players_by_seat, put_in_hand, street_of, streets_of};
 ghost use Rattle.floor_text.specs.Refusals.{refusal_number};
 ghost use Rattle.rulebook.specs.Pairs.{are_rising};
-ghost use Rattle.table_engine.specs.Acts.{act_checks, done_of_act, refusal_of_act, time_act};
+ghost use Rattle.table_engine.specs.Acts.{act_checks, done_of_act, hand_after_time, refusal_of_act, refusal_of_time, time_act};
 ghost use Rattle.table_engine.specs.Results.{award, is_won_by_folds, players_after, pot, puts_in_hand, stacks_after_hand, starting_stacks};
 ghost use Rattle.table_engine.specs.Plays.{IsLawfulPlay, are_lawful_after};
 ghost use Rattle.table_engine.specs.declared.start.HandStart.{HandStart};
@@ -36,10 +39,18 @@ pub fn chips_of_a_hand()
         → chips_of (players_after hand) ≡ chips_of hand.start.seats }
 {}
 
-/// Says that each act of a lawful play is refused by no check on the acts before it.
+/// Says that each act of a lawful play is refused by no check on the acts before it. Where it came by a called time, to
+/// call time there is not refused and makes the hand with that act: what wrote the act back as a called time would play
+/// the same hand.
 pub fn acts_of_a_hand()
-    ensures { (hand : HandTerms) (front : List ActOf) (act : ActOf) (back : List ActOf) → IsLawfulPlay hand
+    ensures free { (hand : HandTerms) (front : List ActOf) (act : ActOf) (back : List ActOf) → IsLawfulPlay hand
         → hand.acts ≡ front ++ act ∷ back → refusal_of_act (record hand { acts = front }) act.name act.act ≡ None }
+    ensures called { (hand : HandTerms) (front : List ActOf) (act : ActOf) (back : List ActOf) → IsLawfulPlay hand
+        → hand.acts ≡ front ++ act ∷ back → act.by_time ≡ true
+        → refusal_of_time (record hand { acts = front }) ≡ None }
+    ensures timed { (hand : HandTerms) (front : List ActOf) (act : ActOf) (back : List ActOf) → IsLawfulPlay hand
+        → hand.acts ≡ front ++ act ∷ back → act.by_time ≡ true
+        → hand_after_time (record hand { acts = front }) ≡ record hand { acts = front ++ act ∷ [] } }
 {}
 
 /// Says that as long as a hand is not over somebody is due. He has chips behind, and he may fold, so there is always an
@@ -80,9 +91,9 @@ pub fn players_of_a_hand()
         → map (λ player. player.seat) (players_after hand) ≡ map (λ player. player.seat) hand.start.seats }
     ensures stacks { (hand : HandTerms) → map (λ player. player.stack) (players_after hand) ≡ stacks_after_hand hand }
     ensures whole { (hand : HandTerms) → IsLawfulStart hand.start → IsLawfulPlay hand
-        → list_all (λ player. player.stack % hand.start.unit == 0) (players_after hand) ≡ true }
+        → list_all (λ player. player.stack % hand.start.blind.unit == 0) (players_after hand) ≡ true }
     ensures playable { (hand : HandTerms) → IsLawfulStart hand.start → IsLawfulPlay hand → is_won_by_folds hand ≡ true
-        → have_playable_stacks hand.start.unit (players_after hand) ≡ true }
+        → have_playable_stacks hand.start.blind.unit (players_after hand) ≡ true }
 {}
 
 /// Says that a hand that is over and not won by folds comes to a showdown: a live player has put in chips, so that each
@@ -90,6 +101,22 @@ pub fn players_of_a_hand()
 pub fn showdown_of_a_hand()
     ensures { (hand : HandTerms) → IsLawfulStart hand.start → IsLawfulPlay hand → is_over hand ≡ true
         → is_won_by_folds hand ≡ false → is_contested (puts_in_hand hand) ≡ true }
+{}
+
+/// Says that a hand has a deck, and that no card is dealt twice: all hole cards of all players, the board and the burned
+/// cards are different cards, so no two players hold the same card, and none holds one of the board.
+pub fn cards_of_a_hand()
+    ensures deck { (start : HandStart) → IsLawfulStart start → IsDeck start.deck }
+    ensures apart { (start : HandStart) → IsLawfulStart start → AreDistinct (dealt_cards start) }
+{}
+
+/// Says that an uncalled bet comes back to its player. What a live player has put in above the height that any other
+/// player reached is among what he gets, where one player alone is live and at a showdown.
+pub fn an_uncalled_bet_comes_back()
+    ensures { (hand : HandTerms) (index height : ℕ) (player : StartSeat) → IsLawfulStart hand.start → IsLawfulPlay hand
+        → is_over hand ≡ true → slice_index_or (players_by_seat hand.start) index None ≡ Some player
+        → is_live hand player ≡ true → are_others_within (puts_in_hand hand) index height ≡ true
+        → put_in_hand hand player ≤ height + award hand player }
 {}
 
 /// Says that betting does not depend on cards.
@@ -105,12 +132,19 @@ pub fn cards_do_not_bet()
     ensures refusal { (hand : HandTerms) (deck : List Card) (name : List ℕ) (act : Act)
         → refusal_of_act (record hand { start = record hand.start { deck = deck } }) name act
         ≡ refusal_of_act hand name act }
+    ensures start { (start : HandStart) (deck : List Card) → IsLawfulStart start → IsDeck deck
+        → IsLawfulStart (record start { deck = deck }) }
+    ensures lawful { (hand : HandTerms) (deck : List Card) → IsLawfulPlay hand
+        → IsLawfulPlay (record hand { start = record hand.start { deck = deck } }) }
 {}
 
 /// Says that the checks of an act stand in rising number, so that the first that holds is the lowest.
 pub fn checks_of_an_act_rise()
-    ensures rise { (hand : HandTerms) (name : List ℕ) (act : Act)
+    ensures { (hand : HandTerms) (name : List ℕ) (act : Act)
         → are_rising (map (λ check. refusal_number check.0) (act_checks hand name act)) ≡ true }
-    ensures whole { (hand : HandTerms) → is_over hand ≡ true → is_won_by_folds hand ≡ false
-        → (streets_of hand).left ≡ 0 }
+{}
+
+/// Says that a hand that is over and not won by folds has come to its last street: none is left to begin.
+pub fn a_showdown_has_the_whole_board()
+    ensures { (hand : HandTerms) → is_over hand ≡ true → is_won_by_folds hand ≡ false → (streets_of hand).left ≡ 0 }
 {}

@@ -7,7 +7,7 @@ ghost use Rattle.table_engine.specs.Results.{with_stacks, players_after};
 
 use crate::players::set_stacks;
 use crate::start::{HandStart, StartSeat};
-use betting_round::Act;
+use betting_round::{Act, Done};
 use floor_text::{List, Name, Refusal};
 use std::alloc::{AllocError, AllocFailed};
 
@@ -20,6 +20,17 @@ pub struct ActOf {
     pub act: Act,
     /// Whether the act was made for him because time was called.
     pub by_time: bool,
+}
+
+/// An act that is not refused, with what it comes to.
+#[derive(Clone, Copy, Debug)]
+pub(crate) struct Accepted {
+    /// The seat of the player who acts.
+    pub seat: u8,
+    /// The act.
+    pub entry: ActOf,
+    /// What it comes to.
+    pub done: Done,
 }
 
 /// A hand that is over.

@@ -1,12 +1,13 @@
 //! How a hand starts.
 
-ghost use Rattle.std.specs.Prelude.{◌≡◌, Some, IsTrue, IfOk};
-ghost use Rattle.table_engine.specs.Hands.{seat_of_name, name_in_seat};
+ghost use Rattle.std.specs.Prelude.{◌≡◌, ◌≤◌, Some, IsTrue, IfOk};
+ghost use Rattle.table_engine.specs.Hands.{blind_of, name_in_seat, posted, seat_of_name};
 ghost use Rattle.table_engine.specs.Results.{with_stack};
 
 use button_blinds::Marks;
 use card_set::{Deck, Game};
 use floor_text::{List, Name};
+use level_plan::Blind;
 use std::alloc::{AllocError, Global};
 
 /// A player who is dealt in.
@@ -44,12 +45,8 @@ pub struct HandStart {
     pub seat_count: u8,
     /// The seats that have the button, the small and the big blind.
     pub marks: Marks,
-    /// The small blind, in chips.
-    pub small: u64,
-    /// The big blind, in chips.
-    pub big: u64,
-    /// The smallest denomination in play, in chips.
-    pub unit: u64,
+    /// The blinds, and the unit of the chips in play.
+    pub blind: Blind,
     /// Which game is played.
     pub game: Game,
     /// The deck from which the cards are dealt.
@@ -68,12 +65,31 @@ impl HandStart {
             seats: List::from_vec(seats),
             seat_count: self.seat_count,
             marks: self.marks,
-            small: self.small,
-            big: self.big,
-            unit: self.unit,
+            blind: self.blind,
             game: self.game,
             deck: self.deck,
         })
+    }
+
+    /// Gives the blind that is due of a seat, in chips.
+    pub fn blind_of(&self, seat: u8) -> u64
+        ensures { result ≡ blind_of self.now seat }
+    {
+        if seat == self.marks.big {
+            self.blind.big
+        } else if seat == self.marks.small {
+            self.blind.small
+        } else {
+            0
+        }
+    }
+
+    /// Tells what a player posts, in chips: the lesser of his stack and the blind that is due of his seat.
+    pub fn posted(&self, player: &StartSeat) -> u64
+        ensures posted { result ≡ posted self.now player.now }
+        ensures covered { result ≤ player.now.stack }
+    {
+        player.stack.min(self.blind_of(player.seat))
     }
 
     /// Gives the seat of the player of this name.

@@ -8,7 +8,6 @@ ghost use Rattle.table_engine.specs.Hands.{players_by_seat};
 ghost use Rattle.table_engine.specs.Tellings.{first_put, told};
 
 use crate::players::{InSlot, fill_slots};
-use crate::standing::posted;
 use crate::start::{HandStart, StartSeat};
 use betting_round::Act;
 use pot_layers::{PotTally, Put};
@@ -18,7 +17,7 @@ impl InSlot for Put {
     ghost made = { λ start player. first_put start (Some player) };
 
     fn make(start: &HandStart, player: &StartSeat) -> Put {
-        Put::live(posted(start, player))
+        Put::live(start.posted(player))
     }
 }
 

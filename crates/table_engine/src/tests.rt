@@ -1,4 +1,5 @@
 ghost use Rattle.std.specs.Prelude.{◌≡◌, ◌+◌, ◌<◌, ◌≤◌, ◌^◌, true, [], ◌∷◌, IfOk};
+ghost use Rattle.card_set.specs.Decks.{IsDeck};
 ghost use Rattle.table_engine.specs.Starts.{is_playable_stack};
 
 use super::*;
@@ -6,6 +7,7 @@ use betting_round::{Act, Done};
 use button_blinds::Marks;
 use card_set::{Deck, Game, read_row};
 use floor_text::{List, Name, Refusal};
+use level_plan::Blind;
 use std::alloc::Global;
 use std::process::Abort;
 use std::test::Fail;
@@ -47,9 +49,8 @@ fn start_of(
     ensures seats { result.seats ≡ seats.items }
     ensures table { result.seat_count ≡ seat_count }
     ensures marks { result.marks ≡ marks }
-    ensures small { result.small ≡ 100 }
-    ensures big { result.big ≡ 200 }
-    ensures unit { result.unit ≡ unit }
+    ensures deck { IsDeck result.deck }
+    ensures blind { result.blind ≡ record { small = 100; big = 200; unit = unit } }
 {
     HandStart {
         table: 1,
@@ -57,9 +58,11 @@ fn start_of(
         seats: List::from_vec(seats),
         seat_count,
         marks,
-        small: 100,
-        big: 200,
-        unit,
+        blind: Blind {
+            small: 100,
+            big: 200,
+            unit,
+        },
         game,
         deck,
     }

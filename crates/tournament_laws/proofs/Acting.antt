@@ -4,7 +4,7 @@ use Rattle.std.proofs.Common.{◌≡◌, ◌∙◌, refl, sym, ap, subst, ℕ, z
 use Rattle.std.specs.Prelude.{◌||◌, filter, slice_get, Option, Some, None, is_some, option_map, option_and_then}
 use Rattle.std.specs.List.{list_any, All}
 use Rattle.std.specs.Str.{bytes_eq}
-use Rattle.std.proofs.lemmas.Bool.{and_parts, not-true, or_left, or_right}
+use Rattle.std.proofs.lemmas.Bool.{and_parts, or_left, or_right}
 use Rattle.std.proofs.lemmas.List.Elements.{All-head, All-tail}
 use Rattle.std.proofs.lemmas.Slice.Eq.{bytes_eq-Decides}
 use Rattle.std.proofs.lemmas.Option.{same_Some}
@@ -21,7 +21,7 @@ use Rattle.floor_events.specs.declared.event.Event.{Event}
 use Rattle.floor_events.specs.declared.event.Event.TheVariants as events
 use Rattle.tournament_rules.specs.Books.{BookState, start_at, starters_of, has_table}
 use Rattle.tournament_rules.specs.Players.{start_seat}
-use Rattle.tournament_rules.specs.Checks.{book_checks, book_refusal, is_playing}
+use Rattle.tournament_rules.specs.Checks.{book_refusal, is_playing}
 use Rattle.tournament_rules.specs.States.{PlayState, act_table, acts_at, hand_at, refusal_of}
 use Rattle.tournament_rules.specs.Valid.{IsValid, IsValidPlay, is_lent, without_stack}
 use Rattle.tournament_rules.specs.Apart.{hand_refusal}
@@ -29,6 +29,7 @@ use Rattle.tournament_rules.proofs.Fitting.{table_started}
 use Rattle.tournament_rules.proofs.Names.{IsNamed}
 use Rattle.tournament_rules.proofs.Passed.{is_so, refusal-parts, passed-parts, act_passed, time_passed}
 use Rattle.tournament_laws.proofs.KeptHands.{hand_there}
+use Rattle.tournament_laws.proofs.Stopped.{goes_on}
 
 -- What is so of each act and of a called time at a table is so of each event that is one of these.
 pub by_act : (P : Event → Type 0) (table : ℕ) → ((name : List ℕ) (act : Act) → P (events.Act table name act))
@@ -55,7 +56,8 @@ picked_known : (entries : List (List ℕ)) (name : List ℕ) (test : Seated → 
     → is_known entries name ≡ true
 picked_known entries name test [] named some = absurd cc
 picked_known entries name test (player ∷ players) named some =
-    by_test (test player) some (picked_known entries name test players (All-tail (IsNamed entries) player players named))
+    by_test (test player) some
+    (picked_known entries name test players (All-tail (IsNamed entries) player players named))
   where
     his : bytes_eq player.name name ≡ true → is_known entries name ≡ true
     his same =
@@ -82,7 +84,7 @@ picked_known entries name test (player ∷ players) named some =
     by_test true some others = by_name (bytes_eq player.name name) refl some others
     by_test false some others = others some
 
--- Who is dealt in to a hand that is out entered.
+-- Who is dealt in to a hand that is played has entered.
 dealt_known : (book : BookState) (table : ℕ) (start : HandStart) (name : List ℕ) → IsValid book
     → start_at book.started table ≡ Some start → is_dealt start name ≡ true → is_known book.entries name ≡ true
 dealt_known book table start name valid started dealt =
@@ -107,53 +109,43 @@ acting play table event valid going playing free =
     let started = hand_there play table valid playing in
     record { going = going; hand = started.hand; started = started.is; free = rw started.is at free }
 
--- An act and a called time that the book does not refuse come before any stop.
-act_going : (book : BookState) (table : ℕ) (name : List ℕ) (act : Act)
-    → book_refusal book (events.Act table name act) ≡ None → book.stopped ≡ false
-unfolding book_refusal
-act_going book table name act none =
-    not-true _ (and_parts _ _ (none_holds (book_checks book (events.Act table name act)) none)).0
-
-time_going : (book : BookState) (table : ℕ) → book_refusal book (events.Time table) ≡ None → book.stopped ≡ false
-unfolding book_refusal
-time_going book table none = not-true _ (and_parts _ _ (none_holds (book_checks book (events.Time table)) none)).0
-
 -- Where an act or a called time is accepted, this is so.
 pub may_act : (play : PlayState) (table : ℕ) → IsValidPlay play → (event : Event) → act_table event ≡ Some table
     → refusal_of play event ≡ None → MayAct play table event
 may_act play table valid = by_act (λ event. refusal_of play event ≡ None → MayAct play table event) table
     (λ name act none.
     let parts = passed-parts play (events.Act table name act) none in
-    acting play table (events.Act table name act) valid (act_going play.book table name act parts.0)
+    acting play table (events.Act table name act) valid (goes_on play.book (events.Act table name act) parts.0)
     (act_passed play.book table name act parts.0).playing
     parts.1)
     (λ none.
     let parts = passed-parts play (events.Time table) none in
-    acting play table (events.Time table) valid (time_going play.book table parts.0)
+    acting play table (events.Time table) valid (goes_on play.book (events.Time table) parts.0)
     (time_passed play.book table parts.0).playing
     parts.1)
 
--- What a book has where a hand is out at a table.
-record IsHeld (book : BookState) (table : ℕ) (start : HandStart) : Type 0 where
-  started : start_at book.started table ≡ Some start
-  there : has_table book table ≡ true
-  playing : is_playing book table ≡ true
+-- What a book has where a hand is played at a table.
+pub record IsStartedAt (book : BookState) (table : ℕ) (start : HandStart) : Type 0 where
+  pub started : start_at book.started table ≡ Some start
+  pub there : has_table book table ≡ true
+  pub playing : is_playing book table ≡ true
 
--- A hand that is out is at a table of the plan that is played at.
-held : (play : PlayState) (table : ℕ) (hand : HandTerms) → IsValidPlay play → hand_at play table ≡ Some hand
-    → IsHeld play.book table hand.start
-held play table hand valid is = by_start (start_at play.book.started table) refl is
+-- A hand that is played is at a table of the plan.
+pub started_at : (play : PlayState) (table : ℕ) (hand : HandTerms) → IsValidPlay play → hand_at play table ≡ Some hand
+    → IsStartedAt play.book table hand.start
+started_at play table hand valid is = by_start (start_at play.book.started table) refl is
   where
     by_start : (start : Option HandStart) → start_at play.book.started table ≡ start
         → option_map (λ start. record { start = start; acts = acts_at play.acts table }) start ≡ Some hand
-        → IsHeld play.book table hand.start
+        → IsStartedAt play.book table hand.start
     by_start None started is = absurd cc
     by_start (Some start) started is =
         let same : start ≡ hand.start = ap (λ (hand : HandTerms). hand.start) (same_Some _ hand is) in
         let found : start_at play.book.started table ≡ Some hand.start = started ∙ ap Some same in
         record {
           started = found;
-          there = table_started play.book.plan play.book.seating play.book.started table hand.start valid.book.tables found;
+          there = table_started play.book.plan play.book.seating play.book.started table hand.start valid.book.tables
+              found;
           playing = valid.book.tables.playing table ∙ ap is_some found;
         }
 
@@ -163,6 +155,12 @@ act_free : (book : BookState) (table : ℕ) (name : List ℕ) (act : Act) → bo
     → book_refusal book (events.Act table name act) ≡ None
 unfolding book_refusal
 act_free book table name act going known there playing = rw (going, known, there, playing) refl
+
+-- Nor does it refuse a settle there.
+pub settle_free : (book : BookState) (table : ℕ) → book.stopped ≡ false → has_table book table ≡ true
+    → is_playing book table ≡ true → book_refusal book (events.Settle table) ≡ None
+unfolding book_refusal
+settle_free book table going there playing = rw (going, there, playing) refl
 
 -- Nor does it refuse a called time there.
 time_free : (book : BookState) (table : ℕ) → book.stopped ≡ false → has_table book table ≡ true
@@ -182,12 +180,12 @@ pub acts_freely : (play : PlayState) (table : ℕ) → IsValidPlay play → (eve
 acts_freely play table valid = by_act (λ event. MayAct play table event → refusal_of play event ≡ None) table
     (λ name act may.
     let event = events.Act table name act in
-    let has = held play table may.hand valid may.started in
+    let has = started_at play table may.hand valid may.started in
     let known = dealt_known play.book table may.hand.start name valid.book has.started
     (act_dealt may.hand table name act may.free) in
     let book = act_free play.book table name act may.going known has.there has.playing in
     refusal-parts play event ∙ rw (book, may.started) may.free)
     (λ may.
-    let has = held play table may.hand valid may.started in
+    let has = started_at play table may.hand valid may.started in
     let book = time_free play.book table may.going has.there has.playing in
     refusal-parts play (events.Time table) ∙ rw (book, may.started) may.free)

@@ -32,7 +32,7 @@ use Rattle.tournament_rules.proofs.Steps.{go_right, valid_events}
 use Rattle.tournament_rules.proofs.Plays.{play_keeps, valid_first_play}
 use Rattle.tournament_rules.proofs.Layers.{start_read, acts_read, hand_for-read, map_empty, hands_length, all_empty}
 
--- The starts of the hands are those that are out, and the tournament that they are is valid.
+-- The starts of the hands are those that the book has, and the tournament that they are is valid.
 pub record AreTied (apart : Apart) : Type 0 where
   pub tied : map start_of apart.hands ≡ apart.book.started
   pub valid : IsValidPlay (seen_of apart)
@@ -45,7 +45,7 @@ refused_alike apart event ties =
     let later = ap (option_and_then (hand_refusal event)) same in
     refusal-parts (seen_of apart) event ∙ ap (option_or (book_refusal apart.book event)) later
 
--- A hand is out at a table that is played at.
+-- There is a hand at a table that is played at.
 hand_there : (apart : Apart) (table : ℕ) → AreTied apart → is_playing apart.book table ≡ true
     → (hand : HandTerms) × (hand_in apart.hands table ≡ Some hand)
 hand_there apart table ties playing =
@@ -60,7 +60,8 @@ hand_there apart table ties playing =
 
 -- An accepted event makes the same of the hands as of the starts and the acts.
 pub record IsAlike (apart : Apart) (event : Event) : Type 0 where
-  pub tied : map start_of (hands_effect apart event) ≡ (book_effect apart.book (hand_for apart.hands event) event).started
+  pub tied : map start_of (hands_effect apart event)
+      ≡ (book_effect apart.book (hand_for apart.hands event) event).started
   pub acts : map acts_of (hands_effect apart event)
       ≡ acts_effect (map acts_of apart.hands) (hand_for apart.hands event) event
 
@@ -123,7 +124,8 @@ tables_left book tables =
 
 stop_alike : (apart : Apart) → AreTied apart → IsAlike apart events.Stop
 stop_alike apart ties =
-    let none = all_empty (stopped_book apart.book).started (λ table. none_started-stopped apart.book table ties.valid.book) in
+    let none = all_empty (stopped_book apart.book).started
+    (λ table. none_started-stopped apart.book table ties.valid.book) in
     let tables = tables_left apart.book apart.book.plan.tables in
     let after = (valid_stopped apart.book ties.valid.book).tables.room in
     let before = ties.valid.book.tables.room in
@@ -204,7 +206,8 @@ runs_alike : (apart : Apart) (events : List Event) → AreTied apart
 runs_alike apart [] ties = refl
 runs_alike apart (event ∷ events) ties =
     let after = after_alike apart event ties in
-    runs_alike (after_apart apart event) events after.ties ∙ ap (λ (play : PlayState). run_in_play play events) after.seen
+    runs_alike (after_apart apart event) events after.ties
+    ∙ ap (λ (play : PlayState). run_in_play play events) after.seen
 
 -- A book before any entry and no hand are the tournament before any entry.
 first_alike : (plan : PlanTerms) → is_right plan ≡ true → AreAfter (first_apart plan) (first_play plan)

@@ -36,29 +36,26 @@ added-settled book (Some hand) = refl
 -- No event but an entry sells chips.
 sold-effect : (book : BookState) (hand : Option HandTerms) (event : Event) → is_entry event ≡ false
     → sold_by (book_effect book hand event) ≡ sold_by book
-sold-effect book hand (events.Enter name table seat) kind = absurd cc
 sold-effect book hand (events.Settle table) kind = sold-settled book hand
 sold-effect book hand events.Stop kind =
     left-void_first sold_by (record { same = λ book table payees. refl }) book book.plan.tables
-sold-effect book hand _ kind = refl
+sold-effect book hand _ kind = cc
 
 -- No event but a race takes chips away.
 removed-effect : (book : BookState) (hand : Option HandTerms) (event : Event) → is_race event ≡ false
     → (book_effect book hand event).removed ≡ book.removed
-removed-effect book hand (events.Race table row) kind = absurd cc
 removed-effect book hand (events.Settle table) kind = removed-settled book hand
 removed-effect book hand events.Stop kind =
     left-void_first (λ book. book.removed) (record { same = λ book table payees. refl }) book book.plan.tables
-removed-effect book hand _ kind = refl
+removed-effect book hand _ kind = cc
 
 -- No event but a race gives chips.
 added-effect : (book : BookState) (hand : Option HandTerms) (event : Event) → is_race event ≡ false
     → (book_effect book hand event).added ≡ book.added
-added-effect book hand (events.Race table row) kind = absurd cc
 added-effect book hand (events.Settle table) kind = added-settled book hand
 added-effect book hand events.Stop kind =
     left-void_first (λ book. book.added) (record { same = λ book table payees. refl }) book book.plan.tables
-added-effect book hand _ kind = refl
+added-effect book hand _ kind = cc
 
 -- What an accepted event keeps of a book, and what is nothing before any entry, it keeps of a state.
 key-accepted : (key : BookState → ℕ) (draft : Draft) (play : Option PlayState) (count : ℕ) (event : Event)

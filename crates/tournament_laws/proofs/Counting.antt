@@ -1,9 +1,8 @@
 -- What is counted along a list of events: hands as they begin, and levels.
-use Rattle.std.proofs.Common.{◌≡◌, ◌∙◌, refl, sym, ap, ℕ, ◌+◌, ◌≤◌, Bool, true, false, ◌&&◌, List, [], ◌∷◌, length, arith}
+use Rattle.std.proofs.Common.{◌≡◌, ◌∙◌, refl, ap, ℕ, ◌+◌, ◌≤◌, Bool, true, false, ◌&&◌, List, [], ◌∷◌, length, arith}
 use Rattle.std.specs.Prelude.{if◌then◌else◌, Option, Some, None, option_map}
 use Rattle.std.specs.Option.{option_map_or, ForSome}
 use Rattle.std.proofs.lemmas.List.{get_or-set_same}
-use Rattle.std.proofs.lemmas.Option.{same_Some}
 use Rattle.level_plan.specs.Drafts.{Draft}
 use Rattle.table_engine.specs.declared.start.HandStart.{HandStart}
 use Rattle.card_set.specs.declared.card.CardRow.{CardRow}
@@ -15,7 +14,7 @@ use Rattle.tournament_rules.specs.Books.{BookState, start_at}
 use Rattle.tournament_rules.specs.Dealing.{next_start}
 use Rattle.tournament_rules.specs.Effects.{settled, book_effect}
 use Rattle.tournament_rules.specs.Kinds.{is_begin}
-use Rattle.tournament_rules.specs.States.{State, PlayState, first_state, hand_about, answer_to, is_accepted, accepted, play_effect, state_after, run}
+use Rattle.tournament_rules.specs.States.{State, PlayState, first_state, hand_about, answer_to, is_accepted, accepted, state_after, run}
 use Rattle.tournament_rules.specs.Valid.{IsValid}
 use Rattle.tournament_rules.proofs.Steps.{valid_events}
 use Rattle.std.proofs.lemmas.Bool.{and_from, le-leb}
@@ -27,7 +26,7 @@ use Rattle.tournament_rules.proofs.Fitting.{table_range}
 use Rattle.tournament_rules.proofs.Passed.{passed-parts}
 use Rattle.tournament_laws.specs.Accepted.{how_many_accepted}
 use Rattle.tournament_laws.proofs.Kept.{run_keeps_all}
-use Rattle.tournament_laws.proofs.MoveLaws.{not_refused}
+use Rattle.tournament_laws.proofs.MoveLaws.{after_accepted}
 
 -- how many hands have begun, and none before there is a plan
 abbrev begun_in : State → ℕ
@@ -43,7 +42,8 @@ begun-effect book hand (events.Settle table) = by_hand hand
     by_hand None = omega arith
     by_hand (Some hand) = omega arith
 begun-effect book hand events.Stop =
-    let same = left-void_first (λ book. book.begun) (record { same = λ book table payees. refl }) book book.plan.tables in
+    let same = left-void_first (λ book. book.begun)
+    (record { same = λ book table payees. refl }) book book.plan.tables in
     omega (arith, same)
 begun-effect book hand _ = omega arith
 
@@ -88,34 +88,31 @@ begun-counted events play is =
     let here = ap (λ (play : Option PlayState). option_map_or (λ play. play.book.begun) play 0) is in
     omega (arith, all, here)
 
+-- The hand at a table has the number after the begins that were accepted before it.
+abbrev numbered : List Event → ℕ → PlayState → Type 0
+numbered before table play = option_map (λ start. start.serial) (start_at play.book.started table)
+    ≡ Some (how_many_accepted is_begin first_state before + 1)
+
 -- A hand that begins has the next number.
 pub begins-numbered : (before : List Event) (table : ℕ) (row : CardRow)
     → answer_to (run first_state before) (events.Begin table row) ≡ Ok
-    → ForSome (state_after (run first_state before) (events.Begin table row)).play (λ play.
-    option_map (λ start. start.serial) (start_at play.book.started table)
-    ≡ Some (how_many_accepted is_begin first_state before + 1))
-begins-numbered before table row taken later after = by_play state.play refl
+    → ForSome (state_after (run first_state before) (events.Begin table row)).play (numbered before table)
+begins-numbered before table row taken = by_play state.play refl
   where
     state : State
     state = run first_state before
 
     by_play : (found : Option PlayState) → state.play ≡ found
-        → option_map (λ start. start.serial) (start_at later.book.started table)
-        ≡ Some (how_many_accepted is_begin first_state before + 1)
+        → ForSome (state_after state (events.Begin table row)).play (numbered before table)
     by_play None at = let none : No NoPlan ≡ Ok = rw at at taken in absurd cc
     by_play (Some play) at =
-        let accepted = ap is_accepted taken in
-        let next : (state_after state (events.Begin table row)).play ≡ Some (play_effect play (events.Begin table row)) =
-        rw (accepted, at) refl in
-        let is = same_Some (play_effect play (events.Begin table row)) later (sym next ∙ after) in
-        let free = not_refused state play (events.Begin table row) at taken in
-        let may = may_begin play.book table row (passed-parts play (events.Begin table row) free).0 in
+        after_accepted (numbered before table) state (events.Begin table row) play at taken (λ none.
+        let may = may_begin play.book table row (passed-parts play (events.Begin table row) none).0 in
         let range = table_range 1 play.book.plan.tables table may.there in
         let room = ((valid_events before).play play at).book.tables.room in
         let start = next_start play.book table row.cards in
         let here = get_or-set_same play.book.started table (Some start) None (omega (arith, range.1, room)) in
-        ap (λ (play : PlayState). option_map (λ start. start.serial) (start_at play.book.started table)) (sym is)
-        ∙ (ap (option_map (λ (start : HandStart). start.serial)) here
+        ap (option_map (λ (start : HandStart). start.serial)) here
         ∙ ap (λ (count : ℕ). Some (count + 1)) (begun-counted before play at))
 
 -- A level raises the level by one, and no other event of the book changes it.
@@ -127,7 +124,8 @@ level-effect book hand (events.Settle table) = by_hand hand
     by_hand None = omega arith
     by_hand (Some hand) = omega arith
 level-effect book hand events.Stop =
-    let same = left-void_first (λ book. book.level) (record { same = λ book table payees. refl }) book book.plan.tables in
+    let same = left-void_first (λ book. book.level)
+    (record { same = λ book table payees. refl }) book book.plan.tables in
     omega (arith, same)
 level-effect book hand _ = omega arith
 

@@ -118,11 +118,9 @@ round_kept group play event kind free is =
         by_hand None = refl
         by_hand (Some hand) =
             ap (λ (hands : Bool). if hands then play.book.group else play.book.group + 1) is.on
-    by_event (events.Hands on) stays = absurd cc
-    by_event events.Round stays = absurd cc
     by_event events.Stop stays = left-void_first (λ book. book.group) (record { same = λ book table payees. refl })
         play.book play.book.plan.tables
-    by_event _ stays = refl
+    by_event _ stays = cc
 
 -- What a test tells of all of a list.
 all_so : (P : Bust → Type 0) (test : Bust → Bool) → ((bust : Bust) → test bust ≡ true → P bust) → (busts : List Bust)
@@ -131,18 +129,19 @@ all_so P test so busts all =
     All-weaker (λ (bust : Bust). test bust ≡ true) P so busts (AllPass-from_list_all test busts all)
 
 -- those who went out between two moments
-abbrev out_between : BookState → BookState → List Bust
-out_between earlier later = drop (length earlier.busts) later.busts
+abbrev busts_between : BookState → BookState → List Bust
+busts_between earlier later = drop (length earlier.busts) later.busts
 
-started-more : (earlier later : BookState) (grows : Grows earlier later) → out_between earlier later ≡ grows.more
-started-more earlier later grows =
+busts_between-more : (earlier later : BookState) (grows : Grows earlier later)
+    → busts_between earlier later ≡ grows.more
+busts_between-more earlier later grows =
     ap (drop (length earlier.busts)) grows.is ∙ drop-append_seam earlier.busts grows.more
 
 -- Who goes out in a round is in one group.
 pub one_group : (state : State) (during : List Event) (play later : PlayState) → state.play ≡ Some play
     → (run state during).play ≡ Some later → IsValidPlay later → play.book.seating.hands ≡ true
     → is_any_accepted ends_round state during ≡ false
-    → All (λ bust. bust.group ≡ play.book.group) (out_between play.book later.book)
+    → All (λ bust. bust.group ≡ play.book.group) (busts_between play.book later.book)
 one_group state during play later at after valid on none =
     let grows = run_grows state during play later at after in
     let round = run_keeps (IsInRound play.book.group) ends_round (round_kept play.book.group) state during play later at
@@ -151,7 +150,7 @@ one_group state during play later at after valid on none =
     ∙ valid.book.busts.past in
     let parts = and_parts _ _ (sym (list_all-append (λ (bust : Bust). nat_le bust.group later.book.group)
     play.book.busts grows.more) ∙ whole) in
-    subst (All (λ (bust : Bust). bust.group ≡ play.book.group)) (sym (started-more play.book later.book grows))
+    subst (All (λ (bust : Bust). bust.group ≡ play.book.group)) (sym (busts_between-more play.book later.book grows))
     (by_list grows.more grows.least
     (ap (λ (group : ℕ). list_all (λ (bust : Bust). nat_le bust.group group) grows.more) (sym round.same) ∙ parts.1))
   where
@@ -168,10 +167,10 @@ one_group state during play later at after valid on none =
 -- Who goes out once the group has risen is in a later group than all who were out.
 groups_apart : (group : ℕ) (mid later : BookState) → list_all (λ bust. nat_le bust.group group) mid.busts ≡ true
     → group < mid.group → Grows mid later
-    → All (λ one. All (λ other. one.group < other.group) (out_between mid later)) mid.busts
+    → All (λ one. All (λ other. one.group < other.group) (busts_between mid later)) mid.busts
 groups_apart group mid later past risen grows =
     subst (λ (busts : List Bust). All (λ (one : Bust). All (λ (other : Bust). one.group < other.group) busts) mid.busts)
-    (sym (started-more mid later grows))
+    (sym (busts_between-more mid later grows))
     (all_so (λ one. All (λ other. one.group < other.group) grows.more) (λ bust. nat_le bust.group group)
     (λ one most. all_so (λ other. one.group < other.group) (λ bust. nat_le mid.group bust.group)
     (λ other least. apart one.group group mid.group other.group most risen least) grows.more grows.least)
@@ -206,7 +205,7 @@ group_rises state event play later at kind taken after =
 pub rounds_apart : (state : State) (after : List Event) (event : Event) (play later : PlayState)
     → state.play ≡ Some play → IsValidPlay play → ends_round event ≡ true → answer_to state event ≡ Ok
     → (run (state_after state event) after).play ≡ Some later
-    → All (λ one. All (λ other. one.group < other.group) (out_between play.book later.book)) play.book.busts
+    → All (λ one. All (λ other. one.group < other.group) (busts_between play.book later.book)) play.book.busts
 rounds_apart state after event play later at valid kind taken ends =
     let accepted = ap is_accepted taken in
     let next : (state_after state event).play ≡ Some (play_effect play event) = rw (accepted, at) refl in
@@ -225,7 +224,7 @@ pub settles_apart : (state : State) (after : List Event) (table : ℕ) (play mid
     → state.play ≡ Some play → IsValidPlay play → play.book.seating.hands ≡ false
     → answer_to state (events.Settle table) ≡ Ok → (state_after state (events.Settle table)).play ≡ Some mid
     → (run (state_after state (events.Settle table)) after).play ≡ Some later
-    → All (λ one. All (λ other. one.group < other.group) (out_between mid.book later.book)) mid.book.busts
+    → All (λ one. All (λ other. one.group < other.group) (busts_between mid.book later.book)) mid.book.busts
 settles_apart state after table play mid later at valid off taken middle ends =
     let event = events.Settle table in
     let free = passed-parts play event (not_refused state play event at taken) in

@@ -27,12 +27,12 @@ use Rattle.tournament_rules.proofs.Plays.{some_so}
 use Rattle.tournament_rules.proofs.Steps.{accepted_none}
 use Rattle.tournament_rules.proofs.Begins.{start_is_lawful}
 use Rattle.tournament_rules.proofs.Members.{in_hand-lent}
-use Rattle.tournament_rules.proofs.Outs.{one_owed}
+use Rattle.tournament_rules.proofs.InOrBust.{one_owed}
 
 -- Each entered player has exactly one seat or one row of those who are out.
-pub in_or_out : (book : BookState) → IsValid book → (number : ℕ) → number < length book.entries
+pub in_or_bust : (book : BookState) → IsValid book → (number : ℕ) → number < length book.entries
     → count_by (is_numbered number) book.seating.players + count_by (is_bust_of number) book.busts ≡ 1
-in_or_out book valid number within = valid.entries.once number ∙ one_owed number (length book.entries) within
+in_or_bust book valid number within = valid.entries.once number ∙ one_owed number (length book.entries) within
 
 -- who sits at a table is lent there where he has nothing at rest
 lent_here : (table stack : ℕ) → (table == table && stack == 0) ≡ (stack == 0)
@@ -44,8 +44,8 @@ pub stacks_above : (book : BookState) → IsValid book
 stacks_above book valid =
     All-weaker (λ player. is_in_hand book.started player ≡ is_lent player.place.table player)
     (λ player. is_in_hand book.started player ≡ false → 0 < player.stack)
-    (λ player same started.
-    let some = eqb-false player.stack 0 (sym (lent_here player.place.table player.stack) ∙ (sym same ∙ started)) in
+    (λ player same rests.
+    let some = eqb-false player.stack 0 (sym (lent_here player.place.table player.stack) ∙ (sym same ∙ rests)) in
     omega (arith, some)) book.seating.players
     (in_hand-lent book valid)
 
@@ -67,15 +67,18 @@ in_hand-picked : (started : List (Option HandStart)) (table : ℕ) (players : Li
     → filter (is_in_hand started) (filter (sits_at table) players) ≡ filter (is_lent table) players
 in_hand-picked started table [] each = refl
 in_hand-picked started table (player ∷ players) each =
-    let others = All-tail (λ player. is_in_hand started player ≡ is_lent player.place.table player) player players each in
+    let others = All-tail
+    (λ player. is_in_hand started player ≡ is_lent player.place.table player) player players each in
     by_seat (sits_at table player) refl (in_hand-picked started table players others)
   where
     by_seat : (sits : Bool) → sits_at table player ≡ sits
         → filter (is_in_hand started) (filter (sits_at table) players) ≡ filter (is_lent table) players
-        → filter (is_in_hand started) (cond sits (player ∷ filter (sits_at table) players) (filter (sits_at table) players))
+        → filter (is_in_hand started)
+        (cond sits (player ∷ filter (sits_at table) players) (filter (sits_at table) players))
         ≡ cond (sits && player.stack == 0) (player ∷ filter (is_lent table) players) (filter (is_lent table) players)
     by_seat true is others =
-        let his = All-head (λ player. is_in_hand started player ≡ is_lent player.place.table player) player players each in
+        let his = All-head (λ player. is_in_hand started player ≡ is_lent player.place.table player) player players
+        each in
         rw (his ∙ lent_here player.place.table player.stack, others) refl
     by_seat false is others = others
 
@@ -102,7 +105,7 @@ pub players_in_order : (play : Option PlayState) → ForSome play IsValidPlay
 players_in_order None valid = refl
 players_in_order (Some play) valid = (valid play refl).book.tables.lawful.ordered
 
--- Each hand that is out started lawfully.
+-- Each hand that is played started lawfully.
 pub hand_started : (play : PlayState) → IsValidPlay play → (table : ℕ)
     → ForSome (hand_at play table) (λ hand. IsLawfulStart hand.start)
 hand_started play valid table = by_start (start_at play.book.started table) (valid.book.hands.starts table)

@@ -1,7 +1,7 @@
 -- Two neighbors of which one is an act or a called time, in a state: each is accepted before the other just where it is
 -- accepted after it, and the state after both is the same.
 use Rattle.std.proofs.Common.{◌≡◌, ◌∙◌, refl, sym, ap, ℕ, ◌+◌, Bool, true, false, inl, inr}
-use Rattle.std.specs.Prelude.{Option, Some, None, is_none, option_map}
+use Rattle.std.specs.Prelude.{Option, Some, None, option_map}
 use Rattle.std.specs.Option.{ForSome}
 use Rattle.std.proofs.lemmas.Bool.{eq-eqb, cases_Bool}
 use Rattle.floor_text.specs.declared.refusal.Refusal.{Refusal}
@@ -113,7 +113,7 @@ no_act : (draft : Draft) (count table : ℕ) (act : Event) → act_table act ≡
 no_act draft count table = by_act (λ act. is_accepted (answer_to (unplanned draft count) act) ≡ true → ⊥) table
     (λ name act taken. absurd cc) (λ taken. absurd cc)
 
--- Nor is one directly after the plan is whole, since no hand is out.
+-- Nor is one directly after the plan is whole, since no hand is played.
 no_act_yet : (plan : PlanTerms) (table : ℕ) (act : Event) → is_right plan ≡ true → act_table act ≡ Some table
     → is_accepted (answered (refusal_of (first_play plan) act)) ≡ true → ⊥
 no_act_yet plan table act right at taken =
@@ -177,6 +177,12 @@ pub act_of_hands : (table : ℕ) (act : Event) → act_table act ≡ Some table 
 act_of_hands table =
     by_act (λ act. is_of_hands table act ≡ true) table (λ name act. eq-eqb table table refl) (eq-eqb table table refl)
 
+-- An event that is no act and no called time is one of the book.
+pub of_book : (event : Event) → act_table event ≡ None → is_of_book event ≡ true
+of_book (events.Act table name act) none = absurd cc
+of_book (events.Time table) none = absurd cc
+of_book _ none = refl
+
 -- Two events that have no key in common may change places.
 pub exchange : (state : State) (one other : Event) → IsValidState state → AreApart one other
     → is_accepted (answer_to state one) ≡ true → is_accepted (answer_to (state_after state one) other) ≡ true
@@ -199,6 +205,6 @@ exchange state one other valid apart first second = by_tables (act_table one) re
           | inr differs ↦ differs
         ]
     by_tables None at None there =
-        let same = apart None (ap is_none at) in
-        let his = ap is_none there in
+        let same = apart None (of_book one at) in
+        let his = of_book other there in
         absurd cc

@@ -1,12 +1,12 @@
 -- What events keep of how a table stands, and what is so along a list of events.
 use Rattle.std.proofs.Common.{◌≡◌, ◌∙◌, refl, sym, subst, ℕ, zero, suc, ◌+◌, Bool, true, false, ◌&&◌, List, [], ◌∷◌, get_or}
 use Rattle.std.specs.Prelude.{nat_lt, slice_set, if◌then◌else◌, Option, Some, None}
-use Rattle.std.specs.Option.{option_map_or}
+use Rattle.std.specs.Option.{option_map_or, ForSome}
 use Rattle.std.proofs.lemmas.Bool.{or_parts}
 use Rattle.std.proofs.lemmas.Option.{same_Some}
 use Rattle.rulebook.proofs.Sides.{first_fails}
 use Rattle.button_blinds.specs.declared.marks.Marks.{Marks}
-use Rattle.level_plan.specs.Plans.{unit_of_level}
+use Rattle.level_plan.specs.Plans.{PlanTerms, unit_of_level}
 use Rattle.seat_book.specs.declared.place.Place.{Place}
 use Rattle.seat_book.specs.declared.table_status.TableStatus.{TableStatus}
 use Rattle.seat_book.specs.Counts.{is_open}
@@ -26,11 +26,14 @@ use Rattle.tournament_rules.specs.Kinds.{is_level}
 use Rattle.tournament_laws.specs.Accepted.{is_any_accepted}
 use Rattle.tournament_rules.specs.Moving.{after_all, move_of}
 use Rattle.tournament_rules.specs.Racing.{announced_table, announced, raced_off}
-use Rattle.tournament_rules.specs.States.{State, PlayState, refusal_of, answer_to, answered, is_accepted, play_effect, state_after, run}
+use Rattle.tournament_rules.specs.States.{State, PlayState, first_state, first_play, accepted, refusal_of, answer_to, answered, is_accepted, play_effect, state_after, run}
 use Rattle.tournament_rules.proofs.Ends.{left-void_first}
 use Rattle.tournament_rules.proofs.Levels.{each_raised}
 use Rattle.tournament_rules.proofs.Rounds.{each_begun}
-use Rattle.tournament_rules.proofs.Steps.{accepted_none}
+use Rattle.tournament_rules.proofs.Steps.{accepted_none, valid_first_state, valid_state_after}
+use Rattle.tournament_rules.proofs.Plays.{some_so, play_keeps}
+use Rattle.tournament_rules.specs.Valid.{IsValidPlay, IsValidState}
+use Rattle.level_plan.specs.Drafts.{Draft, plan_of}
 
 -- What a change keeps of each table, it keeps once one table is changed so.
 pub each_set : (P : TableStatus → Type 0) (change : TableStatus → TableStatus)
@@ -82,14 +85,9 @@ pub record IsKept (P : TableStatus → Type 0) (hands : Bool) (event : Event) : 
 pub status_kept : (P : TableStatus → Type 0) (book : BookState) (hand : Option HandTerms) (event : Event) (table : ℕ)
     → IsKept P book.seating.hands event → P (status_at book.seating.tables table)
     → P (status_at (book_effect book hand event).seating.tables table)
-status_kept P book hand (events.Plan line) table keeps is = is
-status_kept P book hand events.Go table keeps is = is
-status_kept P book hand (events.Enter name at seat) table keeps is = is
 status_kept P book hand (events.Begin at row) table keeps is =
     each_set P (playing_from (next_at book at).marks book.seating.hands) (keeps.plays (next_at book at).marks)
     book.seating.tables at table is
-status_kept P book hand (events.Act at name act) table keeps is = is
-status_kept P book hand (events.Time at) table keeps is = is
 status_kept P book hand (events.Settle at) table keeps is = by_hand hand
   where
     by_hand : (hand : Option HandTerms)
@@ -135,16 +133,11 @@ status_kept P book hand events.Stop table keeps is = by_tables book.plan.tables
     by_tables (suc count) =
         by_start (void_first book count) (suc count) (by_tables count)
         (start_at (void_first book count).started (suc count))
+status_kept P book hand _ table keeps is = is
 
 -- Hand-for-hand stays on or off but at a switch.
 pub hands_kept : (book : BookState) (hand : Option HandTerms) (event : Event) → is_turn event ≡ false
     → (book_effect book hand event).seating.hands ≡ book.seating.hands
-hands_kept book hand (events.Plan line) same = refl
-hands_kept book hand events.Go same = refl
-hands_kept book hand (events.Enter name table seat) same = refl
-hands_kept book hand (events.Begin table row) same = refl
-hands_kept book hand (events.Act table name act) same = refl
-hands_kept book hand (events.Time table) same = refl
 hands_kept book hand (events.Settle table) same = by_hand hand
   where
     by_hand : (hand : Option HandTerms) → (option_map_or (settled book) hand book).seating.hands ≡ book.seating.hands
@@ -179,11 +172,9 @@ hands_kept book hand events.Level same =
         ≡ book.seating.hands
     by_units true = refl
     by_units false = refl
-hands_kept book hand (events.Race table row) same = refl
-hands_kept book hand (events.Hands on) same = absurd cc
-hands_kept book hand events.Round same = absurd cc
 hands_kept book hand events.Stop same =
     left-void_first (λ book. book.seating.hands) (record { same = λ book table payees. refl }) book book.plan.tables
+hands_kept book hand _ same = cc
 
 -- What is so of a tournament, and stays so at each accepted event but those that a test picks, is so after a list of
 -- events in which none of these is accepted.
@@ -221,12 +212,24 @@ none_picked state [] = refl
 none_picked state (event ∷ events) = none_picked (state_after state event) events
 
 -- What stays so at every event is so after a list of events.
-pub run_keeps_all : (P : PlayState → Type 0) → ((play : PlayState) (event : Event) → P play → P (play_effect play event))
+pub run_keeps_all : (P : PlayState → Type 0)
+    → ((play : PlayState) (event : Event) → P play → P (play_effect play event))
     → (state : State) (events : List Event) (play later : PlayState) → state.play ≡ Some play
     → (run state events).play ≡ Some later → P play → P later
 run_keeps_all P keeps state events play later at after =
     run_keeps P (λ event. false) (λ play event kind free. keeps play event) state events play later at after
     (none_picked state events)
+
+-- What is so of a valid tournament, and stays so at each accepted event, is so after a list of events.
+pub run_keeps_valid : (P : PlayState → Type 0)
+    → ((play : PlayState) (event : Event) → IsValidPlay play → refusal_of play event ≡ None → P play
+    → P (play_effect play event))
+    → (state : State) (events : List Event) (play later : PlayState) → state.play ≡ Some play
+    → (run state events).play ≡ Some later → IsValidPlay play → P play → P later
+run_keeps_valid P keeps state events play later at after valid is =
+    (run_keeps (λ play. IsValidPlay play × P play) (λ event. false)
+    (λ play event kind free both. (play_keeps play event both.0 free, keeps play event both.0 free both.1)) state events
+    play later at after (none_picked state events) (valid, is)).1
 
 -- Once there is a plan, there is one after any events.
 pub run_some : (state : State) (events : List Event) (play : PlayState) → state.play ≡ Some play
@@ -243,3 +246,36 @@ run_some state (event ∷ events) play at =
     by_answer true taken rest =
         rest (play_effect play event) (rw (taken, at) refl)
     by_answer false taken rest = rest play (rw taken at)
+
+-- What is so of a tournament before any entry, and stays so at each accepted event, is so after any list of events.
+pub events_keep : (P : PlayState → Type 0) → ((plan : PlanTerms) → P (first_play plan))
+    → ((play : PlayState) (event : Event) → IsValidPlay play → refusal_of play event ≡ None → P play
+    → P (play_effect play event))
+    → (list : List Event) → ForSome (run first_state list).play P
+events_keep P first keeps list =
+    by_list list first_state valid_first_state (λ play is. absurd cc)
+  where
+    by_play : (draft : Draft) (play : Option PlayState) (count : ℕ) (event : Event) → ForSome play IsValidPlay
+        → ForSome play P
+        → is_accepted (answer_to (record { draft = draft; play = play; accepted = count }) event) ≡ true
+        → ForSome (accepted (record { draft = draft; play = play; accepted = count }) event).play P
+    by_play draft None count events.Go valid so taken = some_so P (first_play (plan_of draft)) (first (plan_of draft))
+    by_play draft None count _ valid so taken = λ play is. absurd cc
+    by_play draft (Some play) count event valid so taken =
+        some_so P (play_effect play event)
+        (keeps play event (valid play refl) (accepted_none (refusal_of play event) taken) (so play refl))
+
+    by_state : (state : State) (event : Event) → IsValidState state → ForSome state.play P
+        → ForSome (state_after state event).play P
+    by_state state event valid so = by_answer (is_accepted (answer_to state event)) refl
+      where
+        by_answer : (taken : Bool) → is_accepted (answer_to state event) ≡ taken
+            → ForSome (if taken then accepted state event else state).play P
+        by_answer true taken = by_play state.draft state.play state.accepted event valid.play so taken
+        by_answer false taken = so
+
+    by_list : (list : List Event) (state : State) → IsValidState state → ForSome state.play P
+        → ForSome (run state list).play P
+    by_list [] state valid so = so
+    by_list (event ∷ list) state valid so =
+        by_list list (state_after state event) (valid_state_after state event valid) (by_state state event valid so)

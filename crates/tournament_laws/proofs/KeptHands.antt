@@ -28,15 +28,15 @@ pub hand_kept : (table : ℕ) (before after : PlayState) → IsKeptAt table befo
     → hand_at after table ≡ hand_at before table
 hand_kept table before after kept = rw (kept.start, kept.acts) refl
 
--- The hand that is out at a table.
-pub record IsOutAt (play : PlayState) (table : ℕ) : Type 0 where
+-- The hand that is played at a table.
+pub record IsPlayedAt (play : PlayState) (table : ℕ) : Type 0 where
   pub hand : HandTerms
   pub is : hand_at play table ≡ Some hand
   pub here : hand.start.table ≡ table
 
--- A hand is out at a table that is played at.
+-- There is a hand at a table that is played at.
 pub hand_there : (play : PlayState) (table : ℕ) → IsValidPlay play → is_playing play.book table ≡ true
-    → IsOutAt play table
+    → IsPlayedAt play table
 hand_there play table valid playing =
     let found = some_there (start_at play.book.started table) (sym (valid.book.tables.playing table) ∙ playing) in
     record {
@@ -56,7 +56,8 @@ settle_keeps play table there valid none apart =
     (record { book = option_map_or (settled play.book) hand play.book; acts = set play.acts there [] }))
     (sym started.is)
     (record {
-      start = get_or-set_other play.book.started started.hand.start.table table None None (λ same. apart (same ∙ started.here));
+      start = get_or-set_other play.book.started started.hand.start.table table None None
+          (λ same. apart (same ∙ started.here));
       acts = get_or-set_other play.acts there table [] [] apart;
       going = refl;
     })

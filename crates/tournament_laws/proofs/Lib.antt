@@ -21,3 +21,7 @@ pub mod Orders
 pub mod Stopped
 pub mod Counting
 pub mod RaceChips
+pub mod Stacks
+pub mod NoneStuck
+pub mod StaysOver
+pub mod LaterEntries

@@ -4,6 +4,7 @@ use Rattle.std.specs.Prelude.{not, nat_lt, Option, Some, None}
 use Rattle.std.specs.List.{list_any}
 use Rattle.std.specs.Option.{ForSome}
 use Rattle.std.proofs.lemmas.Bool.{and_parts, lt-ltb, not-true}
+use Rattle.std.proofs.lemmas.Option.{same_Some}
 use Rattle.button_blinds.specs.declared.marks.Marks.{Marks}
 use Rattle.rulebook.proofs.Among.{all-among}
 use Rattle.rulebook.proofs.Found.{some-found}
@@ -34,7 +35,7 @@ use Rattle.floor_events.specs.declared.answer.Answer.TheVariants.{Ok}
 use Rattle.floor_events.specs.declared.event.Event.{Event}
 use Rattle.tournament_rules.specs.Books.{BookState, has_table}
 use Rattle.tournament_rules.specs.Checks.{is_table_open, is_playing}
-use Rattle.tournament_rules.specs.States.{State, PlayState, refusal_of, answered, answer_to, is_accepted}
+use Rattle.tournament_rules.specs.States.{State, PlayState, refusal_of, answered, answer_to, is_accepted, play_effect, state_after}
 use Rattle.tournament_rules.specs.Valid.{IsValid}
 use Rattle.tournament_rules.proofs.Balances.{MayBalance}
 use Rattle.tournament_rules.proofs.Breaks.{MayBreak}
@@ -47,6 +48,17 @@ pub not_refused : (state : State) (play : PlayState) (event : Event) → state.p
 not_refused state play event is accepted =
     let taken : answered (refusal_of play event) ≡ Ok = rw is at accepted in
     accepted_none (refusal_of play event) (ap is_accepted taken)
+
+-- What an event that is not refused makes so, is so after one that is accepted.
+pub after_accepted : (P : PlayState → Type 0) (state : State) (event : Event) (earlier : PlayState)
+    → state.play ≡ Some earlier → answer_to state event ≡ Ok
+    → (refusal_of earlier event ≡ None → P (play_effect earlier event))
+    → (later : PlayState) → (state_after state event).play ≡ Some later → P later
+after_accepted P state event earlier at taken so later after =
+    let accepted = ap is_accepted taken in
+    let next : (state_after state event).play ≡ Some (play_effect earlier event) = rw (accepted, at) refl in
+    subst P (same_Some (play_effect earlier event) later (sym next ∙ after))
+    (so (not_refused state earlier event at taken))
 
 -- Where no table passes a test, a table of the plan does not.
 pub no_table : (test : ℕ → Bool) (tables table : ℕ) → list_any test (table_numbers tables) ≡ false
@@ -174,10 +186,8 @@ break_lawful book table places names valid may = record {
   lawful = record {
     free = free_table book table valid may.opened may.rests;
     last = λ other at above.
-        let tables = valid.tables.tables in
-        let listed : IsTableOf book.plan.tables other = subst (λ (n : ℕ). IsTableOf n other) tables at in
-        let none = no_table (λ other. is_open book.seating.players other && nat_lt table other) book.plan.tables other
-        may.last listed in
+        let none = no_table (λ other. is_open book.seating.players other && nat_lt table other) book.seating.table_count
+        other may.last at in
         first_fails (is_open book.seating.players other) (nat_lt table other) none (lt-ltb table other above);
     fill = (may.drawn.fill, (may.drawn.is, may.drawn.right.places));
     players = may.drawn.right.players;

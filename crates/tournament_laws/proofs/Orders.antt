@@ -1,7 +1,7 @@
 -- Lists with one order: where every event of the one is accepted, every event of the other is, and both end in the same
 -- state.
 use Rattle.std.proofs.Common.{◌≡◌, ◌∙◌, refl, sym, ap, subst, ℕ, Bool, true, false, List, [], ◌∷◌, ◌++◌}
-use Rattle.std.specs.Prelude.{not, filter, Option, Some, None, is_none}
+use Rattle.std.specs.Prelude.{not, filter, Option, Some, None}
 use Rattle.std.proofs.lemmas.Bool.{and_parts, and_from, not-true}
 use Rattle.floor_events.specs.declared.event.Event.{Event}
 use Rattle.tournament_rules.specs.States.{State, first_state, act_table, answer_to, is_accepted, state_after, run}
@@ -10,7 +10,7 @@ use Rattle.tournament_rules.proofs.Steps.{valid_state_after, valid_first_state, 
 use Rattle.tournament_laws.specs.Orders.{is_of_hands, HaveOneOrder}
 use Rattle.tournament_laws.specs.Accepted.{are_accepted}
 use Rattle.tournament_laws.proofs.Lists.{none_pass, split_at, none_before, filter-taken_out}
-use Rattle.tournament_laws.proofs.InStates.{has_key, exchanged_after, exchanged_before, act_of_hands, exchange}
+use Rattle.tournament_laws.proofs.InStates.{has_key, exchanged_after, exchanged_before, act_of_hands, of_book, exchange}
 
 -- Every event of a list is accepted, and the state after it is this one.
 record EndsIn (state : State) (events : List Event) (end : State) : Type 0 where
@@ -54,7 +54,7 @@ a_key : (event : Event) → (key : Option ℕ) × (has_key key event ≡ true)
 a_key event = by_table (act_table event) refl
   where
     by_table : (table : Option ℕ) → act_table event ≡ table → (key : Option ℕ) × (has_key key event ≡ true)
-    by_table None is = (None, ap is_none is)
+    by_table None is = (None, of_book event is)
     by_table (Some table) is = (Some table, act_of_hands table event is)
 
 -- Two lists of which each key keeps the same.

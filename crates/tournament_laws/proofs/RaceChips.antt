@@ -1,8 +1,7 @@
 -- A race changes the chips by what it takes away and gives.
-use Rattle.std.proofs.Common.{◌≡◌, ◌∙◌, refl, sym, ap, subst, ℕ, ◌+◌, Bool, true, false, cond, List, [], ◌∷◌, map, arith}
+use Rattle.std.proofs.Common.{◌≡◌, refl, ℕ, ◌+◌, Bool, true, false, cond, List, [], ◌∷◌, map, arith}
 use Rattle.std.specs.Prelude.{sum_by, Some}
 use Rattle.std.proofs.lemmas.List.Sums.{sum_by-cons}
-use Rattle.std.proofs.lemmas.Option.{same_Some}
 use Rattle.card_set.specs.declared.card.CardRow.{CardRow}
 use Rattle.seat_book.specs.declared.seated.Seated.{Seated}
 use Rattle.seat_book.specs.Players.{sits_at, players_at}
@@ -13,12 +12,12 @@ use Rattle.tournament_rules.specs.Chips.{rest_in, rest_at}
 use Rattle.tournament_rules.specs.Effects.{raced}
 use Rattle.tournament_rules.specs.Players.{with_rest}
 use Rattle.tournament_rules.specs.Racing.{race_at, restacked}
-use Rattle.tournament_rules.specs.States.{State, PlayState, answer_to, is_accepted, play_effect, state_after}
+use Rattle.tournament_rules.specs.States.{State, PlayState, answer_to, state_after}
 use Rattle.tournament_rules.specs.Valid.{IsValid}
 use Rattle.tournament_rules.proofs.Passed.{passed-parts}
 use Rattle.tournament_rules.proofs.Paying.{stack_of}
 use Rattle.tournament_rules.proofs.Races.{MayRace, race_passed, by_seat, rest-raced, chips-there}
-use Rattle.tournament_laws.proofs.MoveLaws.{not_refused}
+use Rattle.tournament_laws.proofs.MoveLaws.{after_accepted}
 
 -- What those who are picked have is what all have, where the others count nothing.
 picked-sum : (table : ℕ) (players : List Seated)
@@ -26,7 +25,8 @@ picked-sum : (table : ℕ) (players : List Seated)
     ≡ sum_by (λ player. cond {A = ℕ} (sits_at table player) player.stack 0) players
 picked-sum table [] = refl
 picked-sum table (player ∷ players) =
-    by_test (sits_at table player) (sum_by-cons (λ player. cond {A = ℕ} (sits_at table player) player.stack 0) player players)
+    by_test (sits_at table player)
+    (sum_by-cons (λ player. cond {A = ℕ} (sits_at table player) player.stack 0) player players)
     (picked-sum table players)
   where
     by_test : (b : Bool)
@@ -79,16 +79,11 @@ race-all book table row valid may =
     let there = chips-there book table row.cards valid may in
     omega (arith, rest, there)
 
--- What is so of a book after a race that is not refused is so after a race that is accepted.
-pub after_race : (P : BookState → BookState → Type 0) (state : State) (table : ℕ) (row : CardRow) (earlier : PlayState)
+-- What a race that is not refused makes so of a book, is so after one that is accepted.
+pub after_race : (P : BookState → Type 0) (state : State) (table : ℕ) (row : CardRow) (earlier : PlayState)
     → state.play ≡ Some earlier → answer_to state (Race table row) ≡ Ok
-    → (MayRace earlier.book table row.cards → P earlier.book (raced earlier.book table row.cards))
-    → (later : PlayState) → (state_after state (Race table row)).play ≡ Some later → P earlier.book later.book
-after_race P state table row earlier at taken so later after =
-    let accepted = ap is_accepted taken in
-    let next : (state_after state (Race table row)).play ≡ Some (play_effect earlier (Race table row)) =
-    rw (accepted, at) refl in
-    let is = same_Some (play_effect earlier (Race table row)) later (sym next ∙ after) in
-    let free = not_refused state earlier (Race table row) at taken in
-    subst (λ (play : PlayState). P earlier.book play.book) is
-    (so (race_passed earlier.book table row (passed-parts earlier (Race table row) free).0))
+    → (MayRace earlier.book table row.cards → P (raced earlier.book table row.cards))
+    → (later : PlayState) → (state_after state (Race table row)).play ≡ Some later → P later.book
+after_race P state table row earlier at taken so =
+    after_accepted (λ later. P later.book) state (Race table row) earlier at taken
+    (λ none. so (race_passed earlier.book table row (passed-parts earlier (Race table row) none).0))

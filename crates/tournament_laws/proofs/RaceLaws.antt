@@ -55,12 +55,12 @@ race-players play table other row apart =
         by_table true is rest = rw (sits_elsewhere player.place.table table other differ is, rest) refl
         by_table false is rest = rw rest refl
 
--- A race leaves each hand that is out.
+-- A race leaves each hand that is played.
 pub race-hands : (play : PlayState) (table other : ℕ) (row : CardRow)
     → hand_at (play_after play (Race table row)) other ≡ hand_at play other
 race-hands play table other row = kept_after (λ play. hand_at play other) play (Race table row) refl
 
--- A level leaves each hand that is out, and all stacks.
+-- A level leaves each hand that is played, and all stacks.
 pub level-hands : (play : PlayState) (table : ℕ) → hand_at (play_after play Level) table ≡ hand_at play table
 level-hands play table = kept_after (λ play. hand_at play table) play Level refl
 

@@ -28,7 +28,7 @@ use Rattle.tournament_rules.specs.Checks.{may_be_entered}
 use Rattle.tournament_rules.specs.Effects.{newcomer}
 use Rattle.tournament_rules.specs.States.{State, PlayState, answer_to, is_accepted, state_after, players_of, play_effect}
 use Rattle.tournament_rules.specs.Valid.{IsValid, IsValidPlay, is_lent}
-use Rattle.tournament_rules.proofs.Remaining.{somebody_out}
+use Rattle.tournament_rules.proofs.Remaining.{somebody_plays}
 use Rattle.tournament_rules.proofs.Members.{has_number, any_without}
 use Rattle.tournament_rules.proofs.Fitting.{table_range}
 use Rattle.tournament_rules.proofs.Passed.{passed-parts, entry_passed}
@@ -129,14 +129,14 @@ pub no_players : (book : BookState) (table : ℕ) → is_open book.seating.playe
 no_players book table closed = filter-none (sits_at table) book.seating.players
     (none_by_count (sits_at table) book.seating.players (nobody_there book table closed))
 
--- No hand is out at a table that is not open.
+-- No hand is played at a table that is not open.
 pub no_hand : (book : BookState) (table : ℕ) → IsValid book → is_open book.seating.players table ≡ false
     → start_at book.started table ≡ None
 no_hand book table valid closed = none-found (start_at book.started table) no_start
   where
     no_start : (start : HandStart) → start_at book.started table ≡ Some start → ⊥
     no_start start is =
-        let sit = somebody_out book table start valid is in
+        let sit = somebody_plays book table start valid is in
         let none = nobody_there book table closed in
         absurd (omega (arith, sit, none))
 

@@ -15,10 +15,10 @@ use Rattle.tournament_rules.specs.Valid.{IsValid, is_lent, without_stack}
 use Rattle.tournament_rules.proofs.Fitting.{chips_of_start}
 use Rattle.tournament_rules.proofs.Paying.{stack_of}
 
--- Where one player alone is in, no hand is out: two are dealt into one.
-nothing_out : (book : BookState) (table : ℕ) → IsValid book → length book.seating.players ≡ 1
+-- Where one player alone is in, no hand is played: two are dealt into one.
+pub none_played : (book : BookState) (table : ℕ) → IsValid book → length book.seating.players ≡ 1
     → start_at book.started table ≡ None
-nothing_out book table valid one = none-found (start_at book.started table) no_start
+none_played book table valid one = none-found (start_at book.started table) no_start
   where
     no_start : (start : HandStart) → start_at book.started table ≡ Some start → ⊥
     no_start start is =
@@ -31,7 +31,7 @@ nothing_out book table valid one = none-found (start_at book.started table) no_s
         let counted = length-filter (is_lent table) book.seating.players in
         absurd (omega (arith, two, many, few, counted, one))
 
--- Where no hand is out, no chips are in play.
+-- Where no hand is played, no chips are in play.
 none_in_play : (started : List (Option HandStart)) → ((table : ℕ) → start_at started table ≡ None)
     → sum_by chips_of_start started ≡ 0
 none_in_play [] none = refl
@@ -48,7 +48,7 @@ pub last_has_all : (book : BookState) → IsValid book → is_over_for_all book 
 last_has_all book valid over =
     let one = eqb-true (length book.seating.players) 1
     (and_parts (nat_lt 0 (length book.busts)) (length book.seating.players == 1) over).1 in
-    let none = none_in_play book.started (λ table. nothing_out book table valid one) in
+    let none = none_in_play book.started (λ table. none_played book table valid one) in
     let kept = valid.chips in
     by_players book.seating.players one (omega (arith, kept, none))
   where

@@ -26,7 +26,7 @@ use Rattle.tournament_rules.specs.States.{State, PlayState, acts_at, hand_at, re
 use Rattle.tournament_rules.specs.Valid.{IsValid, IsValidPlay, is_bust_of, is_lent, without_stack}
 use Rattle.tournament_rules.specs.Apart.{hand_refusal}
 use Rattle.tournament_rules.proofs.Members.{has_number, none_picked, any_without}
-use Rattle.tournament_rules.proofs.Outs.{one_row}
+use Rattle.tournament_rules.proofs.InOrBust.{one_row}
 use Rattle.tournament_rules.proofs.Names.{IsNamed, names_differ}
 use Rattle.tournament_rules.proofs.Passed.{is_so, passed-parts, act_passed}
 use Rattle.tournament_rules.proofs.Steps.{accepted_none}
@@ -49,7 +49,7 @@ not_dealt book table number cards none =
     none_picked number (is_dealt_in table (next_at book table).waiting) book.seating.players
     (none_by_count (is_numbered number) book.seating.players none)
 
--- Who has no seat is in no hand that is out.
+-- Who has no seat is in no hand that is played.
 pub in_no_hand : (book : BookState) (table number : ℕ) → IsValid book
     → count_by (is_numbered number) book.seating.players ≡ 0
     → is_among number (starters_of (start_at book.started table)) ≡ false

@@ -1,19 +1,19 @@
 //! Laws of the hands that are played.
 
-ghost use Rattle.std.specs.Prelude.{ℕ, ◌≡◌, ◌≢◌, List, true, Some, map, filter, is_some, ◌+◌, option_map};
+ghost use Rattle.std.specs.Prelude.{ℕ, ◌≡◌, ◌≢◌, List, true, Some, map, filter, is_some, ◌+◌, option_map, false};
 ghost use Rattle.std.specs.Option.{ForSome};
 ghost use Rattle.card_set.specs.declared.card.CardRow.{CardRow};
-ghost use Rattle.floor_events.specs.declared.event.Event.{Event};
-ghost use Rattle.floor_events.specs.declared.event.Event.TheVariants.{Begin};
-ghost use Rattle.floor_events.specs.declared.answer.Answer.TheVariants.{Ok};
 ghost use Rattle.seat_book.specs.Players.{sits_at};
 ghost use Rattle.table_engine.specs.Starts.{IsLawfulStart};
 ghost use Rattle.table_engine.specs.Plays.{IsLawfulPlay};
+ghost use Rattle.table_engine.specs.Hands.{is_over};
+ghost use Rattle.floor_events.specs.declared.event.Event.{Event};
+ghost use Rattle.floor_events.specs.declared.event.Event.TheVariants.{Begin, Time, Settle};
+ghost use Rattle.floor_events.specs.declared.answer.Answer.TheVariants.{Ok};
 ghost use Rattle.tournament_rules.specs.Books.{start_at, starters_of};
 ghost use Rattle.tournament_rules.specs.Players.{is_among, is_in_hand, start_seat};
 ghost use Rattle.tournament_rules.specs.Dealing.{next_start};
 ghost use Rattle.tournament_rules.specs.States.{PlayState, first_state, hand_at, act_table, play_after, answer_to, run, state_after};
-ghost use Rattle.tournament_rules.specs.Chips.{play};
 ghost use Rattle.tournament_rules.specs.Valid.{without_stack};
 ghost use Rattle.tournament_rules.specs.Checks.{is_playing};
 ghost use Rattle.tournament_rules.specs.Kinds.{is_begin};
@@ -26,8 +26,8 @@ pub fn starts_are_lawful()
         → IsLawfulStart (next_start play.book table row.cards)) }
 {}
 
-/// Says that after any list of events, each hand that is out started lawfully, and its acts are a lawful play of that
-/// start.
+/// Says that after any list of events, each hand that is played started lawfully, and its acts are a lawful play of
+/// that start.
 pub fn hands_are_lawful_plays()
     ensures start { (events : List Event) (table : ℕ) → ForSome (run first_state events).play (λ play.
         ForSome (hand_at play table) (λ hand. IsLawfulStart hand.start)) }
@@ -59,8 +59,8 @@ pub fn acts_stay_at_their_table()
         → other ≢ table → hand_at (play_after play event) other ≡ hand_at play other }
 {}
 
-/// Says that after any list of events, a table is playing exactly where the start of a hand is out.
-pub fn a_table_plays_while_a_hand_is_out()
+/// Says that after any list of events, a table is playing exactly where the start of a hand is kept.
+pub fn a_table_plays_where_a_hand_has_started()
     ensures { (events : List Event) (table : ℕ) → ForSome (run first_state events).play (λ play.
         is_playing play.book table ≡ is_some (start_at play.book.started table)) }
 {}
@@ -75,4 +75,15 @@ pub fn hands_are_numbered_as_they_begin()
         → ForSome (state_after (run first_state before) (Begin table row)).play (λ play.
         option_map (λ start. start.serial) (start_at play.book.started table)
         ≡ Some (how_many_accepted is_begin first_state before + 1)) }
+{}
+
+/// Says that after any list of events, no hand that is played is stuck: while it is not over a called time is accepted,
+/// and once it is over a settle is.
+pub fn no_hand_gets_stuck()
+    ensures time { (before : List Event) (table : ℕ) → ForSome (run first_state before).play (λ play.
+        ForSome (hand_at play table) (λ hand. is_over hand ≡ false
+        → answer_to (run first_state before) (Time table) ≡ Ok)) }
+    ensures settle { (before : List Event) (table : ℕ) → ForSome (run first_state before).play (λ play.
+        ForSome (hand_at play table) (λ hand. is_over hand ≡ true
+        → answer_to (run first_state before) (Settle table) ≡ Ok)) }
 {}

@@ -3,19 +3,18 @@
 ghost use Rattle.std.specs.Prelude.{ℕ, ◌≡◌, ◌≢◌, List, true, false, None, ◌≤◌, length};
 ghost use Rattle.std.specs.Option.{ForSome};
 ghost use Rattle.level_plan.specs.Plans.{unit_of_level};
+ghost use Rattle.level_plan.specs.Items.{is_between};
 ghost use Rattle.card_set.specs.declared.card.CardRow.{CardRow};
+ghost use Rattle.seat_book.specs.Players.{players_at};
+ghost use Rattle.seat_book.specs.Tables.{status_at};
 ghost use Rattle.floor_events.specs.declared.event.Event.{Event};
 ghost use Rattle.floor_events.specs.declared.event.Event.TheVariants.{Level, Race};
 ghost use Rattle.floor_events.specs.declared.answer.Answer.TheVariants.{Ok};
-ghost use Rattle.seat_book.specs.Players.{players_at};
-ghost use Rattle.seat_book.specs.Tables.{status_at};
 ghost use Rattle.tournament_rules.specs.Books.{has_table};
 ghost use Rattle.tournament_rules.specs.States.{PlayState, first_state, hand_at, play_after, answer_to, state_after, run};
-ghost use Rattle.tournament_rules.specs.Chips.{play};
 ghost use Rattle.tournament_rules.specs.Kinds.{is_level};
-ghost use Rattle.tournament_laws.specs.Accepted.{is_any_accepted};
 ghost use Rattle.tournament_rules.specs.Units.{IsRaceTo};
-ghost use Rattle.level_plan.specs.Items.{is_between};
+ghost use Rattle.tournament_laws.specs.Accepted.{is_any_accepted};
 
 /// Says that after any list of events, a table where no race is pending has the unit of the current level. A race that
 /// is pending goes to that unit, from a smaller one after which it may come next.
@@ -31,7 +30,7 @@ pub fn units_follow_the_level()
         IsRaceTo unit (status_at play.book.seating.tables table).unit)) }
 {}
 
-/// Says that a level changes no hand that is out and no stack at rest.
+/// Says that a level changes no hand that is played and no stack at rest.
 pub fn a_level_changes_no_hand()
     ensures hands { (play : PlayState) (table : ℕ) → hand_at (play_after play Level) table ≡ hand_at play table }
     ensures players { (play : PlayState)

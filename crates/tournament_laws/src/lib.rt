@@ -13,20 +13,22 @@ mod tables;
 
 pub use chips::{
     a_race_changes_the_chips_by_what_it_records, chips_are_kept,
-    entries_and_races_alone_change_the_chips, stacks_are_lawful, the_last_player_has_all_chips,
+    entries_and_races_alone_change_the_chips, stacks_are_lawful,
+    stacks_are_moved_by_their_own_events_alone, the_last_player_has_all_chips,
 };
 pub use hands::{
-    a_table_plays_while_a_hand_is_out, acts_stay_at_their_table, hands_are_lawful_plays,
-    hands_are_numbered_as_they_begin, hands_have_their_players, nobody_is_dealt_in_at_two_tables,
-    starts_are_lawful,
+    a_table_plays_where_a_hand_has_started, acts_stay_at_their_table, hands_are_lawful_plays,
+    hands_are_numbered_as_they_begin, hands_have_their_players, no_hand_gets_stuck,
+    nobody_is_dealt_in_at_two_tables, starts_are_lawful,
 };
 pub use levels::{
     a_level_changes_no_hand, a_race_changes_no_other_table, a_table_races_once_between_levels,
     levels_follow_the_plan, units_follow_the_level,
 };
 pub use players::{
-    a_group_is_of_one_round, each_entry_is_in_or_bust, groups_never_fall,
-    no_two_entered_under_one_name, players_are_in_order, who_is_bust_stays_bust,
+    a_group_is_of_one_round, a_later_entry_moves_each_place_by_one, each_entry_is_in_or_bust,
+    groups_never_fall, no_two_entered_under_one_name, once_over_it_stays_over,
+    players_are_in_order, who_is_bust_stays_bust,
 };
 pub use runs::{
     a_book_and_its_hands_answer_alike, neighbors_may_change_places, nothing_follows_a_stop,

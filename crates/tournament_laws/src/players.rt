@@ -3,22 +3,23 @@
 ghost use Rattle.std.specs.Prelude.{ℕ, ◌≡◌, ◌≢◌, ◌+◌, ◌<◌, nat_le, List, true, false, Some, length, take, drop, count_by, slice_get};
 ghost use Rattle.std.specs.List.{All};
 ghost use Rattle.std.specs.Option.{ForSome};
+ghost use Rattle.std.specs.Str.{bytes_eq};
 ghost use Rattle.rulebook.specs.Pairs.{is_pairwise, are_distinct};
 ghost use Rattle.card_set.specs.declared.card.Card.{Card};
 ghost use Rattle.betting_round.specs.declared.act.Act.{Act};
-ghost use Rattle.floor_events.specs.declared.event.Event.{Event};
-ghost use Rattle.floor_events.specs.declared.event.Event.TheVariants.{Act as Acts, Settle};
-ghost use Rattle.floor_events.specs.declared.answer.Answer.TheVariants.{Ok};
+ghost use Rattle.place_list.specs.Places.{place_of};
 ghost use Rattle.seat_book.specs.Players.{is_numbered, are_in_order};
+ghost use Rattle.floor_events.specs.declared.event.Event.{Event};
+ghost use Rattle.floor_events.specs.declared.event.Event.TheVariants.{Act as Acts, Settle, Enter};
+ghost use Rattle.floor_events.specs.declared.answer.Answer.TheVariants.{Ok};
 ghost use Rattle.tournament_rules.specs.Books.{start_at, starters_of};
 ghost use Rattle.tournament_rules.specs.Players.{is_among};
 ghost use Rattle.tournament_rules.specs.Dealing.{next_start};
 ghost use Rattle.tournament_rules.specs.States.{first_state, answer_to, state_after, run, players_of};
-ghost use Rattle.tournament_rules.specs.Chips.{play};
 ghost use Rattle.tournament_rules.specs.Kinds.{ends_round};
-ghost use Rattle.tournament_laws.specs.Accepted.{is_any_accepted};
 ghost use Rattle.tournament_rules.specs.Valid.{is_bust_of};
-ghost use Rattle.std.specs.Str.{bytes_eq};
+ghost use Rattle.tournament_rules.specs.Checks.{is_over_for_all};
+ghost use Rattle.tournament_laws.specs.Accepted.{is_any_accepted};
 
 /// Says that after any list of events, lawful or not, the players are listed by table, at one table in rising seat, and
 /// no two of them sit in one seat.
@@ -27,8 +28,8 @@ pub fn players_are_in_order()
 {}
 
 /// Says that after any list of events, each entered player has exactly one seat or exactly one row of those who are
-/// out, and never both; nobody else has any, so those who are in and those who are out are as many as entered. Who has a
-/// seat sits there under the name with which they entered.
+/// out, and never both; nobody else has any, so those who are in and those who are out are as many as entered. Who has
+/// a seat sits there under the name with which they entered.
 pub fn each_entry_is_in_or_bust()
     ensures one { (events : List Event) → ForSome (run first_state events).play (λ play. (number : ℕ)
         → number < length play.book.entries → count_by (is_numbered number) play.book.seating.players
@@ -39,7 +40,7 @@ pub fn each_entry_is_in_or_bust()
         All (λ player. slice_get play.book.entries player.player ≡ Some player.name) play.book.seating.players) }
 {}
 
-/// Says that after any list of events, who is out has no seat, is in no hand that is out, is dealt into no hand that
+/// Says that after any list of events, who is out has no seat, is in no hand that is played, is dealt into no hand that
 /// begins and makes no act that is accepted. Whatever events follow, he stays out, with the same stack and in the same
 /// group.
 pub fn who_is_bust_stays_bust()
@@ -93,4 +94,36 @@ pub fn a_group_is_of_one_round()
 pub fn no_two_entered_under_one_name()
     ensures { (events : List Event) → ForSome (run first_state events).play (λ play.
         are_distinct bytes_eq play.book.entries ≡ true) }
+{}
+
+/// Says that once the tournament is over it stays over, whatever events follow, with the same last player: he keeps his
+/// seat and his stack.
+pub fn once_over_it_stays_over()
+    ensures over { (before after : List Event) → ForSome (run first_state before).play (λ earlier.
+        is_over_for_all earlier.book ≡ true → ForSome (run (run first_state before) after).play (λ later.
+        is_over_for_all later.book ≡ true)) }
+    ensures player { (before after : List Event) → ForSome (run first_state before).play (λ earlier.
+        is_over_for_all earlier.book ≡ true → ForSome (run (run first_state before) after).play (λ later.
+        later.book.seating.players ≡ earlier.book.seating.players)) }
+{}
+
+/// Says that after any list of events, an entry that is accepted adds one to the players who are in and leaves those
+/// who are out as they are, so that each of these is placed one lower.
+pub fn a_later_entry_moves_each_place_by_one()
+    ensures players { (before : List Event) (name : List ℕ) (table seat : ℕ)
+        → ForSome (run first_state before).play (λ earlier.
+        answer_to (run first_state before) (Enter name table seat) ≡ Ok
+        → ForSome (state_after (run first_state before) (Enter name table seat)).play (λ later.
+        length later.book.seating.players ≡ length earlier.book.seating.players + 1)) }
+    ensures busts { (before : List Event) (name : List ℕ) (table seat : ℕ)
+        → ForSome (run first_state before).play (λ earlier.
+        answer_to (run first_state before) (Enter name table seat) ≡ Ok
+        → ForSome (state_after (run first_state before) (Enter name table seat)).play (λ later.
+        later.book.busts ≡ earlier.book.busts)) }
+    ensures places { (before : List Event) (name : List ℕ) (table seat : ℕ)
+        → ForSome (run first_state before).play (λ earlier.
+        answer_to (run first_state before) (Enter name table seat) ≡ Ok
+        → ForSome (state_after (run first_state before) (Enter name table seat)).play (λ later.
+        All (λ bust. place_of (length later.book.entries) later.book.busts bust
+        ≡ place_of (length earlier.book.entries) earlier.book.busts bust + 1) later.book.busts)) }
 {}

@@ -7,15 +7,14 @@ ghost use Rattle.floor_events.specs.declared.event.Event.{Event};
 ghost use Rattle.floor_events.specs.declared.event.Event.TheVariants.{Go, Stop};
 ghost use Rattle.floor_events.specs.declared.answer.Answer.TheVariants.{Ok};
 ghost use Rattle.tournament_rules.specs.States.{first_state, first_play, act_table, answer_to, answers, answers_in_play, run_in_play, state_after, run, State};
-ghost use Rattle.tournament_rules.specs.Chips.{play};
 ghost use Rattle.tournament_rules.specs.Report.{book_report, report_of};
 ghost use Rattle.tournament_rules.specs.Apart.{first_apart, answers_apart, run_apart, seen_of};
 ghost use Rattle.tournament_laws.specs.Orders.{is_of_hands, HaveOneOrder};
 ghost use Rattle.tournament_laws.specs.Accepted.{are_accepted};
 
-/// Says that a book and the hands that are out, each by itself, run over any list of events, answer as the tournament
-/// does, come to the state that it comes to, and report what it reports: as one that begins with the plan, and as any
-/// whose plan an accepted `go` has just made whole.
+/// Says that a book and the hands that are played, each by itself, run over any list of events, answer as the
+/// tournament does, come to the state that it comes to, and report what it reports: as one that begins with the plan,
+/// and as any whose plan an accepted `go` has just made whole.
 pub fn a_book_and_its_hands_answer_alike()
     ensures plan { (plan : PlanTerms) (events : List Event) → is_right plan ≡ true
         → answers_apart (first_apart plan) events ≡ answers_in_play (first_play plan) events }

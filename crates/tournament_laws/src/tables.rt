@@ -3,9 +3,6 @@
 ghost use Rattle.std.specs.Prelude.{ℕ, ◌≡◌, ◌≢◌, ◌+◌, ◌≤◌, List, [], true, false, None};
 ghost use Rattle.std.specs.Option.{ForSome};
 ghost use Rattle.card_set.specs.declared.card.CardRow.{CardRow};
-ghost use Rattle.floor_events.specs.declared.event.Event.{Event};
-ghost use Rattle.floor_events.specs.declared.event.Event.TheVariants.{Enter, Begin, Balance, Break, Hands};
-ghost use Rattle.floor_events.specs.declared.answer.Answer.TheVariants.{Ok};
 ghost use Rattle.seat_book.specs.declared.place.Place.{Place};
 ghost use Rattle.seat_book.specs.Players.{players_at};
 ghost use Rattle.seat_book.specs.Counts.{count_at, is_open};
@@ -13,10 +10,12 @@ ghost use Rattle.seat_book.specs.Tables.{status_at};
 ghost use Rattle.balance_rule.specs.declared.balance.Move.{Move};
 ghost use Rattle.balance_rule.specs.Halting.{is_halted};
 ghost use Rattle.balance_rule.specs.Moves.{Balance as ByBalance, Break as ByBreak, IsLawfulMove};
+ghost use Rattle.floor_events.specs.declared.event.Event.{Event};
+ghost use Rattle.floor_events.specs.declared.event.Event.TheVariants.{Enter, Begin, Balance, Break, Hands};
+ghost use Rattle.floor_events.specs.declared.answer.Answer.TheVariants.{Ok};
 ghost use Rattle.tournament_rules.specs.Books.{start_at};
 ghost use Rattle.tournament_rules.specs.Checks.{may_be_entered, is_playing};
 ghost use Rattle.tournament_rules.specs.States.{first_state, answer_to, state_after, run, players_of};
-ghost use Rattle.tournament_rules.specs.Chips.{play};
 ghost use Rattle.tournament_rules.specs.Kinds.{ends_round};
 ghost use Rattle.tournament_laws.specs.Accepted.{is_any_accepted};
 

@@ -15,11 +15,10 @@ use Rattle.seat_book.specs.declared.seated.Seated.{Seated}
 use Rattle.seat_book.specs.Players.{sits_in, player_at, player_of}
 use Rattle.seat_book.specs.Counts.{count_at}
 use Rattle.seat_book.specs.Tables.{status_at}
-use Rattle.seat_book.specs.Seatings.{Seating}
+use Rattle.seat_book.specs.Seatings.{Seating, is_race_pending, is_round_open}
 use Rattle.balance_rule.specs.declared.balance.Move.{Move}
 use Rattle.balance_rule.specs.EmptySeats.{is_empty_seat, worst_of, worst_empty_seat}
 use Rattle.balance_rule.specs.Balance.{next_big_seat, next_big_player, move_to, balance_move, balance_checks, reseated, after_move, is_not_fullest, is_not_shortest, is_even_enough}
-use Rattle.balance_rule.specs.Moves.{is_race_pending, is_round_open}
 use Rattle.balance_rule.proofs.FreeSeats.{worst-empty, empty-nobody}
 use Rattle.balance_rule.proofs.Movers.{found-numbered, found-place}
 use Rattle.break_draw.proofs.Chosen.{place-within}

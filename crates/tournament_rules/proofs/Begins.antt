@@ -1,5 +1,5 @@
 -- Each hand that begins starts lawfully, and a book is valid once a hand has begun.
-use Rattle.std.proofs.Common.{◌≡◌, ◌∙◌, refl, sym, ap, subst, ℕ, zero, suc, ◌+◌, ◌-◌, ◌*◌, ◌^◌, ◌<◌, ◌≤◌, Bool, true, false, ◌==◌, List, [], ◌∷◌, map, length, arith}
+use Rattle.std.proofs.Common.{◌≡◌, ◌∙◌, refl, sym, ap, subst, ℕ, zero, suc, ◌+◌, ◌-◌, ◌*◌, ◌^◌, ◌<◌, ◌≤◌, Bool, true, false, ◌==◌, List, [], ◌∷◌, ◌++◌, map, length, arith}
 use Rattle.std.specs.Prelude.{not, nat_lt, filter, slice_get, slice_set, unwrap_or, Option, Some, None}
 use Rattle.std.specs.List.{list_all}
 use Rattle.std.specs.Option.{option_map_or, ForSome}
@@ -12,8 +12,10 @@ use Rattle.rulebook.proofs.Found.{none-by_test}
 use Rattle.rulebook.specs.Pairs.{are_distinct}
 use Rattle.rulebook.proofs.Tests.{list_all-filter}
 use Rattle.rulebook.proofs.Pairs.{is_pairwise-filter}
-use Rattle.rulebook.specs.declared.limits.TheConstants.{MOST_ENTRIES}
-use Rattle.rulebook.proofs.Checks.{none_holds}
+use Rattle.rulebook.specs.Limits.{most_entries}
+use Rattle.rulebook.proofs.Checks.{none_holds, none_holds-both}
+use Rattle.card_set.specs.Decks.{IsDeck, repeats_a_card}
+use Rattle.card_set.proofs.DeckLaws.{AllPairs-from_repeats_none}
 use Rattle.card_set.specs.declared.card.Card.{Card}
 use Rattle.card_set.specs.declared.card.CardRow.{CardRow}
 use Rattle.level_plan.specs.Items.{is_between, is_blind}
@@ -35,7 +37,7 @@ use Rattle.table_engine.specs.Starts.{chips_of, have_playable_stacks, IsLawfulSt
 use Rattle.floor_events.specs.declared.event.Event.TheVariants.{Begin}
 use Rattle.tournament_rules.specs.Books.{BookState, has_table, start_at, starters_of, blind_now}
 use Rattle.tournament_rules.specs.Players.{start_seat, is_dealt_in, dealt_seats, dealt_in}
-use Rattle.tournament_rules.specs.Checks.{book_checks, book_refusal, is_playing}
+use Rattle.tournament_rules.specs.Checks.{book_checks, book_refusal, deck_checks, due_checks, going_checks, is_playing, table_checks}
 use Rattle.tournament_rules.specs.Chips.{sold_by}
 use Rattle.tournament_rules.specs.Dealing.{next_at, next_start}
 use Rattle.tournament_rules.specs.Effects.{playing_from, begun_book}
@@ -87,7 +89,20 @@ may_begin book table row free =
       fresh = not-true _ round.0;
     }
 
--- No start is out at a table where no hand is played.
+-- Where no check of the event holds, no card comes twice in its row.
+deck_of_begin : (book : BookState) (table : ℕ) (row : CardRow) → book_refusal book (Begin table row) ≡ None
+    → IsDeck row.cards
+unfolding book_refusal
+deck_of_begin book table row free =
+    let after_going = none_holds-both (going_checks book)
+    (table_checks book table ++ due_checks book table ++ deck_checks row) free in
+    let after_table = none_holds-both (table_checks book table) (due_checks book table ++ deck_checks row)
+    after_going.1 in
+    let after_due = none_holds-both (due_checks book table) (deck_checks row) after_table.1 in
+    let none = and_parts (not (repeats_a_card row.cards)) true (none_holds (deck_checks row) after_due.1) in
+    record { whole = row.whole; distinct = AllPairs-from_repeats_none row.cards (not-true _ none.0) }
+
+-- The book has no start for a table where no hand is played.
 pub none_started : (book : BookState) (table : ℕ) → IsValid book → is_playing book table ≡ false
     → start_at book.started table ≡ None
 none_started book table valid rests =
@@ -105,7 +120,7 @@ all_rest book table valid rests =
     (valid.hands.lent table ∙ ap (λ (start : Option HandStart). map without_stack (starters_of start))
     (none_started book table valid rests))
 
-product_small : (entries stack : ℕ) → entries ≤ MOST_ENTRIES → stack ≤ 1000000000 → entries * stack ≤ 640000000000
+product_small : (entries stack : ℕ) → entries ≤ most_entries → stack ≤ 1000000000 → entries * stack ≤ 640000000000
 product_small entries stack few small = grind arith
 
 -- All chips that were sold and given are far from the end of their type.
@@ -159,8 +174,8 @@ unit_here book table valid may = unit_now book ∙ sym ((valid.units.units table
 
 -- A hand that may begin at a table starts lawfully.
 pub lawful_start : (book : BookState) (table : ℕ) (cards : List Card) → IsValid book → MayBegin book table
-    → IsLawfulStart (next_start book table cards)
-lawful_start book table cards valid may =
+    → IsDeck cards → IsLawfulStart (next_start book table cards)
+lawful_start book table cards valid may deck =
     let players = book.seating.players in
     let waiting = (next_at book table).waiting in
     let lawful = valid.tables.lawful in
@@ -194,11 +209,11 @@ lawful_start book table cards valid may =
           (keys_dealt (λ player. player.player) (λ player. player.player) (λ player. refl) found)
           ∙ is_pairwise-filter (λ one other. not (one == other)) (λ player. player.player)
           (is_dealt_in table waiting) players (numbers_distinct players lawful.apart);
-      entries = list_all-map (λ (player : StartSeat). nat_lt player.player MOST_ENTRIES) start_seat found
-          ∙ (sym (list_all-map (λ number. nat_lt number MOST_ENTRIES) (λ (player : Seated). player.player) found)
-          ∙ list_all-filter (λ number. nat_lt number MOST_ENTRIES) (λ (player : Seated). player.player)
+      entries = list_all-map (λ (player : StartSeat). nat_lt player.player most_entries) start_seat found
+          ∙ (sym (list_all-map (λ number. nat_lt number most_entries) (λ (player : Seated). player.player) found)
+          ∙ list_all-filter (λ number. nat_lt number most_entries) (λ (player : Seated). player.player)
           (is_dealt_in table waiting) players
-          (list_all-map (λ number. nat_lt number MOST_ENTRIES) (λ (player : Seated). player.player) players
+          (list_all-map (λ number. nat_lt number most_entries) (λ (player : Seated). player.player) players
           ∙ lawful.entries));
       names = ap (are_distinct bytes_eq) (keys_dealt (λ player. player.name) (λ player. player.name) (λ player. refl)
           found)
@@ -215,12 +230,14 @@ lawful_start book table cards valid may =
       big = dealt_there table (next_at book table).marks.big waiting players fit.big_sits fit.big_plays;
       small = fit.apart;
       blinds = lawful_blinds book valid.plan;
+      deck = deck;
     }
 
 -- Each hand that begins starts lawfully.
 pub start_is_lawful : (book : BookState) (table : ℕ) (row : CardRow) → IsValid book
     → book_refusal book (Begin table row) ≡ None → IsLawfulStart (next_start book table row.cards)
-start_is_lawful book table row valid free = lawful_start book table row.cards valid (may_begin book table row free)
+start_is_lawful book table row valid free =
+    lawful_start book table row.cards valid (may_begin book table row free) (deck_of_begin book table row free)
 
 -- A book is valid once a hand has begun.
 pub valid_begun : (book : BookState) (table : ℕ) (row : CardRow) → IsValid book
@@ -230,7 +247,7 @@ valid_begun book table row valid free =
     let players = book.seating.players in
     let next = next_at book table in
     let start = next_start book table row.cards in
-    let lawful = lawful_start book table row.cards valid may in
+    let lawful = lawful_start book table row.cards valid may (deck_of_begin book table row free) in
     let range = table_range 1 book.plan.tables table may.there in
     let count = valid.tables.tables in
     let size = valid.tables.lawful.tables in
@@ -272,7 +289,8 @@ valid_begun book table row valid free =
           let kept = valid.chips in
           let gone = rest-dealt_in table next.waiting players in
           let play = play_changed book.started table (Some start) within in
-          let none : chips_of_start (start_at book.started table) ≡ 0 = ap chips_of_start (none_started book table valid may.rests) in
+          let none : chips_of_start (start_at book.started table)
+          ≡ 0 = ap chips_of_start (none_started book table valid may.rests) in
           omega (arith, kept, gone, play, none);
       units = units_kept book.plan book.level book.added tables (with_status tables table status) players
           (dealt_in table next.waiting players) valid.units keeps

@@ -17,13 +17,12 @@ use Rattle.seat_book.specs.Places.{is_place_of}
 use Rattle.seat_book.specs.Players.{sits_at, sits_in, player_at, player_of, players_at, are_apart}
 use Rattle.seat_book.specs.Counts.{count_at}
 use Rattle.seat_book.specs.Tables.{fresh_status, status_at, with_status, IsStatusOf}
-use Rattle.seat_book.specs.Seatings.{Seating}
+use Rattle.seat_book.specs.Seatings.{Seating, is_race_pending, is_round_open, is_not_last}
 use Rattle.seat_book.proofs.PlaceOrder.{same_place-itself}
 use Rattle.balance_rule.specs.declared.balance.Move.{Move}
 use Rattle.balance_rule.specs.EmptySeats.{is_empty_seat}
 use Rattle.balance_rule.specs.Balance.{reseated, after_move}
 use Rattle.balance_rule.specs.Filling.{is_same_place, fill_seats}
-use Rattle.balance_rule.specs.Moves.{is_race_pending, is_round_open}
 use Rattle.balance_rule.proofs.FreeSeats.{empty-nobody}
 use Rattle.balance_rule.proofs.Movers.{found-numbered}
 use Rattle.break_draw.specs.Draws.{IsDraw, is_draw}
@@ -34,7 +33,7 @@ use Rattle.level_plan.specs.Items.{is_between}
 use Rattle.level_plan.specs.Plans.{unit_of_level}
 use Rattle.floor_events.specs.declared.event.Event.TheVariants.{Break}
 use Rattle.tournament_rules.specs.Books.{BookState, has_table, start_at}
-use Rattle.tournament_rules.specs.Checks.{book_checks, book_refusal, is_table_open, is_playing, is_not_last}
+use Rattle.tournament_rules.specs.Checks.{book_checks, book_refusal, is_table_open, is_playing}
 use Rattle.tournament_rules.specs.Effects.{with_table, forgotten, broken}
 use Rattle.tournament_rules.specs.Moving.{is_called, after_taking, after_all}
 use Rattle.tournament_rules.specs.Units.{is_due}
@@ -57,7 +56,7 @@ pub record MayBreak (book : BookState) (table : ℕ) (places : List Place) (name
   pub opened : is_table_open book table ≡ true
   pub rests : is_playing book table ≡ false
   pub no_race : is_race_pending book.seating ≡ false
-  pub last : is_not_last book table ≡ false
+  pub last : is_not_last book.seating table ≡ false
   pub drawn : IsDrawn book.seating table places names
   pub no_round : is_round_open book.seating ≡ false
 
@@ -349,7 +348,8 @@ valid_forgotten book table valid there =
         playing = λ other. each_status (λ number status. status.playing ≡ is_some (start_at book.started number)) tables
             table status range.0 last (valid.tables.playing table) other (valid.tables.playing other);
       };
-      hands = starts_kept book.plan tables (with_status tables table status) book.seating.players book.started valid.hands
+      hands = starts_kept book.plan tables
+          (with_status tables table status) book.seating.players book.started valid.hands
           keeps.unit;
       chips = valid.chips;
       units = units_kept book.plan book.level book.added tables (with_status tables table status) book.seating.players

@@ -6,8 +6,8 @@ use Rattle.std.proofs.lemmas.Bool.Decides.{nat_tests}
 use Rattle.rulebook.proofs.Checks.{none_holds}
 use Rattle.level_plan.specs.declared.line.PlanLine.{PlanLine}
 use Rattle.level_plan.specs.declared.line.PlanLine.TheVariants as lines
-use Rattle.level_plan.specs.declared.plan.Blind.{Blind}
-use Rattle.level_plan.specs.Items.{is_between, greatest_amount, is_blind, may_follow, are_levels, are_shares}
+use Rattle.level_plan.specs.Items.{is_between, is_blind, may_follow, are_levels, are_shares}
+use Rattle.level_plan.specs.Limits.{greatest_amount}
 use Rattle.level_plan.specs.Plans.{is_right}
 use Rattle.level_plan.specs.Drafts.{Draft, empty_draft, is_wrong_line, draft_after, plan_of, go_checks, go_fault, is_lawful_if_given, IsLawful}
 use Rattle.level_plan.proofs.Levels.{are_levels_more, level_count_more}
@@ -63,8 +63,7 @@ lawful_line draft (lines.Buyin n) l right =
 lawful_line draft (lines.Late n) l right =
     items (record draft { late = Some n })
     l.tables l.seats l.stack l.buyin (second_lawful _ _ right) l.levels l.level_count l.shares
-lawful_line draft (lines.Blinds small big unit) l right =
-    let blind : Blind = record { small = small; big = big; unit = unit } in
+lawful_line draft (lines.Blinds blind) l right =
     let lawful = is_blind blind && may_follow draft.blinds blind in
     let parts = and_parts (is_blind blind) (may_follow draft.blinds blind) (second_lawful _ lawful right) in
     items (record draft { blinds = draft.blinds ++ blind ∷ [] }) l.tables l.seats l.stack l.buyin l.late

@@ -33,7 +33,7 @@ use Rattle.tournament_rules.proofs.KeptUnits.{keeps-set, starts_kept, units_kept
 -- The payees are a start's players with other stacks, of the same sum, that are multiples of the unit.
 pub record GoBackTo (start : HandStart) (payees : List StartSeat) : Type 0 where
   pub same : map without_stack payees ≡ map without_stack start.seats
-  pub whole : list_all (λ payee. payee.stack % start.unit == 0) payees ≡ true
+  pub whole : list_all (λ payee. payee.stack % start.blind.unit == 0) payees ≡ true
   pub kept : chips_of payees ≡ chips_of start.seats
 
 numbers_without : (starters : List StartSeat) → numbers_of (map without_stack starters) ≡ numbers_of starters
@@ -51,7 +51,7 @@ playable_parts unit (payee ∷ payees) playable =
     let others = playable_parts unit payees parts.1 in
     (and_from _ _ his.0 others.0, and_from _ _ his.1 others.1)
 
--- The players of the start that is out at a table are those who have nothing at rest there.
+-- The players of the hand that is played at a table are those who have nothing at rest there.
 payees_lent : (book : BookState) (table : ℕ) (start : HandStart) (payees : List StartSeat) → IsValid book
     → start_at book.started table ≡ Some start → map without_stack payees ≡ map without_stack start.seats
     → ArePayees (is_lent table) book.seating.players payees
@@ -105,7 +105,7 @@ valid_closed book table start payees busts group accepted valid is back once gro
     let last : table ≤ length tables = omega (arith, range.1, count, size) in
     let keeps = keeps-set tables table status range.0 last refl refl in
     let stays : 1 ≤ count_at
-    (who_stay table players) table = somebody_stays table book.seating.players payees start.unit
+    (who_stay table players) table = somebody_stays table book.seating.players payees start.blind.unit
     start.seats apart those began.lawful.stacks began.lawful.two back.kept in
     record {
       plan = valid.plan;
@@ -269,7 +269,7 @@ valid_void_at book table valid = by_start (start_at book.started table) refl
     by_start None is = valid
     by_start (Some start) is =
         let began = valid.hands.starts table start is in
-        let parts = playable_parts start.unit start.seats began.lawful.stacks in
+        let parts = playable_parts start.blind.unit start.seats began.lawful.stacks in
         valid_ended book table start start.seats valid is
         (record { same = refl; whole = parts.1; kept = refl }) parts.0
 
@@ -309,7 +309,7 @@ set_none-kept (start ∷ started) zero (suc other) none = none
 set_none-kept (start ∷ started) (suc table) zero none = none
 set_none-kept (start ∷ started) (suc table) (suc other) none = set_none-kept started table other none
 
--- Once the hands at the first so many tables are void, no hand is out at any of them.
+-- Once the hands at the first so many tables are void, no hand is played at any of them.
 pub none_started-void_first : (book : BookState) (tables table : ℕ) → 1 ≤ table → table ≤ tables
     → start_at (void_first book tables).started table ≡ None
 none_started-void_first book zero table first last = absurd (omega arith)
@@ -346,8 +346,9 @@ valid_stopped book valid =
     valid_counted (void_first book book.plan.tables) (book.accepted + 1) true
     (valid_void_first book book.plan.tables valid) (omega (arith, begun, counted)) (omega (arith, group, raised))
 
--- Once the tournament is stopped, no hand is out at any table.
-pub none_started-stopped : (book : BookState) (table : ℕ) → IsValid book → start_at (stopped_book book).started table ≡ None
+-- Once the tournament is stopped, no hand is played at any table.
+pub none_started-stopped : (book : BookState) (table : ℕ) → IsValid book
+    → start_at (stopped_book book).started table ≡ None
 none_started-stopped book zero valid = (valid_void_first book book.plan.tables valid).tables.nobody
 none_started-stopped book (suc below) valid = elim (cases_lt below book.plan.tables) [
   | inl listed ↦ none_started-void_first book book.plan.tables (suc below) (omega arith) (omega arith)

@@ -8,11 +8,12 @@ use Rattle.std.proofs.lemmas.List.{get_or-replicate, get_or_past, length-replica
 use Rattle.std.proofs.lemmas.List.Folds.{sum_by-replicate}
 use Rattle.std.proofs.lemmas.List.Sums.{sum_by-insert}
 use Rattle.std.proofs.lemmas.List.Elements.{All-nil, All-weaker}
-use Rattle.rulebook.specs.declared.limits.TheConstants.{MOST_ENTRIES}
+use Rattle.rulebook.specs.Limits.{most_entries}
 use Rattle.rulebook.proofs.Tests.{none_by_count}
 use Rattle.rulebook.proofs.Repeats.{get_or-repeated}
 use Rattle.place_list.specs.declared.bust.Bust.{Bust}
-use Rattle.level_plan.specs.Items.{is_between, greatest_amount, are_levels}
+use Rattle.level_plan.specs.Items.{is_between, are_levels}
+use Rattle.level_plan.specs.Limits.{greatest_amount}
 use Rattle.level_plan.specs.Plans.{PlanTerms, is_right, unit_of_level}
 use Rattle.entry_list.specs.Entries.{is_known}
 use Rattle.entry_list.proofs.Added.{names-added}
@@ -97,7 +98,7 @@ unit_of_many status count (suc below) there =
     let range = table_range 1 count (suc below) there in
     ap (λ (status : TableStatus). status.unit) (get_or-replicate count below status fresh_status (omega arith))
 
--- No hand is out where none is.
+-- No hand is played where none has started.
 pub start_none : (count table : ℕ) → start_at (replicate count None) table ≡ None
 start_none count table = get_or-repeated count table None
 
@@ -169,7 +170,8 @@ valid_first plan right =
 
     none_started : (count : ℕ)
         → sum_by (λ start. sum_by (λ player. player.stack) (starters_of start)) (replicate count None) ≡ 0
-    none_started count = rw (sum_by-replicate (λ start. sum_by (λ player. player.stack) (starters_of start))) (omega arith)
+    none_started count = rw (sum_by-replicate (λ start. sum_by (λ player. player.stack) (starters_of start)))
+        (omega arith)
 
 -- An entry keeps its number when another follows.
 slice_get-more : {A : Type 0} (items : List A) (i : ℕ) (item new : A) → slice_get items i ≡ Some item
@@ -192,7 +194,7 @@ nobody_yet count = grind (arith, nat_tests)
 
 -- The entries, the players and those who are out agree once one more entered.
 entered-agree : (entries : List (List ℕ)) (players : List Seated) (busts : List Bust) (new : Seated)
-    → AreEntered entries players busts → length entries < MOST_ENTRIES → is_known entries new.name ≡ false
+    → AreEntered entries players busts → length entries < most_entries → is_known entries new.name ≡ false
     → new.player ≡ length entries → AreEntered (entries ++ new.name ∷ []) (sit_down new players) busts
 entered-agree entries players busts new agree room unknown number =
     let behind = count_by (λ other. comes_before other.place new.place) players in
@@ -230,7 +232,7 @@ valid_entered book name table seat valid none =
       tables = record {
         lawful = seating-sit_down book.seating new valid.tables.lawful
             (rw (valid.tables.tables, valid.tables.seats) (and_from _ _ may.there may.within))
-            (lt-ltb (length book.entries) MOST_ENTRIES may.room)
+            (lt-ltb (length book.entries) most_entries may.room)
             may.free
             (none_by_count (is_numbered (length book.entries)) book.seating.players
             (let his = valid.entries.once (length book.entries) in

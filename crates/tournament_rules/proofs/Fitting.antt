@@ -1,4 +1,5 @@
--- What holds of the tables and of the starts that are out, once one table stands otherwise with another start, or none.
+-- What holds of the tables and of the starts of the hands that are played, once one table stands otherwise with another
+-- start, or none.
 use Rattle.std.proofs.Common.{◌≡◌, ◌∙◌, refl, sym, ap, subst, ℕ, zero, suc, ◌+◌, ◌<◌, ◌≤◌, ◌≢◌, Bool, true, false, ◌==◌, List, map, length, inl, inr, arith}
 use Rattle.std.specs.Prelude.{filter, sum_by, slice_set, Option, Some, None, is_some}
 use Rattle.std.specs.Option.{ForSome}
@@ -62,10 +63,12 @@ each_status P tables table status first last here other there = elim (cases_Bool
   | inr differ ↦ subst (λ (s : TableStatus). P other s) (sym (status_elsewhere tables table other status differ)) there
 ]
 
--- What holds of the start that is out at each table, or of none, holds once one is set of which it holds.
+-- What holds of the start of the hand that is played at each table, or of none, holds once one is set of which it
+-- holds.
 pub each_start : (P : ℕ → Option HandStart → Type 0) (started : List (Option HandStart)) (table : ℕ)
     (start : Option HandStart)
-    → table < length started → P table start → (other : ℕ) → ((table == other) ≡ false → P other (start_at started other))
+    → table < length started → P table start → (other : ℕ)
+    → ((table == other) ≡ false → P other (start_at started other))
     → P other (start_at (slice_set started table start) other)
 each_start P started table start within here other there = elim (cases_Bool (table == other)) [
   | inl same ↦
@@ -101,8 +104,8 @@ seating_changed seating table status change lawful first last stands stacks = re
   apart = apart_changed change stacks seating.players ∙ lawful.apart;
 }
 
--- The seating fits the plan once stacks changed and a table stands otherwise, which plays just where a start is out
--- now.
+-- The seating fits the plan once stacks changed and a table stands otherwise, which plays just where the book has a
+-- start now.
 pub fitting_changed : (plan : PlanTerms) (seating : Seating) (started : List (Option HandStart)) (table : ℕ)
     (status : TableStatus) (start : Option HandStart) (change : Seated → Seated)
     → IsFitting plan seating started → is_between 1 plan.tables table ≡ true → IsStatusOf seating.seat_count status
@@ -126,7 +129,8 @@ fitting_changed plan seating started table status start change fits there stands
       room = length-set started table start ∙ fits.room;
       nobody = get_or-set_other started table 0 start None (λ same. omega (arith, range.0, same)) ∙ fits.nobody;
       playing = λ other. each_start (λ number start.
-          (status_at (with_status seating.tables table status) number).playing ≡ is_some start) started table start within
+          (status_at (with_status seating.tables table status) number).playing ≡ is_some start) started table start
+          within
           (ap (λ (s : TableStatus). s.playing) (status_here seating.tables table status range.0
           (omega (arith, range.1, count, size))) ∙ plays)
           other
@@ -136,7 +140,8 @@ fitting_changed plan seating started table status start change fits there stands
 
 -- The seating fits the plan once tables stand otherwise, lawfully, and play just where they played, whether
 -- hand-for-hand is on or not.
-pub fitting_alike : (plan : PlanTerms) (seating : Seating) (started : List (Option HandStart)) (tables : List TableStatus)
+pub fitting_alike : (plan : PlanTerms) (seating : Seating) (started : List (Option HandStart))
+    (tables : List TableStatus)
     (hands : Bool) → IsFitting plan seating started → length tables ≡ length seating.tables
     → ((table : ℕ) → IsStatusOf seating.seat_count (status_at tables table))
     → ((table : ℕ) → (status_at tables table).playing ≡ (status_at seating.tables table).playing)
@@ -161,23 +166,25 @@ fitting_alike plan seating started tables hands fits size stands plays = record 
   playing = λ table. plays table ∙ fits.playing table;
 }
 
--- A table at which a start is out is one of the plan's.
-pub table_started : (plan : PlanTerms) (seating : Seating) (started : List (Option HandStart)) (table : ℕ) (start : HandStart)
+-- A table at which a hand has started is one of the plan's.
+pub table_started : (plan : PlanTerms) (seating : Seating) (started : List (Option HandStart)) (table : ℕ)
+    (start : HandStart)
     → IsFitting plan seating started → start_at started table ≡ Some start → is_between 1 plan.tables table ≡ true
 table_started plan seating started zero start fits is = let none = fits.nobody in absurd cc
-table_started plan seating started (suc below) start fits is = elim (cases_Bool (is_between 1 plan.tables (suc below))) [
-  | inl there ↦ there
-  | inr past ↦
-      let room = fits.room in
-      let beyond = above plan.tables below past in
-      let none = get_or_past started (suc below) None (omega (arith, room, beyond)) in
-      absurd cc
-]
+table_started plan seating started
+    (suc below) start fits is = elim (cases_Bool (is_between 1 plan.tables (suc below))) [
+      | inl there ↦ there
+      | inr past ↦
+          let room = fits.room in
+          let beyond = above plan.tables below past in
+          let none = get_or_past started (suc below) None (omega (arith, room, beyond)) in
+          absurd cc
+    ]
   where
     above : (high below : ℕ) → is_between 1 high (suc below) ≡ false → high < suc below
     above high below past = grind (arith, nat_tests)
 
--- The starts that are out are lawful, and their players are lent, once another start, or none, is out at a table.
+-- The starts are lawful, and their players are lent, once a table has another start, or none.
 pub starts_changed : (plan : PlanTerms) (tables : List TableStatus) (players after : List Seated)
     (started : List (Option HandStart)) (table : ℕ) (start : Option HandStart)
     → AreStarted plan tables players started → table < length started → ForSome start (IsStartAt plan tables table)
@@ -192,11 +199,11 @@ starts_changed plan tables players after started table start hands within lawful
       (λ differ. ap (λ (found : List Seated). map start_seat found) (elsewhere other differ) ∙ hands.lent other);
 }
 
--- the chips of the start that is out, if one is
+-- the chips of the start of a hand, if one is played
 abbrev pub chips_of_start : Option HandStart → ℕ
 chips_of_start start = chips_of (starters_of start)
 
--- The chips in play, once another start, or none, is out at a table.
+-- The chips in play, once a table has another start, or none.
 pub play_changed : (started : List (Option HandStart)) (table : ℕ) (start : Option HandStart) → table < length started
     → sum_by chips_of_start (slice_set started table start) + chips_of_start (start_at started table)
     ≡ sum_by chips_of_start started + chips_of_start start

@@ -74,7 +74,7 @@ units_kept plan level added before after players later units keeps whole due = r
   few = let few = units.few in let same = keeps.due in omega (arith, few, same);
 }
 
--- A start that is out is lawful where its table has the unit that it had.
+-- A start is lawful where its table has the unit that it had.
 pub start_kept : (plan : PlanTerms) (before after : List TableStatus) (table : ℕ) (start : Option HandStart)
     → (status_at after table).unit ≡ (status_at before table).unit → ForSome start (IsStartAt plan before table)
     → ForSome start (IsStartAt plan after table)
@@ -82,10 +82,11 @@ start_kept plan before after table start same lawful = λ found is.
     let began = lawful found is in
     record { here = began.here; lawful = began.lawful; seats = began.seats; unit = began.unit ∙ sym same }
 
--- The starts that are out are lawful where each table has the unit that it had.
+-- The starts are lawful where each table has the unit that it had.
 pub starts_kept : (plan : PlanTerms) (before after : List TableStatus) (players : List Seated)
     (started : List (Option HandStart)) → AreStarted plan before players started
-    → ((table : ℕ) → (status_at after table).unit ≡ (status_at before table).unit) → AreStarted plan after players started
+    → ((table : ℕ) → (status_at after table).unit ≡ (status_at before table).unit)
+    → AreStarted plan after players started
 starts_kept plan before after players started hands same = record {
   starts = λ table. start_kept plan before after table (start_at started table) (same table) (hands.starts table);
   lent = hands.lent;

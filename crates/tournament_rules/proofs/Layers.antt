@@ -23,7 +23,7 @@ hand_read book hands table tied =
     by_hand None = refl
     by_hand (Some hand) = refl
 
--- The start that is out at a table is that of the hand there.
+-- The start that the book has for a table is that of the hand there.
 pub start_read : (book : BookState) (hands : List (Option HandTerms)) (table : ℕ) → map start_of hands ≡ book.started
     → start_at book.started table ≡ start_of (hand_in hands table)
 start_read book hands table tied = rw (← tied) (get_or-map_all start_of hands table None)
@@ -34,7 +34,8 @@ pub acts_read : (hands : List (Option HandTerms)) (table : ℕ)
 acts_read hands table = get_or-map_all acts_of hands table None
 
 -- The hand that an event is about is the same.
-pub hand_for-read : (book : BookState) (hands : List (Option HandTerms)) (event : Event) → map start_of hands ≡ book.started
+pub hand_for-read : (book : BookState) (hands : List (Option HandTerms)) (event : Event)
+    → map start_of hands ≡ book.started
     → hand_about (seen_of (record { book = book; hands = hands })) event ≡ hand_for hands event
 hand_for-read book hands event tied = by_table (hand_table event)
   where

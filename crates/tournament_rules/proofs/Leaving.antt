@@ -97,7 +97,7 @@ picked_sits number test (player ∷ players) picked =
     by_tests true false is picked rest = rw is (rest (rw is at picked))
     by_tests false false is picked rest = rw is (rest picked)
 
--- The players of a hand that is out sit.
+-- The players of a hand that is played sit.
 pub starter_sits : (book : BookState) (table number : ℕ) (start : HandStart) → IsValid book
     → start_at book.started table ≡ Some start → is_among number start.seats ≡ true
     → list_any (is_numbered number) book.seating.players ≡ true

@@ -29,7 +29,7 @@ use Rattle.tournament_rules.specs.Valid.{IsValid, IsPlanned}
 use Rattle.tournament_rules.proofs.Entries.{right_has}
 use Rattle.tournament_rules.proofs.Fitting.{table_range, fitting_alike}
 use Rattle.tournament_rules.proofs.KeptUnits.{start_kept, one_unit}
-use Rattle.tournament_rules.proofs.Remaining.{somebody_out}
+use Rattle.tournament_rules.proofs.Remaining.{somebody_plays}
 use Rattle.tournament_rules.proofs.Units.{next_times, next_unit}
 
 -- What is so of a level that is not refused.
@@ -245,7 +245,7 @@ valid_leveled book valid none = by_units (nat_lt before unit) refl
               (λ opened status. plays opened status));
           hands = record {
             starts = λ table start is. start_kept book.plan tables after table (Some start)
-                (open-kept unit seating table (somebody_out book table start valid is))
+                (open-kept unit seating table (somebody_plays book table start valid is))
                 (λ found same. valid.hands.starts table found (is ∙ same)) start refl;
             lent = valid.hands.lent;
           };
@@ -256,7 +256,8 @@ valid_leveled book valid none = by_units (nat_lt before unit) refl
                 let range = table_range 1 book.plan.tables table listed in
                 let count = valid.tables.tables in
                 let all = valid.tables.lawful.tables in
-                subst (IsUnitOf unit) (sym (announced-at unit seating table range.0 (omega (arith, range.1, count, all))))
+                subst (IsUnitOf unit)
+                (sym (announced-at unit seating table range.0 (omega (arith, range.1, count, all))))
                 (unit_raised before unit (is_open players table) (status_at tables table)
                 (one_unit book.plan book.level book.added tables players valid.units may.no_race table listed) next
                 greater);

@@ -8,7 +8,7 @@ pub mod BySeats
 pub mod Levels
 pub mod Races
 pub mod Rounds
-pub mod Outs
+pub mod InOrBust
 pub mod Restacked
 pub mod Paying
 pub mod Leaving

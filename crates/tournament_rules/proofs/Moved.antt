@@ -16,8 +16,7 @@ use Rattle.seat_book.specs.Places.{comes_before, is_place_of}
 use Rattle.seat_book.specs.Players.{sits_at, sits_in, is_numbered, player_at, player_of, sit_down, lifted, are_apart}
 use Rattle.seat_book.specs.Counts.{count_at}
 use Rattle.seat_book.specs.Tables.{status_at}
-use Rattle.seat_book.specs.Seatings.{is_entry}
-use Rattle.balance_rule.specs.Moves.{is_race_pending}
+use Rattle.seat_book.specs.Seatings.{is_entry, is_race_pending}
 use Rattle.tournament_rules.specs.Books.{BookState}
 use Rattle.tournament_rules.specs.Players.{start_seat}
 use Rattle.tournament_rules.specs.Units.{is_whole_at}

@@ -9,7 +9,7 @@ use Rattle.rulebook.specs.Checks.{first_that_holds}
 use Rattle.seat_book.specs.Players.{player_at}
 use Rattle.entry_list.specs.Entries.{is_known}
 use Rattle.rulebook.proofs.Checks.{first_that_holds-append, none_holds}
-use Rattle.rulebook.specs.declared.limits.TheConstants.{MOST_ENTRIES}
+use Rattle.rulebook.specs.Limits.{most_entries}
 use Rattle.level_plan.specs.declared.line.PlanLine.{PlanLine}
 use Rattle.betting_round.specs.declared.act.Act.{Act}
 use Rattle.table_engine.specs.Hands.{HandTerms, is_over}
@@ -33,7 +33,7 @@ pub record MayEnter (book : BookState) (name : List ℕ) (table seat : ℕ) : Ty
   pub free : player_at book.seating.players (record { table = table; seat = seat }) ≡ None
   pub fewest : is_not_fewest book table ≡ false
   pub early : is_late book ≡ false
-  pub room : length book.entries < MOST_ENTRIES
+  pub room : length book.entries < most_entries
 
 -- An entry that the book does not refuse has a new name, and an empty seat at a table with the fewest players.
 pub entry_passed : (book : BookState) (name : List ℕ) (table seat : ℕ)
@@ -57,7 +57,7 @@ entry_passed book name table seat none =
       free = none-by_test _ free.0;
       fewest = not-true _ fewest.0;
       early = not-true _ early.0;
-      room = leb-false MOST_ENTRIES (length book.entries) (not-true _ room.0);
+      room = leb-false most_entries (length book.entries) (not-true _ room.0);
     }
 
 -- Where one refusal or else another tells of none, neither does.

@@ -1,5 +1,5 @@
--- A tournament whose plan is whole is valid after each event: its book is, and each hand that is out is a lawful play
--- of its start.
+-- A tournament whose plan is whole is valid after each event: its book is, and each hand that is played is a lawful
+-- play of its start.
 use Rattle.std.proofs.Common.{◌≡◌, ◌∙◌, refl, sym, ap, subst, ℕ, ◌+◌, ◌<◌, true, false, ◌==◌, List, [], ◌∷◌, ◌++◌, length, inl, inr, arith, length-set}
 use Rattle.std.specs.Prelude.{replicate, slice_set, Option, Some, None, option_map, option_and_then}
 use Rattle.std.specs.Option.{option_map_or, ForSome}
@@ -19,12 +19,12 @@ use Rattle.table_engine.proofs.Plays.{lawful_play-none, lawful_play-more}
 use Rattle.table_engine.proofs.TurnLaws.{lawful_play-time}
 use Rattle.floor_events.specs.declared.event.Event.{Event}
 use Rattle.floor_events.specs.declared.event.Event.TheVariants as events
-use Rattle.tournament_rules.specs.Books.{start_at}
+use Rattle.tournament_rules.specs.Books.{BookState, start_at}
 use Rattle.tournament_rules.specs.Checks.{book_refusal}
 use Rattle.tournament_rules.specs.Dealing.{next_start}
 use Rattle.tournament_rules.specs.Effects.{settled, stopped_book}
 use Rattle.tournament_rules.specs.States.{PlayState, first_play, acts_at, hand_at, refusal_of, play_effect}
-use Rattle.tournament_rules.specs.Valid.{IsValidPlay, IsStartAt}
+use Rattle.tournament_rules.specs.Valid.{IsValid, IsValidPlay, IsStartAt}
 use Rattle.tournament_rules.specs.Apart.{hand_refusal}
 use Rattle.tournament_rules.proofs.Fitting.{table_range, other_number, table_started}
 use Rattle.tournament_rules.proofs.Ends.{left-void_first, valid_settled, valid_stopped, none_started-stopped}
@@ -37,11 +37,11 @@ use Rattle.tournament_rules.proofs.Levels.{valid_leveled}
 use Rattle.tournament_rules.proofs.Races.{valid_raced}
 use Rattle.tournament_rules.proofs.Rounds.{valid_with_hands, valid_round_ended}
 
--- the hand of a start that is out, and its acts
+-- the hand of a start, if there is one, and its acts
 abbrev hand_from : Option HandStart → List ActOf → Option HandTerms
 hand_from start acts = option_map (λ start. record { start = start; acts = acts }) start
 
--- The hand that is out at a table, if one is, is a lawful play of its start.
+-- The hand that is played at a table, if one is, is a lawful play of its start.
 abbrev IsLawfulAt : List (Option HandStart) → List (List ActOf) → ℕ → Type 0
 IsLawfulAt started acts table = ForSome (hand_from (start_at started table) (acts_at acts table)) IsLawfulPlay
 
@@ -53,7 +53,7 @@ at_each P table here elsewhere other = elim (cases_Bool (table == other)) [
   | inr differ ↦ elsewhere other differ
 ]
 
--- The hands that are out are lawful plays once the start and the acts at a table are others.
+-- The hands that are played are lawful plays once the start and the acts at a table are others.
 plays_changed : (started : List (Option HandStart)) (acts : List (List ActOf)) (table : ℕ) (start : Option HandStart)
     (new : List ActOf) → table < length started → table < length acts → ((other : ℕ) → IsLawfulAt started acts other)
     → ForSome (hand_from start new) IsLawfulPlay
@@ -121,9 +121,10 @@ play_acted play table name act valid none free =
     by_start (Some start) acts free lawful =
         let hand : HandTerms = record { start = start; acts = acts } in
         some_so IsLawfulPlay _
-        (lawful_play-more hand (record { name = name; act = act; by_time = false }) (lawful hand refl) free)
+        (lawful_play-more hand (record { name = name; act = act; by_time = false }) (lawful hand refl) free
+        (λ by_time. absurd cc))
 
--- the acts of a hand once time is called, where one is out
+-- the acts of a hand once time is called, where one is played
 abbrev acts_in_time : Option HandTerms → List ActOf
 acts_in_time hand = option_map_or (λ hand. (hand_after_time hand).acts) hand []
 
@@ -158,7 +159,7 @@ play_timed play table valid none free =
 abbrev settled_at : PlayState → ℕ → HandTerms → PlayState
 settled_at play table hand = record { book = settled play.book hand; acts = slice_set play.acts table [] }
 
--- After a settle of the hand with the start that is out.
+-- After a settle of the hand with the start that the book has.
 settled_from : (play : PlayState) (table : ℕ) (start : HandStart) → IsValidPlay play
     → start_at play.book.started table ≡ Some start
     → is_over (record { start = start; acts = acts_at play.acts table }) ≡ true
@@ -213,17 +214,26 @@ play_stopped play valid = record {
     nobody : (start : Option HandStart) (acts : List ActOf) → start ≡ None → ForSome (hand_from start acts) IsLawfulPlay
     nobody start acts none = rw none (λ hand is. absurd cc)
 
+-- After an order of the book, which leaves the hands as they are, where the book is valid after it.
+ordered : (play : PlayState) (event : Event) (after : BookState) → IsValidPlay play → refusal_of play event ≡ None
+    → (book_refusal play.book event ≡ None → IsValid after) → after.plan.tables ≡ play.book.plan.tables
+    → after.started ≡ play.book.started → IsValidPlay (record { book = after; acts = play.acts })
+ordered play event after valid none book tables started = record {
+  book = book (passed-parts play event none).0;
+  room = valid.room ∙ ap (λ (tables : ℕ). tables + 1) (sym tables);
+  plays = λ table. subst (λ (started : List (Option HandStart)). IsLawfulAt started play.acts table) (sym started)
+      (valid.plays table);
+}
+
 -- An event that is not refused leaves a tournament valid.
 pub play_keeps : (play : PlayState) (event : Event) → IsValidPlay play → refusal_of play event ≡ None
     → IsValidPlay (play_effect play event)
 play_keeps play (events.Plan line) valid none =
     absurd (plan_late play.book line (passed-parts play (events.Plan line) none).0)
 play_keeps play events.Go valid none = absurd (go_late play.book (passed-parts play events.Go none).0)
-play_keeps play (events.Enter name table seat) valid none = record {
-  book = valid_entered play.book name table seat valid.book (passed-parts play (events.Enter name table seat) none).0;
-  room = valid.room;
-  plays = valid.plays;
-}
+play_keeps play (events.Enter name table seat) valid none =
+    ordered play (events.Enter name table seat) _ valid none
+    (valid_entered play.book name table seat valid.book) refl refl
 play_keeps play (events.Begin table row) valid none =
     play_begun play table row valid (passed-parts play (events.Begin table row) none).0
 play_keeps play (events.Act table name act) valid none =
@@ -235,37 +245,19 @@ play_keeps play (events.Time table) valid none =
 play_keeps play (events.Settle table) valid none =
     let parts = passed-parts play (events.Settle table) none in
     play_settled play table valid parts.0 parts.1
-play_keeps play (events.Balance from to) valid none = record {
-  book = valid_balanced play.book from to valid.book (passed-parts play (events.Balance from to) none).0;
-  room = valid.room;
-  plays = valid.plays;
-}
-play_keeps play (events.Break table places names) valid none = record {
-  book = valid_broken play.book table places names valid.book
-      (passed-parts play (events.Break table places names) none).0;
-  room = valid.room;
-  plays = valid.plays;
-}
-play_keeps play events.Level valid none = record {
-  book = valid_leveled play.book valid.book (passed-parts play events.Level none).0;
-  room = valid.room;
-  plays = valid.plays;
-}
-play_keeps play (events.Race table row) valid none = record {
-  book = valid_raced play.book table row valid.book (passed-parts play (events.Race table row) none).0;
-  room = valid.room;
-  plays = valid.plays;
-}
-play_keeps play (events.Hands on) valid none = record {
-  book = valid_with_hands play.book on valid.book;
-  room = valid.room;
-  plays = valid.plays;
-}
-play_keeps play events.Round valid none = record {
-  book = valid_round_ended play.book valid.book;
-  room = valid.room;
-  plays = valid.plays;
-}
+play_keeps play (events.Balance from to) valid none =
+    ordered play (events.Balance from to) _ valid none (valid_balanced play.book from to valid.book) refl refl
+play_keeps play (events.Break table places names) valid none =
+    ordered play (events.Break table places names) _ valid none
+    (valid_broken play.book table places names valid.book) refl refl
+play_keeps play events.Level valid none =
+    ordered play events.Level _ valid none (valid_leveled play.book valid.book) refl refl
+play_keeps play (events.Race table row) valid none =
+    ordered play (events.Race table row) _ valid none (valid_raced play.book table row valid.book) refl refl
+play_keeps play (events.Hands on) valid none =
+    ordered play (events.Hands on) _ valid none (λ free. valid_with_hands play.book on valid.book) refl refl
+play_keeps play events.Round valid none =
+    ordered play events.Round _ valid none (λ free. valid_round_ended play.book valid.book) refl refl
 play_keeps play events.Stop valid none = play_stopped play valid
 
 -- A tournament is valid before any entry.

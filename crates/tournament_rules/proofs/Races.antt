@@ -460,13 +460,15 @@ module _ (book : BookState) (table : ℕ) (cards : List Card) (valid : IsValid b
           seats = valid.tables.seats;
           room = valid.tables.room;
           nobody = valid.tables.nobody;
-          playing = λ other. each_status (λ number status. status.playing ≡ is_some (start_at book.started number)) tables
+          playing = λ other. each_status
+              (λ number status. status.playing ≡ is_some (start_at book.started number)) tables
               table (raced_off status) range.0 range.1 (valid.tables.playing table) other (valid.tables.playing other);
         };
         hands = record {
           starts = λ other start is.
               let began = valid.hands.starts other start is in
-              let unit = each_status (λ number status. start_at book.started number ≡ Some start → start.unit ≡ status.unit)
+              let unit =
+              each_status (λ number status. start_at book.started number ≡ Some start → start.blind.unit ≡ status.unit)
               tables table (raced_off status) range.0 range.1 (λ started. absurd cc) other (λ started. began.unit) is in
               record { here = began.here; lawful = began.lawful; seats = began.seats; unit = unit };
           lent = λ other. ap (λ (found : List Seated). map start_seat found) (keeps_lent other)

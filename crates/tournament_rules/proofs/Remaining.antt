@@ -61,10 +61,10 @@ somebody_sits table players starters lent two =
     let there = length-map starters without_stack in
     omega (arith, two, parts, sit, size, here, there)
 
--- Somebody sits at a table where a hand is out.
-pub somebody_out : (book : BookState) (table : ℕ) (start : HandStart) → IsValid book
+-- Somebody sits at a table where a hand has started.
+pub somebody_plays : (book : BookState) (table : ℕ) (start : HandStart) → IsValid book
     → start_at book.started table ≡ Some start → 1 ≤ count_at book.seating.players table
-somebody_out book table start valid is =
+somebody_plays book table start valid is =
     somebody_sits table book.seating.players start.seats
     (valid.hands.lent table ∙ ap (λ (start : Option HandStart). map without_stack (starters_of start)) is)
     (valid.hands.starts table start is).lawful.two

@@ -80,7 +80,8 @@ seating_left seating gone lawful = record {
 
 -- The seating fits the plan once some players have left.
 pub fitting_left : (plan : PlanTerms) (seating : Seating) (started : List (Option HandStart)) (gone : Seated → Bool)
-    → IsFitting plan seating started → IsFitting plan (record seating { players = without gone seating.players }) started
+    → IsFitting plan seating started
+    → IsFitting plan (record seating { players = without gone seating.players }) started
 fitting_left plan seating started gone fits = record {
   lawful = seating_left seating gone fits.lawful;
   tables = fits.tables;
@@ -235,10 +236,10 @@ lent_after table players payees apart those = rw (put_back-in_turn (is_lent tabl
     (nothing-in_turn table players payees those.numbers)
 
 -- Those who go out are as many of a number as those of it who leave.
-count_out : (number group : ℕ) (leaving : List StartSeat) (found : List Seated)
+count_bust : (number group : ℕ) (leaving : List StartSeat) (found : List Seated)
     → numbers_of leaving ≡ numbers_in found
     → count_by (is_bust_of number) (map (bust_of group) leaving) ≡ count_by (is_numbered number) found
-count_out number group leaving found same =
+count_bust number group leaving found same =
     let his : ℕ → ℕ = λ other. cond {A = ℕ} (other == number) 1 0 in
     sum_by-map (λ (bust : Bust). his bust.player) (bust_of group) leaving
     ∙ (sym (sum_by-map his (λ (starter : StartSeat). starter.player) leaving)
@@ -251,11 +252,11 @@ pub once_left : (entries : List (List ℕ)) (table group : ℕ) (leaving : List 
     → AreOnce entries (who_stay table players) (busts ++ map (bust_of group) leaving)
 once_left entries table group leaving players busts once same = λ number.
     let parts = count_apart (is_numbered number) (is_lent table) players in
-    let started = count_out number group leaving (filter (is_lent table) players) same in
+    let gone = count_bust number group leaving (filter (is_lent table) players) same in
     let rows = sum_by-append (λ (bust : Bust). cond {A = ℕ} (is_bust_of number bust) 1 0) busts
     (map (bust_of group) leaving) in
     let before = once number in
-    omega (arith, parts, started, rows, before)
+    omega (arith, parts, gone, rows, before)
 
 -- A group of players who go out is not later than itself.
 pub same_group : (group : ℕ) → nat_le group group ≡ true

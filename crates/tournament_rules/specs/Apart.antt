@@ -1,4 +1,4 @@
--- A book and, by table, the hands that are out, each by itself: who has these answers as the tournament does. This
+-- A book and, by table, the hands that are played, each by itself: who has these answers as the tournament does. This
 -- project's own.
 use Rattle.std.specs.Prelude.{ℕ, false, List, [], ◌∷◌, map, replicate, length, slice_index_or, slice_set, Option, Some, None, is_none, option_map, if◌then◌else◌}
 use Rattle.std.specs.Option.{option_map_or, option_and_then, option_or}
@@ -20,14 +20,14 @@ use Rattle.tournament_rules.specs.States.{PlayState, hand_table, answered}
 
 pub record Apart : Type 0 where
   pub book : BookState
-  -- by table number, the hand that is out
+  -- by table number, the hand that is played
   pub hands : List (Option HandTerms)
 
 -- a book before any entry, and no hand
 abbrev pub first_apart : PlanTerms → Apart
 first_apart plan = record { book = first_book plan; hands = no_hands plan.tables }
 
--- the hand at a table, if one is out
+-- the hand at a table, if one is played
 abbrev pub hand_in : List (Option HandTerms) → ℕ → Option HandTerms
 hand_in hands table = slice_index_or hands table None
 
@@ -43,7 +43,7 @@ acts_of hand = option_map_or (λ hand. hand.acts) hand []
 abbrev pub seen_of : Apart → PlayState
 seen_of apart = record { book = apart.book; acts = map acts_of apart.hands }
 
--- the hand that an event is about, if it is out
+-- the hand that an event is about, if one is played
 abbrev pub hand_for : List (Option HandTerms) → Event → Option HandTerms
 hand_for hands event = option_and_then (hand_in hands) (hand_table event)
 

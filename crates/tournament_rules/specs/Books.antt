@@ -1,4 +1,4 @@
--- The book of a tournament: all of it but the acts of the hands that are out. This project's own.
+-- The book of a tournament: all of it but the acts of the hands that are played. This project's own.
 use Rattle.std.specs.Prelude.{ℕ, ◌+◌, ◌-◌, Bool, List, [], replicate, slice_index_or, slice_get, unwrap_or, Option, None}
 use Rattle.std.specs.Option.{option_map_or}
 use Rattle.level_plan.specs.declared.plan.Blind.{Blind}
@@ -16,7 +16,7 @@ pub record BookState : Type 0 where
   pub entries : List (List ℕ)
   -- who sits where, and how the tables stand
   pub seating : Seating
-  -- by table number, the start of the hand that is out; there is no table 0, and no hand
+  -- by table number, the start of the hand that is played; there is no table 0, and no hand
   pub started : List (Option HandStart)
   -- the players who are out, in the order in which they went out
   pub busts : List Bust
@@ -42,7 +42,7 @@ has_table book table = is_between 1 book.plan.tables table
 abbrev pub has_seat_number : BookState → ℕ → Bool
 has_seat_number book seat = is_between 1 book.plan.seats seat
 
--- the start of the hand that is out at a table, if one is
+-- the start of the hand that is played at a table, if one is
 abbrev pub start_at : List (Option HandStart) → ℕ → Option HandStart
 start_at started table = slice_index_or started table None
 
@@ -54,6 +54,6 @@ starters_of start = option_map_or (λ start. start.seats) start []
 abbrev pub blind_now : BookState → Blind
 blind_now book = unwrap_or (slice_get book.plan.blinds (book.level - 1)) (record { small = 0; big = 0; unit = 1 })
 
--- no hand is out, at any of so many tables
+-- no hand is played, at any of so many tables
 abbrev pub no_hands : {A : Type 0} → ℕ → List (Option A)
 no_hands tables = replicate (tables + 1) None

@@ -9,13 +9,13 @@ use Rattle.card_set.specs.declared.card.CardRow.{CardRow}
 use Rattle.card_set.specs.Decks.{repeats_a_card}
 use Rattle.entry_list.specs.Entries.{is_known, is_full}
 use Rattle.seat_book.specs.declared.place.Place.{Place}
-use Rattle.seat_book.specs.Counts.{count_at, is_open, table_numbers}
+use Rattle.seat_book.specs.Counts.{count_at, table_numbers}
 use Rattle.seat_book.specs.Players.{player_at}
 use Rattle.seat_book.specs.Tables.{status_at}
+use Rattle.seat_book.specs.Seatings.{is_race_pending, is_round_open, is_not_last}
 use Rattle.balance_rule.specs.Halting.{is_halted}
 use Rattle.balance_rule.specs.Balance.{balance_checks}
 use Rattle.balance_rule.specs.Filling.{lacks_room, fill_seats}
-use Rattle.balance_rule.specs.Moves.{is_race_pending, is_round_open}
 use Rattle.break_draw.specs.Draws.{is_draw}
 use Rattle.hand_rounds.specs.Rounds.{begin_checks as turn_checks, round_checks as close_checks, switch_checks}
 use Rattle.table_engine.specs.Hands.{HandTerms, is_over}
@@ -91,13 +91,27 @@ abbrev pub enter_checks : BookState → List ℕ → ℕ → ℕ → List Check
 enter_checks book name table seat = going_checks book ++ newcomer_checks book name ++ seat_checks book table seat
     ++ entry_checks book
 
--- a hand may begin at that table
-abbrev pub table_checks : BookState → ℕ → List Check
-table_checks book table =
-    (NoTable, not (is_table_open book table)) ∷
-    (Playing, is_playing book table) ∷
+-- the table is open
+abbrev pub open_table_checks : BookState → ℕ → List Check
+open_table_checks book table = (NoTable, not (is_table_open book table)) ∷ []
+
+-- no hand is played at that table
+abbrev pub not_playing_checks : BookState → ℕ → List Check
+not_playing_checks book table = (Playing, is_playing book table) ∷ []
+
+-- no race is pending at any table
+abbrev pub no_race_checks : BookState → List Check
+no_race_checks book = (RaceDue, is_race_pending book.seating) ∷ []
+
+-- that table has enough players: more than one, and it is not halted
+abbrev pub enough_checks : BookState → ℕ → List Check
+enough_checks book table =
     (Lone, count_at book.seating.players table == 1) ∷
     (Halted, is_halted book.seating table) ∷ []
+
+-- a hand may begin at that table
+abbrev pub table_checks : BookState → ℕ → List Check
+table_checks book table = open_table_checks book table ++ not_playing_checks book table ++ enough_checks book table
 
 -- the row is a deck
 abbrev pub deck_checks : CardRow → List Check
@@ -140,24 +154,21 @@ end_checks hand = (NotOver, not (is_over hand)) ∷ []
 
 -- players may leave a table: no hand is played there, and no race is pending at any table
 abbrev pub leaving_checks : BookState → ℕ → List Check
-leaving_checks book table =
-    (Playing, is_playing book table) ∷
-    (RaceDue, is_race_pending book.seating) ∷ []
+leaving_checks book table = not_playing_checks book table ++ no_race_checks book
 
 -- no table has begun in a round of hand-for-hand
 abbrev pub round_checks : BookState → List Check
 round_checks book = (RoundOpen, is_round_open book.seating) ∷ []
 
+-- both tables are open
+abbrev pub both_open_checks : BookState → ℕ → ℕ → List Check
+both_open_checks book from to = (NoTable, not (is_table_open book from && is_table_open book to)) ∷ []
+
 -- all checks of a balance
 abbrev pub all_balance_checks : BookState → ℕ → ℕ → List Check
 all_balance_checks book from to =
-    going_checks book ++ (NoTable, not (is_table_open book from && is_table_open book to))
-    ∷ leaving_checks book from ++ balance_checks book.seating from to ++ round_checks book
-
--- whether an open table has a higher number
-abbrev pub is_not_last : BookState → ℕ → Bool
-is_not_last book table =
-    list_any (λ other. is_open book.seating.players other && nat_lt table other) (table_numbers book.plan.tables)
+    going_checks book ++ both_open_checks book from to ++ leaving_checks book from
+    ++ balance_checks book.seating from to ++ round_checks book
 
 -- whether the places and the names of a break are an order of the fill list of its table and of its players' names
 abbrev pub is_right_draw : BookState → ℕ → List Place → List (List ℕ) → Bool
@@ -167,15 +178,15 @@ is_right_draw book table places names =
 -- a table may break so
 abbrev pub draw_checks : BookState → ℕ → List Place → List (List ℕ) → List Check
 draw_checks book table places names =
-    (NotNextToBreak, is_not_last book table) ∷
+    (NotNextToBreak, is_not_last book.seating table) ∷
     (NoRoom, lacks_room book.seating table) ∷
     (DrawWrong, not (is_right_draw book table places names)) ∷ []
 
 -- all checks of a break
 abbrev pub break_checks : BookState → ℕ → List Place → List (List ℕ) → List Check
 break_checks book table places names =
-    going_checks book ++ (NoTable, not (is_table_open book table))
-    ∷ leaving_checks book table ++ draw_checks book table places names ++ round_checks book
+    going_checks book ++ open_table_checks book table ++ leaving_checks book table
+    ++ draw_checks book table places names ++ round_checks book
 
 -- whether the current level is the last of the plan
 abbrev pub is_last_level : BookState → Bool
@@ -184,13 +195,13 @@ is_last_level book = nat_le (length book.plan.blinds) book.level
 -- all checks of the next level
 abbrev pub level_checks : BookState → List Check
 level_checks book =
-    going_checks book ++ (RaceDue, is_race_pending book.seating) ∷ (LastLevel, is_last_level book) ∷ over_checks book
+    going_checks book ++ no_race_checks book ++ (LastLevel, is_last_level book) ∷ over_checks book
 
 -- all checks of a chip race
 abbrev pub race_checks : BookState → ℕ → CardRow → List Check
 race_checks book table row =
-    going_checks book ++ (NoTable, not (is_table_open book table)) ∷ (Playing, is_playing book table)
-    ∷ deck_checks row ++ (NoRace, not (is_race_due book table)) ∷ over_checks book
+    going_checks book ++ open_table_checks book table ++ not_playing_checks book table ++ deck_checks row
+    ++ (NoRace, not (is_race_due book table)) ∷ over_checks book
 
 -- all checks of a switch of hand-for-hand
 abbrev pub hands_checks : BookState → Bool → List Check

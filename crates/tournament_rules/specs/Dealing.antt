@@ -23,9 +23,7 @@ next_start book table cards = record {
   seats = dealt_seats table (next_at book table).waiting book.seating.players;
   seat_count = book.plan.seats;
   marks = (next_at book table).marks;
-  small = (blind_now book).small;
-  big = (blind_now book).big;
-  unit = (blind_now book).unit;
+  blind = blind_now book;
   game = book.plan.game;
   deck = cards;
 }

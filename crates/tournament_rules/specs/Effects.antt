@@ -81,7 +81,7 @@ abbrev pub with_table : Seating → ℕ → (TableStatus → TableStatus) → Se
 with_table seating table change =
     record seating { tables = with_status seating.tables table (change (status_at seating.tables table)) }
 
--- the book once a hand has begun: the chips of those who are dealt in are in the hand, and its start is out
+-- the book once a hand has begun: the chips of those who are dealt in are in the hand, and its start is kept
 abbrev pub begun_book : BookState → ℕ → List Card → BookState
 begun_book book table cards = record book {
   seating = record (with_table book.seating table (playing_from (next_at book table).marks book.seating.hands)) {
@@ -123,7 +123,7 @@ settled book hand =
       accepted = book.accepted + 1;
     }
 
--- the book once the hand at a table is void, if one is out: its players have the stacks with which they began it
+-- the book once the hand at a table is void, if one is played: its players have the stacks with which they began it
 abbrev pub void_at : BookState → ℕ → BookState
 void_at book table = option_map_or (λ start. ended book table start.seats) (start_at book.started table) book
 

@@ -50,6 +50,11 @@ is_beside_hands _ = false
 abbrev pub leaves_hands : Event → Bool
 leaves_hands event = is_beside_hands (kind_of event)
 
+-- whether events of a kind play a hand on: they are acts of players and called times
+abbrev pub is_played : Kind → Bool
+is_played Play = true
+is_played _ = false
+
 -- whether a player enters
 abbrev pub is_entry : Event → Bool
 is_entry (events.Enter name table seat) = true

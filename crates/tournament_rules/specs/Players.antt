@@ -17,7 +17,7 @@ is_among number starters = list_any (λ starter. starter.player == number) start
 abbrev pub is_one_of : List StartSeat → Seated → Bool
 is_one_of starters player = is_among player.player starters
 
--- whether a player is in the hand that is out at his table
+-- whether a player is in the hand that is played at his table
 abbrev pub is_in_hand : List (Option HandStart) → Seated → Bool
 is_in_hand started player = is_one_of (starters_of (start_at started player.place.table)) player
 

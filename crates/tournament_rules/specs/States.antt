@@ -18,10 +18,10 @@ use Rattle.tournament_rules.specs.Books.{BookState, start_at}
 use Rattle.tournament_rules.specs.Checks.{book_checks, book_refusal, hand_checks, is_over_for_all}
 use Rattle.tournament_rules.specs.Effects.{first_book, book_effect}
 
--- a tournament whose plan is whole: its book, and the acts of the hands that are out
+-- a tournament whose plan is whole: its book, and the acts of the hands that are played
 pub record PlayState : Type 0 where
   pub book : BookState
-  -- by table number, the acts of the hand that is out
+  -- by table number, the acts of the hand that is played
   pub acts : List (List ActOf)
 
 pub record State : Type 0 where
@@ -44,11 +44,11 @@ no_acts tables = replicate (tables + 1) []
 abbrev pub first_play : PlanTerms → PlayState
 first_play plan = record { book = first_book plan; acts = no_acts plan.tables }
 
--- the acts of the hand that is out at a table
+-- the acts of the hand that is played at a table
 abbrev pub acts_at : List (List ActOf) → ℕ → List ActOf
 acts_at acts table = slice_index_or acts table []
 
--- the hand that is out at a table, if one is: its start, and its acts
+-- the hand that is played at a table, if one is: its start, and its acts
 abbrev pub hand_at : PlayState → ℕ → Option HandTerms
 hand_at play table =
     option_map (λ start. record { start = start; acts = acts_at play.acts table }) (start_at play.book.started table)

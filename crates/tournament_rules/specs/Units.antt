@@ -2,7 +2,8 @@
 use Rattle.std.specs.Prelude.{◌≡◌, ◌≤◌, ◌<◌, ℕ, ◌+◌, ◌*◌, ◌%◌, Bool, true, ◌==◌, List, count_by, None, is_some}
 use Rattle.std.specs.List.{list_all}
 use Rattle.std.specs.Option.{ForSome}
-use Rattle.level_plan.specs.declared.bounds.TheConstants.{GREATEST_AMOUNT, MOST_SEATS, MOST_TABLES}
+use Rattle.rulebook.specs.Limits.{most_seats, most_tables}
+use Rattle.level_plan.specs.Limits.{greatest_amount}
 use Rattle.level_plan.specs.Items.{is_between, is_next_unit}
 use Rattle.level_plan.specs.Plans.{PlanTerms, unit_of_level}
 use Rattle.seat_book.specs.declared.seated.Seated.{Seated}
@@ -39,11 +40,11 @@ is_due status = is_some status.race
 
 -- the most that a race can add: a chip of the greatest unit in each seat of a table
 abbrev pub most_of_race : ℕ
-most_of_race = MOST_SEATS * GREATEST_AMOUNT
+most_of_race = most_seats * greatest_amount
 
 -- the most that the races to the unit of a level can add
 abbrev pub most_of_level : ℕ
-most_of_level = MOST_TABLES * most_of_race
+most_of_level = most_tables * most_of_race
 
 -- The units of the tables are those of the level or on the way to it, and races add little.
 pub record AreUnits (plan : PlanTerms) (level added : ℕ) (tables : List TableStatus) (players : List Seated)

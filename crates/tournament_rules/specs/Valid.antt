@@ -6,7 +6,7 @@ use Rattle.std.specs.Str.{bytes_eq}
 use Rattle.rulebook.specs.Pairs.{is_pairwise, are_distinct}
 use Rattle.level_plan.specs.Plans.{PlanTerms, is_right}
 use Rattle.level_plan.specs.Drafts.{IsLawful}
-use Rattle.rulebook.specs.declared.limits.TheConstants.{MOST_ENTRIES}
+use Rattle.rulebook.specs.Limits.{most_entries}
 use Rattle.place_list.specs.declared.bust.Bust.{Bust}
 use Rattle.seat_book.specs.declared.seated.Seated.{Seated}
 use Rattle.seat_book.specs.declared.table_status.TableStatus.{TableStatus}
@@ -46,7 +46,7 @@ AreOnce entries players busts = (number : ℕ)
 -- The entries, the players who sit and those who are out agree.
 pub record AreEntered (entries : List (List ℕ)) (players : List Seated) (busts : List Bust) : Type 0 where
   -- the entry list is not overfull
-  pub few : length entries ≤ MOST_ENTRIES
+  pub few : length entries ≤ most_entries
   -- no two entered under one name
   pub names : are_distinct bytes_eq entries ≡ true
   -- everyone who entered is in or out, once
@@ -54,7 +54,7 @@ pub record AreEntered (entries : List (List ℕ)) (players : List Seated) (busts
   -- everyone sits under the name with which they entered
   pub named : All (λ player. slice_get entries player.player ≡ Some player.name) players
 
--- The seating is that of the plan's tables, and a table is playing just where a start is out.
+-- The seating is that of the plan's tables, and a table is playing just where the book has a start.
 pub record IsFitting (plan : PlanTerms) (seating : Seating) (started : List (Option HandStart)) : Type 0 where
   pub lawful : IsSeating seating
   pub tables : seating.table_count ≡ plan.tables
@@ -72,19 +72,20 @@ is_lent table player = sits_at table player && player.stack == 0
 abbrev pub without_stack : StartSeat → StartSeat
 without_stack player = record player { stack = 0 }
 
--- What is so of a start that is out at a table: it is that table's, lawful, and of the plan's seats and the table's
+-- What is so of the start of a hand at a table: it is that table's, lawful, and of the plan's seats and the table's
 -- unit.
 pub record IsStartAt (plan : PlanTerms) (tables : List TableStatus) (table : ℕ) (start : HandStart) : Type 0 where
   pub here : start.table ≡ table
   pub lawful : IsLawfulStart start
   pub seats : start.seat_count ≡ plan.seats
-  pub unit : start.unit ≡ (status_at tables table).unit
+  pub unit : start.blind.unit ≡ (status_at tables table).unit
 
--- The starts that are out are lawful, and their players sit at their tables.
-pub record AreStarted (plan : PlanTerms) (tables : List TableStatus) (players : List Seated) (started : List (Option HandStart))
+-- The starts of the hands that are played are lawful, and their players sit at their tables.
+pub record AreStarted (plan : PlanTerms) (tables : List TableStatus) (players : List Seated)
+    (started : List (Option HandStart))
     : Type 0 where
   pub starts : (table : ℕ) → ForSome (start_at started table) (IsStartAt plan tables table)
-  -- those who have nothing at rest are, in number, name and seat, the players of the start that is out at their table
+  -- those who have nothing at rest are, in number, name and seat, the players of the hand that is played at their table
   pub lent : (table : ℕ) → map start_seat (filter (is_lent table) players)
       ≡ map without_stack (starters_of (start_at started table))
 
@@ -112,7 +113,8 @@ pub record IsValid (book : BookState) : Type 0 where
   pub counted : book.begun ≤ book.accepted
   pub raised : book.group ≤ book.accepted
 
--- What holds of a tournament whose plan is whole at every moment: each hand that is out is a lawful play of its start.
+-- What holds of a tournament whose plan is whole at every moment: each hand that is played is a lawful play of its
+-- start.
 pub record IsValidPlay (play : PlayState) : Type 0 where
   pub book : IsValid play.book
   pub room : length play.acts ≡ play.book.plan.tables + 1

@@ -1,7 +1,8 @@
 use Rattle.std.proofs.Common.{◌∙◌, sym, ◌<◌, None, Some, arith, length}
 use Rattle.std.proofs.lemmas.Grind.{common_steps}
 use Rattle.tournament_rules.specs.Report.{reported}
-use Rattle.floor_core.proofs.SlotSums.{held, mapped-more}
+use Rattle.seat_book.proofs.MadeOfSlots.{mapped-more}
+use Rattle.floor_core.proofs.SlotSums.{held}
 use Rattle.floor_core.proofs.report.all_reported.Goals as goal
 use Rattle.floor_core.proofs.report.all_reported.Goals.{in-Some+in_ok-push, in_default}
 

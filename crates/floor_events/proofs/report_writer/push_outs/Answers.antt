@@ -1,4 +1,4 @@
-use Rattle.floor_events.proofs.Growth.{Extends-append, Extends-before}
+use Rattle.line_words.proofs.Growth.{Extends-append, Extends-before}
 use Rattle.floor_events.proofs.report_writer.push_outs.Goals as goal
 
 pub returns-in_err-push_out-clause-kept : goal.returns-in_err-push_out-clause-kept

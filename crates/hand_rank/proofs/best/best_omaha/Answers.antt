@@ -5,7 +5,7 @@ use Rattle.card_set.specs.declared.card.Card.{Card}
 use Rattle.card_choices.specs.Choices.{choices}
 use Rattle.card_choices.proofs.ListOrder.{max_assoc, max_lower}
 use Rattle.hand_rank.specs.BestHigh.{greater, best_high}
-use Rattle.hand_rank.specs.Held.{IsHeld}
+use Rattle.hand_rank.specs.HolePair.{IsHolePair}
 use Rattle.hand_rank.specs.Made.{AreOnce}
 use Rattle.hand_rank.proofs.BestLaws.{best_high-none, best_high-pair, best_high-all}
 use Rattle.hand_rank.proofs.CardCounts.{distinct-once}
@@ -37,9 +37,9 @@ loop-pair-preserved c =
     let five : length board ≡ 5 = search rules in
     let two = subst (λ (cards : List Card). length cards ≡ 2) c.pair-item.is is.1 in
     let apart = subst (λ (cards : List Card). AreOnce (cards ++ board)) c.pair-item.is once in
-    let held = subst (λ cards. IsHeld c.of.result cards board) (sym c.pair-item.is)
+    let held = subst (λ cards. IsHolePair c.of.result cards board) (sym c.pair-item.is)
     (c.of.ensures board (c.of-prepared.ensures board_once) two five apart) in
-    let best = c.shown.ensures pair board held in
+    let best = c.best_hand.ensures pair board held in
     let before = best_high (flat_map hands_of (take c.loop-pair.pair-index c.pairs-pairs.result)) in
     record {
       value = c.max-best.ensures.value c.loop-pair.invariant.sized best.sized

@@ -1,7 +1,7 @@
 use Rattle.std.proofs.Common.{◌≡◌, ◌∷◌, ℕ, [], List, refl, sym, ap, ◌∙◌, subst, arith, Option, All}
 use Rattle.atomic_table.specs.Table.{opening}
 use Rattle.atomic_table.specs.Seated.{TableId}
-use Rattle.history_lock.specs.declared.grows.TheConstants.{OPENER}
+use Rattle.history_lock.specs.Limits.{opener}
 use Rattle.history_lock.specs.Passes.{AreFresh}
 use Rattle.history_lock.specs.Rule.{IsKept}
 use Rattle.history_lock.specs.Views.{first_share, opening_view}
@@ -15,7 +15,7 @@ new-requires g c =
     let H = g.V.Grows.history in let C = g.V.Grows.caller_of in let count : ℕ = c.count-count.result in
     let slots = c.in-Ok-one_slot.ensures.ok in let told = c.of.ensures in
     let start = opens H C c.args.n (H c.args.value) count c.args.value c.requires.passes.0 c.requires.passes.1 refl
-    c.count-count.ensures (omega arith) (each_of_all (λ e. C e ≡ OPENER) (H c.args.value) c.requires.opener) in
+    c.count-count.ensures (omega arith) (each_of_all (λ e. C e ≡ opener) (H c.args.value) c.requires.opener) in
     subst (λ (t : List (Option g.row.V.Denot) × g.row.V.Denot). IsKept H C c.args.n
     (opening (0 ∷ 0 ∷ count ∷ 0 ∷ []) t.0 (opening_view c.args.n (H t.1)))) (λ i. (sym slots i, sym told i)) start
 
@@ -45,4 +45,4 @@ deal-passes-requires-clause-opener g c =
     let seen : (first_share c.in-Ok-new.seat.me.0.shares).seen ≡ H c.args.value =
     ap (λ m. (first_share m.0.shares).seen) first
     ∙ (opening_seen c.args.n (H c.of.result.value) c.requires.passes.0 ∙ ap H c.of.ensures) in
-    (c.requires.passes.1, subst (All (λ e. g.V.Grows.caller_of e ≡ OPENER)) (sym seen) c.requires.opener)
+    (c.requires.passes.1, subst (All (λ e. g.V.Grows.caller_of e ≡ opener)) (sym seen) c.requires.opener)

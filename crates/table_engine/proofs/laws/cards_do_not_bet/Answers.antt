@@ -1,5 +1,5 @@
 use Rattle.std.proofs.Common.{[]}
-use Rattle.table_engine.proofs.NoCards.{awards-deck, due-deck, refusal-deck, put-deck, done-deck, time-deck, lawful-deck, start-deck}
+use Rattle.table_engine.proofs.NoCards.{due-deck, refusal-deck, done-deck, time-deck, lawful-deck, play-deck, start-deck}
 use Rattle.table_engine.proofs.laws.cards_do_not_bet.Goals as goal
 
 pub returns-clause-due : goal.returns-clause-due
@@ -16,3 +16,9 @@ returns-clause-time c = time-deck
 
 pub returns-clause-play : goal.returns-clause-play
 returns-clause-play c = λ start deck acts. lawful-deck start deck [] acts
+
+pub returns-clause-start : goal.returns-clause-start
+returns-clause-start c = start-deck
+
+pub returns-clause-lawful : goal.returns-clause-lawful
+returns-clause-lawful c = play-deck

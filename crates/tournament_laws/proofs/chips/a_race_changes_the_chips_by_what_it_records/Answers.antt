@@ -8,22 +8,23 @@ use Rattle.tournament_laws.proofs.chips.a_race_changes_the_chips_by_what_it_reco
 
 pub returns-clause-table : goal.returns-clause-table
 returns-clause-table c = λ before table row earlier is taken.
-    after_race (λ earlier later. rest_at later table + (race_at earlier.seating table row.cards).removed
-    ≡ rest_at earlier table + (race_at earlier.seating table row.cards).added) (run first_state before) table row
+    after_race (λ later. rest_at later table + (race_at earlier.book.seating table row.cards).removed
+    ≡ rest_at earlier.book table + (race_at earlier.book.seating table row.cards).added)
+    (run first_state before) table row
     earlier is taken (race-table earlier.book table row ((valid_events before).play earlier is).book)
 
 pub returns-clause-all : goal.returns-clause-all
 returns-clause-all c = λ before table row earlier is taken.
-    after_race (λ earlier later. rest_in later + (race_at earlier.seating table row.cards).removed
-    ≡ rest_in earlier + (race_at earlier.seating table row.cards).added) (run first_state before) table row
+    after_race (λ later. rest_in later + (race_at earlier.book.seating table row.cards).removed
+    ≡ rest_in earlier.book + (race_at earlier.book.seating table row.cards).added) (run first_state before) table row
     earlier is taken (race-all earlier.book table row ((valid_events before).play earlier is).book)
 
 pub returns-clause-removed : goal.returns-clause-removed
 returns-clause-removed c = λ before table row earlier is taken.
-    after_race (λ earlier later. later.removed ≡ earlier.removed + (race_at earlier.seating table row.cards).removed)
+    after_race (λ later. later.removed ≡ earlier.book.removed + (race_at earlier.book.seating table row.cards).removed)
     (run first_state before) table row earlier is taken (λ may. refl)
 
 pub returns-clause-added : goal.returns-clause-added
 returns-clause-added c = λ before table row earlier is taken.
-    after_race (λ earlier later. later.added ≡ earlier.added + (race_at earlier.seating table row.cards).added)
+    after_race (λ later. later.added ≡ earlier.book.added + (race_at earlier.book.seating table row.cards).added)
     (run first_state before) table row earlier is taken (λ may. refl)

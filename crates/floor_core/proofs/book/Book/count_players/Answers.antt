@@ -1,6 +1,6 @@
 use Rattle.std.proofs.Common.{ap, arith, length}
 use Rattle.tournament_rules.specs.Books.{BookState}
-use Rattle.tournament_rules.proofs.Outs.{all-counted}
+use Rattle.tournament_rules.proofs.InOrBust.{all-counted}
 use Rattle.floor_core.specs.Fields.{book_of}
 use Rattle.floor_core.proofs.book.Book.count_players.Goals as goal
 

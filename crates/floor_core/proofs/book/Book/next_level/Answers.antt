@@ -6,8 +6,8 @@ use Rattle.tournament_rules.proofs.Entries.{right_has}
 use Rattle.floor_core.specs.Fields.{book_of}
 use Rattle.floor_core.proofs.book.Book.next_level.Goals as goal
 
-pub raise_from-requires : goal.raise_from-requires
-raise_from-requires c =
+pub announce_from-requires : goal.announce_from-requires
+announce_from-requires c =
     let book = book_of c.self.inside in
     let some = unit_of_level_above book.plan.blinds (book.level + 1)
     (right_has book.plan c.self.invariant.plan.right).levels in

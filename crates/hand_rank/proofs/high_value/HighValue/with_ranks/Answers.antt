@@ -1,6 +1,6 @@
 use Rattle.std.proofs.Common.{◌+◌, ◌-◌, ◌++◌, ◌∙◌, ap, sym, length-append, arith}
 use Rattle.hand_rank.specs.Sets.{has_rank}
-use Rattle.hand_rank.specs.Shown.{falling, ranks_of}
+use Rattle.hand_rank.specs.RankedHand.{falling, ranks_of}
 use Rattle.hand_rank.proofs.SetOrder.{rank-written, rank-passed, rank-room, ranks-written}
 use Rattle.hand_rank.proofs.high_value.HighValue.with_ranks.Goals as goal
 use Rattle.hand_rank.proofs.high_value.HighValue.with_ranks.Goals.{then-has, else-has}

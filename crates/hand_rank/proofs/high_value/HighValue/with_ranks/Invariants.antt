@@ -1,6 +1,6 @@
 use Rattle.std.proofs.Common.{◌≡◌, ◌-◌, ◌++◌}
 use Rattle.hand_rank.specs.Sets.{has_rank}
-use Rattle.hand_rank.specs.Shown.{falling, ranks_of}
+use Rattle.hand_rank.specs.RankedHand.{falling, ranks_of}
 use Rattle.hand_rank.proofs.high_value.HighValue.with_ranks.Given as goal
 
 abbrev pub invariant-loop-passed : goal.invariant-loop-passed

@@ -1,6 +1,6 @@
 use Rattle.std.proofs.Common.{◌≡◌, ◌≤◌, ◌<◌, ◌⊎◌, All, ℕ, length, refl, sym, ◌∙◌, subst, arith, IsSome}
 use Rattle.std.specs.Slots.{slots_items}
-use Rattle.history_lock.specs.declared.grows.TheConstants.{OPENER}
+use Rattle.history_lock.specs.Limits.{opener}
 use Rattle.history_lock.proofs.Ending.{comes_out, fits_value}
 use Rattle.history_lock.proofs.lock.HistoryLock.close.Goals as goal
 
@@ -63,4 +63,4 @@ returns-clause-others g c =
     enough c.close_with-closed.ensures.values.2 c.take.ensures.value in
     let fit = fits_value H C n c.args.passes.items out.0 c.unwrap-value.result (sym out.1
     ∙ c.unwrap-value.ensures) out.2 in
-    subst (λ k. All (λ e. (C e < k) ⊎ (C e ≡ OPENER)) (H c.unwrap-value.result)) c.args.self.counted fit.others
+    subst (λ k. All (λ e. (C e < k) ⊎ (C e ≡ opener)) (H c.unwrap-value.result)) c.args.self.counted fit.others

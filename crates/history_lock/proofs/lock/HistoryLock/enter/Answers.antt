@@ -29,8 +29,8 @@ fetch_add-ticket-requires g c =
           (sym is) (draws H C n slots id v [] share refl refl refl),
     )
 
-pub returns-clause-entered : goal.returns-clause-entered
-returns-clause-entered g c =
+pub returns : goal.returns
+returns g c =
     let H = g.V.Grows.history in let C = g.V.Grows.caller_of in let pass = c.args.pass in
     let k : ℕ = pass.number in let x = c.wait_turn-value.result in
     let M : Type 0 = Me (Option g.row.V.Denot) (View g.row.V-Entry.Denot) in
@@ -41,6 +41,9 @@ returns-clause-entered g c =
     record {
       lock = search rules;
       number = search rules;
+      all_found = found_is;
+      mine = mine;
+      enough = search rules;
       own_before = search rules;
       one_more = search rules;
       known_before = search rules;

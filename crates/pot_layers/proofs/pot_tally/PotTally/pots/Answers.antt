@@ -3,7 +3,7 @@ use Rattle.std.proofs.lemmas.List.{length-append}
 use Rattle.std.proofs.Math.Nat.{zero-mod}
 use Rattle.std.proofs.lemmas.List.Sums.{count_by-le-length}
 use Rattle.pot_layers.specs.Layers.{layers, pots_to}
-use Rattle.pot_layers.specs.Standings.{puts_of, is_above}
+use Rattle.pot_layers.specs.Reaches.{puts_of, is_above}
 use Rattle.pot_layers.proofs.ListTests.{same-last}
 use Rattle.pot_layers.proofs.Heights.{total_to-zero}
 use Rattle.pot_layers.proofs.Cuts.{cuts-next, is-whole}
@@ -14,56 +14,56 @@ pub loop-next-init : goal.loop-next-init
 unfolding pots_to
 loop-next-init c = record {
   so_far = c.empty-pots.ensures;
-  paid = sym (total_to-zero (puts_of c.self.inside.standings));
+  paid = sym (total_to-zero (puts_of c.self.inside.reaches));
   top = inl refl;
   units = λ unit whole. (rw c.empty-pots.ensures, zero-mod unit);
   room = rw c.empty-pots.ensures
-      (omega (arith, count_by-le-length (is_above 0) c.self.inside.standings, c.self.invariant.right.seats));
+      (omega (arith, count_by-le-length (is_above 0) c.self.inside.reaches, c.self.invariant.right.seats));
 }
 
 pub overflow_sub-next : goal.overflow_sub-next
 overflow_sub-next c =
-    (cuts-next c.self.inside.standings c.loop-next.pots c.loop-next.below c.loop-next.paid c.in-Some.next
+    (cuts-next c.self.inside.reaches c.loop-next.pots c.loop-next.below c.loop-next.paid c.in-Some.next
     c.self.invariant.right.each c.loop-next.invariant (sym c.in-Some.ensures)).more
 
 pub push-requires : goal.push-requires
 push-requires c =
-    let next = cuts-next c.self.inside.standings c.loop-next.pots c.loop-next.below c.loop-next.paid c.in-Some.next
+    let next = cuts-next c.self.inside.reaches c.loop-next.pots c.loop-next.below c.loop-next.paid c.in-Some.next
     c.self.invariant.right.each c.loop-next.invariant (sym c.in-Some.ensures) in
     omega (arith, next.fewer, c.loop-next.invariant.room)
 
 pub loop-next-smaller : goal.loop-next-smaller
 loop-next-smaller c =
-    (cuts-next c.self.inside.standings c.loop-next.pots c.loop-next.below c.loop-next.paid c.in-Some.next
+    (cuts-next c.self.inside.reaches c.loop-next.pots c.loop-next.below c.loop-next.paid c.in-Some.next
     c.self.invariant.right.each c.loop-next.invariant (sym c.in-Some.ensures)).fewer
 
 pub loop-next-preserved : goal.loop-next-preserved
 loop-next-preserved c =
-    let next = cuts-next c.self.inside.standings c.loop-next.pots c.loop-next.below c.loop-next.paid c.in-Some.next
+    let next = cuts-next c.self.inside.reaches c.loop-next.pots c.loop-next.below c.loop-next.paid c.in-Some.next
     c.self.invariant.right.each c.loop-next.invariant (sym c.in-Some.ensures) in
     rw (c.push.ensures, c.live_payers.ensures) next.cut
 
 pub overflow_sub-self-inside : goal.overflow_sub-self-inside
 overflow_sub-self-inside c =
-    (is-whole c.self.inside.standings c.loop-next.pots c.loop-next.below c.loop-next.paid c.self.inside.total
+    (is-whole c.self.inside.reaches c.loop-next.pots c.loop-next.below c.loop-next.paid c.self.inside.total
     c.loop-next.invariant (sym c.in_default.ensures) (rw c.self.view_is c.requires) c.self.invariant.whole).least
 
 pub add_to_last-requires-clause-some : goal.add_to_last-requires-clause-some
 add_to_last-requires-clause-some c =
-    let whole = is-whole c.self.inside.standings c.loop-next.pots c.loop-next.below c.loop-next.paid c.self.inside.total
+    let whole = is-whole c.self.inside.reaches c.loop-next.pots c.loop-next.below c.loop-next.paid c.self.inside.total
     c.loop-next.invariant (sym c.in_default.ensures) (rw c.self.view_is c.requires) c.self.invariant.whole in
     rw (whole.ends, length-append) (omega arith)
 
 pub add_to_last-requires-clause-fits : goal.add_to_last-requires-clause-fits
 add_to_last-requires-clause-fits c = λ below last is.
-    let whole = is-whole c.self.inside.standings c.loop-next.pots c.loop-next.below c.loop-next.paid c.self.inside.total
+    let whole = is-whole c.self.inside.reaches c.loop-next.pots c.loop-next.below c.loop-next.paid c.self.inside.total
     c.loop-next.invariant (sym c.in_default.ensures) (rw c.self.view_is c.requires) c.self.invariant.whole in
     let same : last ≡ whole.last = same-last below whole.below last whole.last (sym is ∙ whole.ends) in
     rw same (omega (arith, whole.within, whole.least, c.self.invariant.fits))
 
 pub returns : goal.returns
 returns c =
-    let whole = is-whole c.self.inside.standings c.loop-next.pots c.loop-next.below c.loop-next.paid c.self.inside.total
+    let whole = is-whole c.self.inside.reaches c.loop-next.pots c.loop-next.below c.loop-next.paid c.self.inside.total
     c.loop-next.invariant (sym c.in_default.ensures) (rw c.self.view_is c.requires) c.self.invariant.whole in
     let cut : c.add_to_last.new.self ≡ layers c.args.self.now = c.add_to_last.ensures whole.below whole.last whole.ends
     ∙ whole.all ∙ ap layers c.self.view_is in

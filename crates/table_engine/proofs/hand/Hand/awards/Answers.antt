@@ -15,7 +15,7 @@ returns-then-is_won_by_folds-clause-awards c =
     let put = c.put.ensures.put ∙ ap put_by_all c.self.invariant.at.round in
     let before = c.self.invariant.at.before in
     let all = pot-is hand c.self.invariant.lawful c.self.invariant.played in
-    let same : c.self.inside.standing.before + c.put.result ≡ pot hand = omega arith in
+    let same : c.self.inside.betting.before + c.put.result ≡ pot hand = omega arith in
     rw (← c.self.view_is) (rw won (ap (λ (n : ℕ). Sole n) same))
 
 pub returns-then-is_won_by_folds-clause-most : goal.returns-then-is_won_by_folds-clause-most

@@ -25,7 +25,6 @@ returns-clause-complete c =
     rw (← c.self.view_is) at c.awards-awards.ensures.awards in
     record {
       play = c.self.invariant.played;
-      timed = c.self.invariant.timed;
       over = rw (← c.self.view_is) at c.requires;
       stacks = rw (c.from_vec.ensures, back, c.pay.ensures, c.items.ensures, c.self.invariant.at.round)
           (street-stacks hand c.awards-awards.result c.self.invariant.lawful c.self.invariant.played awards);

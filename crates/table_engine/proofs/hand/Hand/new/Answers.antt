@@ -1,7 +1,7 @@
 use Rattle.std.proofs.Common.{◌∙◌, sym, arith, rules}
-use Rattle.table_engine.proofs.Plays.{lawful_play-none, timed-none}
+use Rattle.table_engine.proofs.Plays.{lawful_play-none}
 use Rattle.table_engine.proofs.Puts.{begun-few, puts-begun}
-use Rattle.table_engine.proofs.Standings.{streets-none}
+use Rattle.table_engine.proofs.Running.{streets-none}
 use Rattle.table_engine.proofs.hand.Hand.new.Goals as goal
 
 pub of-tally-requires : goal.of-tally-requires
@@ -13,13 +13,12 @@ of-tally-requires c =
 pub invariant_of-result : goal.invariant_of-result
 invariant_of-result c = record {
   at = rw (c.from_vec.ensures, c.in-Ok-with_capacity.ensures.items, streets-none c.args.start)
-      (rw c.first-standing.ensures.at.left at (c.deal_on.ensures.at _ c.first-standing.ensures.at));
+      (rw c.first-betting.ensures.at.left at (c.deal_on.ensures.at _ c.first-betting.ensures.at));
   ready = c.deal_on.ensures.ready;
-  there = c.deal_on.ensures.there ∙ c.first-standing.ensures.there;
+  there = c.deal_on.ensures.there ∙ c.first-betting.ensures.there;
   told = rw (c.from_vec.ensures, c.in-Ok-with_capacity.ensures.items)
       (c.of-tally.ensures ∙ c.first_puts.ensures ∙ sym (puts-begun c.args.start c.requires));
   room = search rules;
   lawful = c.requires;
   played = rw (c.from_vec.ensures, c.in-Ok-with_capacity.ensures.items) (lawful_play-none c.args.start);
-  timed = rw (c.from_vec.ensures, c.in-Ok-with_capacity.ensures.items) (timed-none c.args.start);
 }

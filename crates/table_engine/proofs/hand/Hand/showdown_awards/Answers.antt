@@ -5,7 +5,7 @@ use Rattle.table_engine.specs.contracts.hand.Hand.{the_view}
 use Rattle.table_engine.specs.Hands.{is_over}
 use Rattle.table_engine.specs.Results.{is_won_by_folds, puts_in_hand}
 use Rattle.table_engine.proofs.Showdowns.{are-pots, is-showdown, live-apart, live-is, showdown-is}
-use Rattle.table_engine.proofs.Standings.{lawful-unit}
+use Rattle.table_engine.proofs.Running.{lawful-unit}
 use Rattle.table_engine.proofs.hand.Hand.showdown_awards.Goals as goal
 
 pub pots-requires : goal.pots-requires
@@ -23,7 +23,7 @@ award-requires c =
     let many : is_won_by_folds hand ≡ false = rw (← c.self.view_is) at c.requires.many in
     let lawful = c.self.invariant.lawful in
     let showdown = is-showdown hand lawful c.self.invariant.played over many in
-    let live = c.all_live-live.ensures ∙ live-is hand c.self.inside.standing.round c.self.invariant.at.round in
+    let live = c.all_live-live.ensures ∙ live-is hand c.self.inside.betting.round c.self.invariant.at.round in
     let cut : c.pots.result ≡ layers (puts_in_hand hand) = c.pots.ensures.pots ∙ ap layers c.self.invariant.told in
     let pots = are-pots hand showdown in
     let told = ap total_put c.self.invariant.told in
@@ -50,7 +50,7 @@ returns-clause-awards c =
     let many : is_won_by_folds hand ≡ false = rw (← c.self.view_is) at c.requires.many in
     let lawful = c.self.invariant.lawful in
     let showdown = is-showdown hand lawful c.self.invariant.played over many in
-    let live = c.all_live-live.ensures ∙ live-is hand c.self.inside.standing.round c.self.invariant.at.round in
+    let live = c.all_live-live.ensures ∙ live-is hand c.self.inside.betting.round c.self.invariant.at.round in
     let cut : c.pots.result ≡ layers (puts_in_hand hand) = c.pots.ensures.pots ∙ ap layers c.self.invariant.told in
     let is = c.award.ensures.awards ∙ showdown-is hand c.board_of.result c.all_live-live.result c.pots.result
     c.board_of.ensures.board live cut in
@@ -63,7 +63,7 @@ returns-clause-few c =
     let many : is_won_by_folds hand ≡ false = rw (← c.self.view_is) at c.requires.many in
     let lawful = c.self.invariant.lawful in
     let showdown = is-showdown hand lawful c.self.invariant.played over many in
-    let live = c.all_live-live.ensures ∙ live-is hand c.self.inside.standing.round c.self.invariant.at.round in
+    let live = c.all_live-live.ensures ∙ live-is hand c.self.inside.betting.round c.self.invariant.at.round in
     let cut : c.pots.result ≡ layers (puts_in_hand hand) = c.pots.ensures.pots ∙ ap layers c.self.invariant.told in
     let told = ap total_put c.self.invariant.told in
     let fits = showdown.fits in

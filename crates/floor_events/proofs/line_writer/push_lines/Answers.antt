@@ -1,9 +1,0 @@
-use Rattle.floor_events.proofs.Growth.{Extends-append, Extends-before}
-use Rattle.floor_events.proofs.line_writer.push_lines.Goals as goal
-
-pub returns-in_err-push_line-clause-kept : goal.returns-in_err-push_line-clause-kept
-returns-in_err-push_line-clause-kept c =
-    Extends-before c.args.out.now.items c.loop-line.out.items _ _ c.loop-line.invariant c.in_err-push_line.ensures.kept
-
-pub returns-clause-kept : goal.returns-clause-kept
-returns-clause-kept c = Extends-append c.args.out.now.items c.loop-line.out.items _ c.loop-line.invariant
