@@ -24,9 +24,9 @@ fn is_replay(words: &[String]) -> bool
 
 /// Runs a command over a source and two sinks, and answers the exit status.
 ///
-/// `replay` answers each line of the input by a line on `out`, and at the end of the input puts the report there, each by
-/// one put. Answers may be held back by `out` while further lines are at hand. Where memory runs out in the midst, `out`
-/// lets go of them by a put of no bytes.
+/// `replay` answers each line of the input by a line on `out`, and at the end of the input puts the report there,
+/// each by one put. Answers may be held back by `out` while further lines are at hand. Where memory runs out in the
+/// midst, `out` lets go of them by a put of no bytes.
 ///
 /// | status | comes | err |
 /// |---|---|---|
@@ -53,8 +53,8 @@ pub fn run_offline<I: Source, O: Sink, E: Sink>(
         (λ bytes. IfSome (O.written out.old) (λ before. O.written out.new ≡ Some (before ++ replay_text bytes))) }
     ensures within_limit { result ≡ 0 → IfSome (I.left input.old) (λ bytes. length bytes ≤ input_limit) }
 
-    // At every status but that of a write fault, out holds nothing back of what was put; and at none err does, unless it
-    // failed.
+    // At every status but that of a write fault, out holds nothing back of what was put; and at none err does, unless
+    // it failed.
     ensures let_go { result ≢ 4 → LetsGo O.held out.old out.new }
     ensures all_let_go { result ≡ 0 → O.held out.new ≡ [] }
     ensures err_let_go { LetsGo E.held err.old err.new ⊎ Rose (E.faults err.old) (E.faults err.new) }
