@@ -152,7 +152,7 @@ fn order_all(rt: &impl Abort, alloc: Global, both: &mut Beside, lines: &str) -> 
 
 /// Begins a hand outside of the book.
 fn begin(rt: &impl Abort, book: &mut Book, event: &Event) -> Result<Hand, Fail>
-    ensures { IfOk result (λ hand. start_at book.new.out hand.start.table ≡ Some hand.start) }
+    ensures { IfOk result (λ hand. start_at book.new.started hand.start.table ≡ Some hand.start) }
 {
     assert!(rt; book.accepted() < 1 << 60);
     match event {
@@ -183,7 +183,7 @@ fn act_all(alloc: Global, hand: &mut Hand, lines: &str) -> Result<(), Fail>
 
 /// Ends a hand: the book settles what it came to, or stops, and then the hand is void.
 fn end(rt: &impl Abort, book: &mut Book, hand: Hand) -> Result<(), Fail>
-    requires { start_at book.old.out hand.start.table ≡ Some hand.start }
+    requires { start_at book.old.started hand.start.table ≡ Some hand.start }
 {
     assert!(rt; book.accepted() < 1 << 60);
     if hand.is_over() {

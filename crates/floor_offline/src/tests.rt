@@ -225,6 +225,8 @@ impl OwnSink {
 }
 
 impl Sink for OwnSink {
+    ghost use Rattle.std.specs.Prelude.{None};
+
     ghost written = { λ _. None };
 
     ghost faults = { λ s. s.faults };
