@@ -36,9 +36,9 @@ pub fn a_fill_list_has_empty_seats_elsewhere()
         → are_distinct is_same_place fill ≡ true }
 {}
 
-/// Says which seat is filled next, for any seats that are chosen so far: the lowest seat that is empty and not chosen at
-/// the other open table with the fewest players, counting the chosen seats, of more such at that with the lowest number.
-/// Each seat of a fill list is the next after those before it.
+/// Says which seat is filled next, for any seats that are chosen so far: the lowest seat that is empty and not chosen
+/// at the other open table with the fewest players, counting the chosen seats, of more such at that with the lowest
+/// number. Each seat of a fill list is the next after those before it.
 pub fn the_next_seat_is_where_the_fewest_are()
     ensures next { (seating : Seating) (table : ℕ) (chosen : List Place) (place : Place)
         → (next_to_fill seating table chosen ≡ Some place) ↔ IsNextSeat seating table chosen place }

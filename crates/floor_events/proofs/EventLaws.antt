@@ -1,5 +1,5 @@
--- What is read from a line is spelled as that line, and what is spelled so is read. No event is named here: all that is said
--- of single events is their rows and lines in Grammar.
+-- What is read from a line is spelled as that line, and what is spelled so is read. No event is named here: all that is
+-- said of single events is their rows and lines in Grammar.
 use Rattle.std.proofs.Common.{◌≡◌, ℕ, ◌≤◌, true, leb, List, length, Option, Some, None, option_map, refl, sym, ap, subst, arith, rules}
 use Rattle.std.specs.List.{AllByRecursion}
 use Rattle.std.specs.Option.{IfSome}

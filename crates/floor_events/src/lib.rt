@@ -1,8 +1,8 @@
 //! Events, answers and reports, and the text of each.
 //!
 //! It stands on floor_text, card_set, level_plan, betting_round, seat_book and line_words. `read_item` reads just the
-//! lines of the grammar, each of which has one spelling; `write_answer` and `write_report` write just the text of an answer and
-//! of a report.
+//! lines of the grammar, each of which has one spelling; `write_answer` and `write_report` write just the text of an
+//! answer and of a report.
 #![tactic(auto)]
 
 mod answer;

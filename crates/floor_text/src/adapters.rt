@@ -86,8 +86,8 @@ impl<W: Write> Sink for WriterSink<W> {
     }
 }
 
-/// A sink over a writer that holds back up to 64 KiB of what is put for later: it is written where there is no more room
-/// for it, and at the next put.
+/// A sink over a writer that holds back up to 64 KiB of what is put for later: it is written where there is no more
+/// room for it, and at the next put.
 #[derive(Drop)]
 pub struct BufferedSink<W: Write + Drop> {
     buffer: BufWriter<W>,

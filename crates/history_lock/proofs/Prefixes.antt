@@ -63,7 +63,8 @@ module _ {E : Type 0} (caller_of : E → ℕ) where
       ∙ (ap (λ w. entries_by caller_of i log ++ w) (entries_by_other k i added ne own)
       ∙ append-nil (entries_by caller_of i log))
 
-  -- where a history has of caller k just these entries, a longer one to which only k added has those that were added too
+  -- where a history has of caller k just these entries, a longer one to which only k added has those that were added
+  -- too
   pub own_left : (k : ℕ) (seen own left : List E) → entries_by caller_of k seen ≡ own → IsGrownBy caller_of k seen left
       → entries_by caller_of k left ≡ own ++ drop (length seen) left
   own_left k seen own left mine grown =

@@ -1,9 +1,9 @@
 //! The words of a line: what reads them as fields, and what writes them.
 //!
-//! It stands on floor_text, card_set, rulebook, betting_round and seat_book. `LineWords` takes a line's words one after another,
-//! each as a field (`Spelled`) of which every value has one spelling; `read_act` and `read_act_with` read the words of
-//! an act, `read_few` the words that are left, without memory of the heap. `push_line` and `push_lines` write lines of
-//! words (`Word`).
+//! It stands on floor_text, card_set, rulebook, betting_round and seat_book. `LineWords` takes a line's words one after
+//! another, each as a field (`Spelled`) of which every value has one spelling; `read_act` and `read_act_with` read the
+//! words of an act, `read_few` the words that are left, without memory of the heap. `push_line` and `push_lines` write
+//! lines of words (`Word`).
 #![tactic(auto)]
 
 mod few;

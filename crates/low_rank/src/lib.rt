@@ -1,7 +1,7 @@
 //! The value of a player's best low hand, eight or better, in Omaha high and low.
 //!
-//! It stands on card_set, card_choices and rulebook. `best_low` gives the least value over all choices of cards that a player
-//! may show and that qualify, and `None` exactly where none does. The lesser `LowValue` is better.
+//! It stands on card_set, card_choices and rulebook. `best_low` gives the least value over all choices of cards that a
+//! player may show and that qualify, and `None` exactly where none does. The lesser `LowValue` is better.
 //! `order_does_not_count` and `suits_do_not_count` are laws over all cards.
 #![tactic(auto)]
 

@@ -37,8 +37,8 @@ timed_after-more start before (first ∷ acts) act timed called =
 pub lawful_play-none : (start : HandStart) → IsLawfulPlay (record { start = start; acts = [] })
 lawful_play-none start = record { acts = refl; timed = tt }
 
--- A lawful play is one with one more act that is refused by no check, and that is the one of a called time where it came
--- by one.
+-- A lawful play is one with one more act that is refused by no check, and that is the one of a called time where it
+-- came by one.
 pub lawful_play-more : (hand : HandTerms) (act : ActOf) → IsLawfulPlay hand
     → refusal_of_act hand act.name act.act ≡ None → (act.by_time ≡ true → act ≡ time_act hand)
     → IsLawfulPlay (record hand { acts = hand.acts ++ act ∷ [] })

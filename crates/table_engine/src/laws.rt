@@ -103,8 +103,8 @@ pub fn showdown_of_a_hand()
         → is_won_by_folds hand ≡ false → is_contested (puts_in_hand hand) ≡ true }
 {}
 
-/// Says that a hand has a deck, and that no card is dealt twice: all hole cards of all players, the board and the burned
-/// cards are different cards, so no two players hold the same card, and none holds one of the board.
+/// Says that a hand has a deck, and that no card is dealt twice: all hole cards of all players, the board and the
+/// burned cards are different cards, so no two players hold the same card, and none holds one of the board.
 pub fn cards_of_a_hand()
     ensures deck { (start : HandStart) → IsLawfulStart start → IsDeck start.deck }
     ensures apart { (start : HandStart) → IsLawfulStart start → AreDistinct (dealt_cards start) }

@@ -369,8 +369,8 @@ fn a_short_big_blind_leaves_the_level(rt: HostRuntime) -> Result<(), Fail> {
             (b'a', Some(Act::Check), Err(Refusal::HandOver)),
         ],
     )?;
-    // The board is 3s 4c 4d 4s 5d; b has 2c 2s, c 2d 3c and a 2h 3d. The 150 of all three are split by c and a, and c is
-    // the first of them after the button; the 300 of a and b are a's.
+    // The board is 3s 4c 4d 4s 5d; b has 2c 2s, c 2d 3c and a 2h 3d. The 150 of all three are split by c and a, and c
+    // is the first of them after the button; the 300 of a and b are a's.
     sees_end(&rt, "a short big blind", hand, &[1150, 800, 100]);
     Ok(())
 }
@@ -531,8 +531,8 @@ fn an_uncalled_bet_comes_back(rt: HostRuntime) -> Result<(), Fail> {
 
 #[test]
 fn a_side_pot_and_odd_units(rt: HostRuntime) -> Result<(), Fail> {
-    // a has Kd Kh, b Ad Jc, c Ah Jd, and the board is Ks Qs 7d 5c 2h. a wins the 400 of all, of which d paid 100; b and c
-    // split 500, of which d paid 100, and b is the first of them after the button.
+    // a has Kd Kh, b Ad Jc, c Ah Jd, and the board is Ks Qs 7d 5c 2h. a wins the 400 of all, of which d paid 100; b and
+    // c split 500, of which d paid 100, and b is the first of them after the button.
     let deck = deck_of(
         b"KdAdAh2cKhJcJd3c2dKsQs7d2s5c3d2h3h3s4c4d4h4s5d5h5s6c6d6h6s7c7h7s8c8d8h8s9c9d9h9sTcTdThTsJhJsQcQdQhKcAcAs",
     )?;
