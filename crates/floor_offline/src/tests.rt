@@ -3,7 +3,7 @@
 use super::*;
 use crate::scripts::{PLAN, SCRIPTS, Script, Step};
 use crate::transcripts::{TRANSCRIPTS, Transcript};
-use floor_text::{MemSink, MemSource};
+use floor_text::{Failed, MemSink, MemSource, Sink};
 use std::alloc::{AllocError, Global};
 use std::process::Abort;
 use std::test::Fail;
@@ -203,6 +203,67 @@ fn a_run_ends_with_its_status(rt: HostRuntime) -> Result<(), Fail> {
                 && answers.starts_with(out)
                 && out.len() == written,
             "{word}, take {take}, put {put}"
+        );
+    }
+    Ok(())
+}
+
+/// Somebody's own sink, which has `put` alone. It tells nothing, and keeps what was put with a bar behind each put.
+#[derive(Drop)]
+struct OwnSink {
+    text: Vec<u8>,
+    faults: u64,
+}
+
+impl OwnSink {
+    fn new(alloc: Global) -> OwnSink {
+        OwnSink {
+            text: Vec::new(alloc),
+            faults: 0,
+        }
+    }
+}
+
+impl Sink for OwnSink {
+    ghost use Rattle.std.specs.Prelude.{None};
+
+    ghost written = { λ _. None };
+
+    ghost faults = { λ s. s.faults };
+
+    fn put(&mut self, bytes: &[u8]) -> Result<(), Failed> {
+        if self.text.extend_from_slice(bytes).is_err() || self.text.push(b'|').is_err() {
+            self.faults = self.faults.saturating_add(1);
+            return Err(Failed);
+        }
+        Ok(())
+    }
+}
+
+#[test]
+fn an_own_sink_gets_each_answer_by_one_put(rt: HostRuntime) -> Result<(), Fail> {
+    let alloc = rt.alloc();
+    for (taken, status, written, told) in [
+        (
+            0,
+            0,
+            "no 2 NoPlan\n|ok\n|no 1 Syntax\n|* report\n* level 0\n* sold 0\n* removed 0\n* added 0\n* rest 0\n* play 0\n* end\n|",
+            "",
+        ),
+        (1, 3, "", "read fault\n|"),
+        (2, 3, "no 2 NoPlan\n|ok\n|", "read fault\n|"),
+    ] {
+        let words = words_of(alloc, "replay")?;
+        let input = b"stop\ngame holdem\nstop ".to_vec(alloc)?;
+        let mut source = MemSource::new(input, vec![in alloc; taken]?);
+        let mut out = OwnSink::new(alloc);
+        let mut err = OwnSink::new(alloc);
+        let ended = run_offline(alloc, &words, &mut source, &mut out, &mut err);
+        assert!(rt;
+            ended == status
+                && out.text.as_slice() == written.as_bytes()
+                && err.text.as_slice() == told.as_bytes(),
+            "take {taken}"
         );
     }
     Ok(())
