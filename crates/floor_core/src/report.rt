@@ -1,17 +1,19 @@
 //! What is reported.
 
-ghost use Rattle.std.specs.Prelude.{◌≡◌, ◌<◌, ◌^◌, length, map, sum_by, IfOk};
+ghost use Rattle.std.specs.Prelude.{◌≡◌, ◌<◌, ◌^◌, length, map, option_map, slice_get, sum_by, IfOk};
 ghost use Rattle.std.specs.List.{All};
 ghost use Rattle.seat_book.specs.Players.{players_in};
 ghost use Rattle.table_engine.specs.Starts.{chips_of};
 ghost use Rattle.tournament_rules.specs.Books.{starters_of};
 ghost use Rattle.tournament_rules.specs.Chips.{rest_in, play_of};
 ghost use Rattle.tournament_rules.specs.Players.{is_one_of, is_in_hand};
-ghost use Rattle.tournament_rules.specs.Report.{reported, book_report};
+ghost use Rattle.tournament_rules.specs.Report.{reported, reported_out, winner, standings_in, book_report};
 
 use crate::book::Book;
-use floor_events::{Report, ReportSeat};
+use entry_list::EntryList;
+use floor_events::{Report, ReportOut, ReportSeat};
 use floor_text::List;
+use place_list::Standing;
 use seat_book::Seated;
 use std::alloc::{AllocError, Global};
 use table_engine::{HandStart, StartSeat};
@@ -103,6 +105,42 @@ fn all_reported(
     Ok(lines)
 }
 
+/// Gives the number of the first player who sits, in the order of tables and seats.
+fn first_number(slots: &[Option<Seated>]) -> Option<u32>
+    ensures { result ≡ option_map (λ player. player.player) (slice_get (players_in slots.now) 0) }
+{
+    let first = slots.iter().find_map(|slot| *slot)?;
+    Some(first.player)
+}
+
+/// Reports a player who is out, or the winner, under the name with which he entered.
+fn reported_out(entries: &EntryList, standing: &Standing) -> ReportOut
+    requires { standing.now.player < length entries.now }
+    ensures { result ≡ reported_out entries.now standing.now }
+{
+    ReportOut {
+        place: standing.place,
+        name: entries.name(standing.player),
+        prize: standing.prize,
+    }
+}
+
+/// Reports players who are out, and the winner, in their order.
+fn outs_reported(
+    alloc: Global,
+    entries: &EntryList,
+    standings: &[Standing],
+) -> Result<List<ReportOut>, AllocError>
+    requires { All (λ standing. standing.player < length entries.now) standings.now }
+    ensures { IfOk result (λ lines. lines ≡ map (reported_out entries.now) standings.now) }
+{
+    let mut lines = List::new(alloc);
+    for standing in standings {
+        lines.push(reported_out(entries, standing))?;
+    }
+    Ok(lines)
+}
+
 impl Book {
     /// Sums the stacks at rest, in chips.
     fn chips_at_rest(&self) -> u64
@@ -118,6 +156,37 @@ impl Book {
         play_of(&self.started)
     }
 
+    /// Gives the player who has won: where the tournament is over, the one who is in.
+    fn winner(&self) -> Option<u32>
+        ensures { result ≡ winner self.now }
+    {
+        if self.over() {
+            first_number(self.seats.slots())
+        } else {
+            None
+        }
+    }
+
+    /// Tells where the players stand who are out, and the winner where the tournament is over.
+    fn standings(&self) -> Result<Vec<Standing>, AllocError>
+        ensures { IfOk result (λ standings. standings.items ≡ standings_in self.now) }
+    {
+        self.busts.standings(
+            self.alloc,
+            self.entries.len(),
+            self.winner(),
+            self.plan.buyin,
+            self.plan.shares.items(),
+        )
+    }
+
+    /// Reports the players who are out, and the winner where the tournament is over, by place and then by entry.
+    fn all_out(&self) -> Result<List<ReportOut>, AllocError>
+        ensures { IfOk result (λ lines. lines ≡ map (reported_out self.now.entries) (standings_in self.now)) }
+    {
+        outs_reported(self.alloc, &self.entries, &self.standings()?)
+    }
+
     /// Reports how the tournament stands.
     pub fn report(&self) -> Result<Report, AllocError>
         ensures { IfOk result (λ report. report ≡ book_report self.now) }
@@ -130,7 +199,7 @@ impl Book {
             rest: self.chips_at_rest(),
             play: self.chips_in_play(),
             seats: all_reported(self.alloc, &self.started, self.seats.slots())?,
-            outs: List::new(self.alloc),
+            outs: self.all_out()?,
         })
     }
 }

@@ -1,6 +1,6 @@
--- The grammar: an event has a row, which says how its line is read, and its line, which says what of the event stands
+-- The grammar: a line is a note or holds an event. An event has a row, which says how its line is read, and its line, which says what of the event stands
 -- in the row's fields. The spelling of an event and what is lawful of it follow from the two. This project's own.
-use Rattle.std.specs.Prelude.{ℕ, nat_le, List, [], ◌∷◌, ◌++◌, length, codes, Option, None, option_map, if◌then◌else◌}
+use Rattle.std.specs.Prelude.{ℕ, nat_le, ◌==◌, Bool, false, List, [], ◌∷◌, ◌++◌, length, codes, Option, Some, None, option_map, if◌then◌else◌}
 use Rattle.floor_text.specs.Limits.{longest_line}
 use Rattle.level_plan.specs.Limits.{most_shares}
 use Rattle.level_plan.specs.declared.line.PlanLine.TheVariants as lines
@@ -81,6 +81,13 @@ line_of events.Stop = line grammar (codes "stop") tt
 unfoldable pub item_of_words : List (List ℕ) → Option Item
 item_of_words words = option_map found.Event (read_words grammar words)
 
--- the item of a line of at most 400 bytes, or None where the line is not in the grammar
+-- whether a line is a note: its first byte is `*`, whatever stands behind it
+abbrev pub is_note : List ℕ → Bool
+is_note [] = false
+is_note (byte ∷ bytes) = byte == 42
+
+-- the item of a line of at most 400 bytes: a note, or the event of its words; None where the line is not in the grammar
 unfoldable pub item_of_bytes : List ℕ → Option Item
-item_of_bytes line = if nat_le (length line) longest_line then item_of_words (words_of_line line) else None
+item_of_bytes line =
+    if nat_le (length line) longest_line then
+    (if is_note line then Some found.Note else item_of_words (words_of_line line)) else None

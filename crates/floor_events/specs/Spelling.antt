@@ -1,5 +1,5 @@
 -- The one spelling of each event, answer and report. This project's own.
-use Rattle.std.specs.Prelude.{ℕ, ◌≤◌, List, [], ◌∷◌, ◌++◌, length, codes, Option, Some, None}
+use Rattle.std.specs.Prelude.{◌≡◌, ℕ, ◌≤◌, true, List, [], ◌∷◌, ◌++◌, length, codes, Option, Some, None}
 use Rattle.std.specs.List.{flat_map}
 use Rattle.std.specs.Fmt.{decimal}
 use Rattle.floor_text.specs.Limits.{longest_line}
@@ -16,7 +16,7 @@ use Rattle.floor_events.specs.declared.report.ReportSeat.{ReportSeat}
 use Rattle.floor_events.specs.declared.report.ReportOut.{ReportOut}
 use Rattle.line_words.specs.Words.{line_of_words}
 use Rattle.line_words.specs.Rows.{text_of, IsLawfulLine}
-use Rattle.floor_events.specs.Grammar.{line_of}
+use Rattle.floor_events.specs.Grammar.{line_of, is_note}
 
 -- the word of an item, as an answer names it
 abbrev pub item_word : PlanItem → List ℕ
@@ -36,21 +36,24 @@ item_word items.Words = codes "words"
 unfoldable pub event_text : Event → List ℕ
 event_text event = text_of (line_of event)
 
--- an item's text, without a line feed
-abbrev pub item_text : Item → List ℕ
-item_text (found.Event event) = event_text event
-
 -- the parts of an event are such as a line may hold
 unfoldable pub HasLineParts : Event → Type 0
 HasLineParts event = IsLawfulLine (line_of event)
 
 -- An event is writable where its parts are such as a line may hold and its text has at most 400 bytes.
-abbrev pub IsWritableEvent : Event → Type 0
-IsWritableEvent event = HasLineParts event × (length (event_text event) ≤ longest_line)
+pub record IsWritable (event : Event) : Type 0 where
+  pub parts : HasLineParts event
+  pub short : length (event_text event) ≤ longest_line
 
--- An item is writable where its event is.
-abbrev pub IsWritable : Item → Type 0
-IsWritable (found.Event event) = IsWritableEvent event
+-- A note is a line of at most 400 bytes whose first byte is `*`.
+pub record IsNote (line : List ℕ) : Type 0 where
+  pub star : is_note line ≡ true
+  pub short : length line ≤ longest_line
+
+-- A line is in the grammar exactly where it is a note or the text of a writable event.
+abbrev pub IsLineOf : Item → List ℕ → Type 0
+IsLineOf (found.Event event) line = IsWritable event × (line ≡ event_text event)
+IsLineOf found.Note line = IsNote line
 
 -- an answer's text, with its line feed
 abbrev pub answer_text : Answer → List ℕ

@@ -86,4 +86,6 @@ pub enum Event {
 pub enum Item {
     /// An event.
     Event(Event),
+    /// A note: a line whose first byte is `*`, with any bytes behind it.
+    Note,
 }

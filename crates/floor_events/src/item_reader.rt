@@ -5,8 +5,8 @@ ghost use Rattle.std.specs.Str.{bytes_eq};
 ghost use Rattle.floor_events.specs.declared.event.Item.{Item};
 ghost use Rattle.floor_events.specs.declared.event.Item.TheVariants as items;
 ghost use Rattle.line_words.specs.Rows.{read_by};
-ghost use Rattle.floor_events.specs.Grammar.{plan_rows, plain_rows, item_of_words, item_of_bytes};
-ghost use Rattle.floor_events.specs.Spelling.{IsWritable, item_text};
+ghost use Rattle.floor_events.specs.Grammar.{plan_rows, plain_rows, is_note, item_of_words, item_of_bytes};
+ghost use Rattle.floor_events.specs.Spelling.{IsLineOf};
 
 use crate::event::{Event, Item};
 use crate::list_reader::{read_break, read_shares};
@@ -102,6 +102,16 @@ fn read_words(alloc: Global, line: &mut LineWords<'_>) -> Result<Option<Item>, A
     Ok(read_fields(word, line))
 }
 
+/// Tells whether a line is a note.
+fn is_note(line: &[u8]) -> bool
+    ensures { result ≡ is_note line.now }
+{
+    match line {
+        [first, ..] => *first == b'*',
+        [] => false,
+    }
+}
+
 #[tactic(auto, unfolding(crate::specs::Grammar::item_of_bytes))]
 fn read_line(alloc: Global, line: &[u8]) -> Result<Option<Item>, AllocError>
     ensures exact { IfOk result (λ found. found ≡ item_of_bytes line.now) }
@@ -109,6 +119,9 @@ fn read_line(alloc: Global, line: &[u8]) -> Result<Option<Item>, AllocError>
 {
     if line.len() > LONGEST_LINE {
         return Ok(None);
+    }
+    if is_note(line) {
+        return Ok(Some(Item::Note));
     }
     read_words(alloc, &mut LineWords::of_line(line))
 }
@@ -118,11 +131,10 @@ fn read_line(alloc: Global, line: &[u8]) -> Result<Option<Item>, AllocError>
 pub fn read_item(alloc: Global, line: &[u8]) -> Result<Option<Item>, AllocError>
     ensures exact { IfOk result (λ found. found ≡ item_of_bytes line.now) }
     ensures err { OnErr result (IsSome (item_of_bytes line.now)) }
-    // What is read is writable and spelled so.
-    ensures found { IfOk result (λ found. IfSome found (λ item. IsWritable item × (line.now ≡ item_text item))) }
-    // What is writable and spelled so is read.
-    ensures only { (item : Item) → IsWritable item → line.now ≡ item_text item
-        → IfOk result (λ found. found ≡ Some item) }
+    // What is read is a note, or a writable event that is spelled so.
+    ensures found { IfOk result (λ found. IfSome found (λ item. IsLineOf item line.now)) }
+    // What is so is read.
+    ensures only { (item : Item) → IsLineOf item line.now → IfOk result (λ found. found ≡ Some item) }
 {
     read_line(alloc, line)
 }

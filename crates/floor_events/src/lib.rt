@@ -1,14 +1,16 @@
 //! Events, answers and reports, and the text of each.
 //!
 //! It stands on floor_text, card_set, level_plan, betting_round, seat_book and line_words. `read_item` reads just the
-//! lines of the grammar, each of which has one spelling; `write_answer` and `write_report` write just the text of an
-//! answer and of a report.
+//! lines of the grammar: notes, and events, each of which has one spelling; `write_event`, `write_answer` and
+//! `write_report` write just the text of an event, of an answer and of a report. `laws` has what holds of all lines.
 #![tactic(auto)]
 
 mod answer;
 mod answer_writer;
 mod event;
+mod event_writer;
 mod item_reader;
+pub mod laws;
 mod list_reader;
 mod report;
 mod report_writer;
@@ -16,6 +18,7 @@ mod report_writer;
 pub use answer::Answer;
 pub use answer_writer::write_answer;
 pub use event::{Event, Item};
+pub use event_writer::write_event;
 pub use item_reader::read_item;
 pub use report::{Report, ReportOut, ReportSeat};
 pub use report_writer::write_report;

@@ -4,7 +4,7 @@ use Rattle.std.specs.Prelude.{Option, Some, None, cond}
 use Rattle.floor_events.specs.declared.event.Item.{Item}
 use Rattle.floor_events.specs.declared.event.Item.TheVariants.{Event}
 use Rattle.tournament_rules.specs.States.{State, answer_to, accepted, is_accepted}
-use Rattle.floor_offline.specs.Replay.{state_after_item}
+use Rattle.tournament_rules.specs.Replay.{state_after_item}
 
 by_answer : (state after : State) (b : Bool) → after.accepted ≡ state.accepted + 1
     → (cond b after state).accepted ≤ state.accepted + 1

@@ -11,7 +11,8 @@ use Rattle.floor_events.specs.Grammar.{item_of_bytes}
 use Rattle.floor_events.specs.Spelling.{answer_text}
 use Rattle.floor_events.specs.declared.event.Item.{Item}
 use Rattle.tournament_rules.specs.States.{State}
-use Rattle.floor_offline.specs.Replay.{item_of_cut, item_of_next, answer_to_item, state_after_item, answers_to_items, state_after_items, final_text, text_from}
+use Rattle.floor_offline.specs.Handed.{item_of_next}
+use Rattle.tournament_rules.specs.Replay.{item_of_cut, answer_to_item, state_after_item, answers_to_items, state_after_items, final_text, text_from}
 use Rattle.floor_offline.specs.Promise.{whole_text, Keeps}
 
 -- A text that is kept from one moment to a second, and from there to a third, is kept from the first to the third.

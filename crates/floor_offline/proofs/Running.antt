@@ -12,7 +12,7 @@ use Rattle.floor_offline.specs.declared.fault.Fault.{Fault}
 use Rattle.floor_offline.specs.declared.fault.Fault.TheVariants as faults
 use Rattle.floor_offline.specs.Limits.{input_limit}
 use Rattle.floor_offline.specs.Endings.{fault_status, IsOfReading, IsOfWriting, LetsGo}
-use Rattle.floor_offline.specs.Replay.{final_text, replay_text}
+use Rattle.tournament_rules.specs.Replay.{final_text, replay_text}
 use Rattle.floor_offline.specs.Promise.{whole_text, Keeps, Counts, GivesMore}
 use Rattle.floor_offline.proofs.Promises.{keeps_lines}
 

@@ -7,7 +7,7 @@ use Rattle.floor_events.specs.declared.event.Item.TheVariants.{Event}
 use Rattle.tournament_rules.specs.States.{State}
 use Rattle.tournament_rules.specs.States.{answer_to, state_after}
 use Rattle.tournament_rules.specs.States.{run, answers}
-use Rattle.floor_offline.specs.Replay.{answers_to_items, state_after_items, events_of, item_of_event}
+use Rattle.tournament_rules.specs.Replay.{answers_to_items, state_after_items, events_of, item_of_event}
 
 -- the state after items is the state after their events
 pub state_after_items_is_run : (state : State) (items : List (Option Item)) → state_after_items state items

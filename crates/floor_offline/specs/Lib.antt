@@ -1,4 +1,4 @@
 pub mod Endings
 pub mod Limits
-pub mod Replay
+pub mod Handed
 pub mod Promise

@@ -3,7 +3,7 @@ use Rattle.std.specs.Prelude.{◌≡◌, ℕ, ◌+◌, ◌<◌, List, ◌++◌, 
 use Rattle.std.specs.Option.{option_map}
 use Rattle.floor_text.specs.Lines.{lines_of_bytes}
 use Rattle.tournament_rules.specs.States.{State}
-use Rattle.floor_offline.specs.Replay.{item_of_cut, text_from}
+use Rattle.tournament_rules.specs.Replay.{item_of_cut, text_from}
 
 -- the whole text of a run: what is written, and then what the lines that are handed out and the bytes that are held and
 -- left will be answered

@@ -5,7 +5,7 @@ ghost use Rattle.floor_events.specs.declared.event.Event.{Event};
 ghost use Rattle.floor_events.specs.declared.event.Item.{Item};
 ghost use Rattle.tournament_rules.specs.States.{first_state};
 ghost use Rattle.tournament_rules.specs.States.{run, answers};
-ghost use Rattle.floor_offline.specs.Replay.{answers_to_items, state_after_items, events_of, item_of_event};
+ghost use Rattle.tournament_rules.specs.Replay.{answers_to_items, state_after_items, events_of, item_of_event};
 
 /// Says that the lines of a stream leave the state that the run of their events leaves, so the laws of runs hold of
 /// what is reported; and lines that all hold events are answered as the run answers these.

@@ -7,7 +7,8 @@ ghost use Rattle.floor_text.specs.Reading.{bytes_ahead};
 ghost use Rattle.floor_events.specs.Grammar.{item_of_bytes};
 ghost use Rattle.floor_offline.specs.Limits.{input_limit};
 ghost use Rattle.floor_offline.specs.Endings.{IsOfWriting, IsOfReading, LetsGo};
-ghost use Rattle.floor_offline.specs.Replay.{item_of_next, answer_to_item, state_after_item, final_text, replay_text};
+ghost use Rattle.floor_offline.specs.Handed.{item_of_next};
+ghost use Rattle.tournament_rules.specs.Replay.{answer_to_item, state_after_item, final_text, replay_text};
 ghost use Rattle.floor_offline.specs.Promise.{whole_text, Keeps, Counts, GivesMore};
 
 use crate::answers::{AnswerText, put_answer, put_text};
@@ -34,6 +35,7 @@ fn answer_line(
 {
     match &read_item(alloc, line)? {
         Some(Item::Event(event)) => tournament.apply(event),
+        Some(Item::Note) => Ok(Answer::Ok),
         None => Ok(Answer::No(Refusal::Syntax)),
     }
 }

@@ -4,7 +4,7 @@ ghost use Rattle.std.specs.Prelude.{◌⊎◌, ◌≡◌, ◌≢◌, ◌↔◌, 
 ghost use Rattle.floor_text.specs.Outside.{Rose};
 ghost use Rattle.floor_offline.specs.Limits.{input_limit};
 ghost use Rattle.floor_offline.specs.Endings.{status_line, PutsLine, LetsGo};
-ghost use Rattle.floor_offline.specs.Replay.{replay_text};
+ghost use Rattle.tournament_rules.specs.Replay.{replay_text};
 ghost use Rattle.floor_offline.specs.Promise.{GivesMore};
 
 use crate::fault::Fault;

@@ -3,8 +3,7 @@ use Rattle.std.proofs.Common.{◌≡◌, ℕ, ◌-◌, ◌≤◌, List, [], ◌�
 use Rattle.std.specs.List.{join_with_byte, flat_map}
 use Rattle.std.proofs.lemmas.List.{take_at, take_all, append-nil}
 use Rattle.std.proofs.lemmas.List.Concat.{flat_map-cons}
-use Rattle.line_words.specs.declared.line_writer.Word.{Word}
-use Rattle.line_words.specs.Words.{Extends, word_text}
+use Rattle.line_words.specs.Words.{Extends}
 
 -- a list that stayed the same begins with what it was
 pub Extends-same : (old new : List ℕ) → new ≡ old → Extends old new
@@ -25,23 +24,26 @@ pub Extends-before : (old now new more : List ℕ) → now ≡ old ++ more → E
 Extends-before old now new more grown kept =
     take_front old more new (subst (λ (list : List ℕ). Extends list new) grown kept)
 
--- a line is its first word, and each other word behind a space
-join-cons : (word : Word) (words : List Word) → word_text word ++ flat_map (λ w. 32 ∷ word_text w) words
-    ≡ join_with_byte 32 (map word_text (word ∷ words))
-join-cons word [] = append-nil (word_text word)
-join-cons word (next ∷ words) = ap (λ (text : List ℕ). word_text word ++ text)
-    (flat_map-cons (λ w. 32 ∷ word_text w) next words ∙ ap (λ (text : List ℕ). 32 ∷ text) (join-cons next words))
+module _ {A : Type 0} (text : A → List ℕ) (between : ℕ) where
+  -- Joined texts are the first, and each other behind the byte between.
+  pub join_with_byte-cons : (first : List ℕ) (items : List A)
+      → first ++ flat_map (λ other. between ∷ text other) items ≡ join_with_byte between (first ∷ map text items)
+  join_with_byte-cons first [] = append-nil first
+  join_with_byte-cons first (next ∷ items) = ap (λ (rest : List ℕ). first ++ rest)
+      (flat_map-cons (λ other. between ∷ text other) next items
+      ∙ ap (λ (rest : List ℕ). between ∷ rest) (join_with_byte-cons (text next) items))
 
--- what was written word by word is the line
-pub joined : (words : List Word) (d : Word) (old first new : List ℕ) → 1 ≤ length words → first ≡ old
-    ++ word_text (get_or words 0 d) → new ≡ first ++ flat_map (λ w. 32 ∷ word_text w)
-    (take (length words - 1) (drop 1 words)) → new ≡ old ++ join_with_byte 32 (map word_text words)
-joined [] d old first new some begun grown = absurd (omega arith)
-joined (word ∷ words) d old first new some begun grown =
-    let rest : take (length (word ∷ words) - 1) words
-    ≡ words = take_all (length (word ∷ words) - 1) words (omega arith) in
-    let whole : new ≡ first ++ flat_map (λ w. 32 ∷ word_text w) words = grown
-    ∙ ap (λ ws. first ++ flat_map (λ w. 32 ∷ word_text w) ws) rest in
-    whole ∙ ap (λ text. text ++ flat_map (λ w. 32 ∷ word_text w) words) begun
-    ∙ append_assoc old (word_text word) (flat_map (λ w. 32 ∷ word_text w) words)
-    ∙ ap (λ text. old ++ text) (join-cons word words)
+  -- What was written item by item is joined.
+  pub joined : (items : List A) (d : A) (old first new : List ℕ) → 1 ≤ length items
+      → first ≡ old ++ text (get_or items 0 d)
+      → new ≡ first ++ flat_map (λ other. between ∷ text other) (take (length items - 1) (drop 1 items))
+      → new ≡ old ++ join_with_byte between (map text items)
+  joined [] d old first new some begun grown = absurd (omega arith)
+  joined (item ∷ items) d old first new some begun grown =
+      let rest : take (length (item ∷ items) - 1) items
+      ≡ items = take_all (length (item ∷ items) - 1) items (omega arith) in
+      let whole : new ≡ first ++ flat_map (λ other. between ∷ text other) items = grown
+      ∙ ap (λ (xs : List A). first ++ flat_map (λ other. between ∷ text other) xs) rest in
+      whole ∙ (ap (λ (front : List ℕ). front ++ flat_map (λ other. between ∷ text other) items) begun
+      ∙ (append_assoc old (text item) (flat_map (λ other. between ∷ text other) items)
+      ∙ ap (λ (rest : List ℕ). old ++ rest) (join_with_byte-cons (text item) items)))

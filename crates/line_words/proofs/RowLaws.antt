@@ -145,25 +145,30 @@ module _ {A : Type 0} {rows : List (Row A)} (line_of : (told : A) → Line rows 
   at_words None values lawful = absurd values
   at_words (Some row) values lawful = fields_are_words row.fields values lawful
 
-  first_or_later : (b : Bool) (row : Row A) (later : Option (Row A)) (word : List ℕ) → (b ≡ true → word ≡ row.word)
-      → is_word row.word ≡ true → (ValuesAt later → is_word word ≡ true) → ValuesAt (cond b (Some row) later)
-      → is_word word ≡ true
-  first_or_later true row later word same first others values = ap is_word (same refl) ∙ first
-  first_or_later false row later word same first others values = others values
+  first_or_later : (test : List ℕ → Bool) (b : Bool) (row : Row A) (later : Option (Row A)) (word : List ℕ)
+      → (b ≡ true → word ≡ row.word) → test row.word ≡ true → (ValuesAt later → test word ≡ true)
+      → ValuesAt (cond b (Some row) later) → test word ≡ true
+  first_or_later test true row later word same first others values = ap test (same refl) ∙ first
+  first_or_later test false row later word same first others values = others values
 
-  first_is_word : (among : List (Row A)) (word : List ℕ) → list_all (λ row. is_word row.word) among ≡ true
-      → ValuesAt (row_at among word) → is_word word ≡ true
-  first_is_word [] word firsts values = absurd values
-  first_is_word (row ∷ among) word firsts values =
-      let both = and_parts (is_word row.word) (list_all (λ row. is_word row.word) among) firsts in
-      first_or_later (bytes_eq word row.word) row (row_at among word) word (bytes_eq-Decides word row.word).0 both.0
-      (first_is_word among word both.1) values
+  first_among : (test : List ℕ → Bool) (among : List (Row A)) (word : List ℕ)
+      → list_all (λ row. test row.word) among ≡ true → ValuesAt (row_at among word) → test word ≡ true
+  first_among test [] word firsts values = absurd values
+  first_among test (row ∷ among) word firsts values =
+      let both = and_parts (test row.word) (list_all (λ row. test row.word) among) firsts in
+      first_or_later test (bytes_eq word row.word) row (row_at among word) word (bytes_eq-Decides word row.word).0 both.0
+      (first_among test among word both.1) values
+
+  -- What the first word of each row passes, the first word of each line passes.
+  pub first_passes : (test : List ℕ → Bool) → list_all (λ row. test row.word) rows ≡ true → (told : A)
+      → test (line_of told).word ≡ true
+  first_passes test firsts told = first_among test rows (line_of told).word firsts (line_of told).values
 
   all_words : list_all (λ row. is_word row.word) rows ≡ true → (told : A) → IsLawfulLine (line_of told)
       → list_all is_word (words_of (line_of told)) ≡ true
   all_words firsts told lawful =
       let own = line_of told in
-      and_from _ _ (first_is_word rows own.word firsts own.values)
+      and_from _ _ (first_passes is_word firsts told)
       (at_words (row_at rows own.word) own.values lawful)
 
   -- What may stand in a line is read from its text.

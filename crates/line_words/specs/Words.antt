@@ -1,14 +1,6 @@
 -- Words and lines. This project's own.
 use Rattle.std.specs.Prelude.{◌≡◌, ℕ, Bool, true, false, ◌==◌, List, [], ◌∷◌, ◌++◌, Option, Some, None, length, take}
 use Rattle.std.specs.List.{slice_split, join_with_byte}
-use Rattle.std.specs.Fmt.{decimal}
-use Rattle.line_words.specs.declared.line_writer.Word.{Word}
-use Rattle.line_words.specs.declared.line_writer.Word.TheVariants.{Text, Number}
-
--- how a word is spelled
-abbrev pub word_text : Word → List ℕ
-word_text (Text text) = text.now
-word_text (Number n) = decimal n
 
 -- a line: its words with one space between each two, and a line feed
 abbrev pub line_of_words : List (List ℕ) → List ℕ

@@ -12,7 +12,7 @@ use std::alloc::{AllocError, Global};
 use std::marker::Model;
 
 /// The byte between two members of a list.
-const COMMA: u8 = b',';
+pub(crate) const COMMA: u8 = b',';
 
 /// At most `MOST` items, with at least one. Contracts see it as the list of its items.
 #[derive(Debug, Drop)]

@@ -13,7 +13,7 @@ use rulebook::{MOST_SEATS, MOST_TABLES};
 use seat_book::Place;
 
 /// The byte between the numbers of a place.
-const POINT: u8 = b'.';
+pub(crate) const POINT: u8 = b'.';
 
 /// What a word of a line may spell.
 pub trait Spelled: Sized {

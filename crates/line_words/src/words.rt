@@ -12,7 +12,7 @@ use memchr::memchr;
 use std::marker::Model;
 
 /// The byte between two words of a line.
-const SPACE: u8 = b' ';
+pub(crate) const SPACE: u8 = b' ';
 
 fn first_of(between: u8, bytes: &[u8]) -> Option<usize>
     ensures { result ≡ position (λ byte. byte == between) bytes.now }

@@ -9,6 +9,7 @@ pub mod States
 pub mod Kinds
 pub mod Chips
 pub mod Report
+pub mod Replay
 pub mod Units
 pub mod Valid
 pub mod Apart

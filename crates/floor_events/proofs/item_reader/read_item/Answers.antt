@@ -9,5 +9,5 @@ returns-clause-found c =
     IfOk-weaker c.read_line.result _ _ (λ read same. found_in_line c.args.line.now read same) c.read_line.ensures.exact
 
 pub returns-clause-only : goal.returns-clause-only
-returns-clause-only c = λ item writable same. IfOk-weaker c.read_line.result _ _
-    (λ read is. is ∙ ap item_of_bytes same ∙ line_again item writable) c.read_line.ensures.exact
+returns-clause-only c = λ item holds. IfOk-weaker c.read_line.result _ _
+    (λ read is. is ∙ line_again item c.args.line.now holds) c.read_line.ensures.exact

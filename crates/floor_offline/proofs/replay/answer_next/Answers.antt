@@ -1,7 +1,8 @@
 use Rattle.std.proofs.Common.{◌≡◌, ◌∙◌, ap}
 use Rattle.std.specs.Prelude.{Ok}
 use Rattle.floor_text.specs.LineReader.{lines_of_next}
-use Rattle.floor_offline.specs.Replay.{item_of_next, answer_to_item, state_after_item}
+use Rattle.floor_offline.specs.Handed.{item_of_next}
+use Rattle.tournament_rules.specs.Replay.{answer_to_item, state_after_item}
 use Rattle.floor_offline.proofs.Promises.{not_asked, keeps_next}
 use Rattle.floor_offline.proofs.Running.{if_ok_from}
 use Rattle.floor_offline.proofs.replay.answer_next.Goals as goal

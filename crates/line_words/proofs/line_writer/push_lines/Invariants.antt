@@ -1,6 +1,7 @@
 use Rattle.std.proofs.Common.{◌≡◌, ◌++◌, map, take}
 use Rattle.std.specs.List.{flat_map}
-use Rattle.line_words.specs.Words.{word_text, line_of_words}
+use Rattle.line_words.specs.Words.{line_of_words}
+use Rattle.line_words.specs.Written.{word_text}
 use Rattle.line_words.proofs.line_writer.push_lines.Given as goal
 
 abbrev pub invariant-loop-line : goal.invariant-loop-line

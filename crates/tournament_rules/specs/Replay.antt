@@ -1,40 +1,33 @@
 -- What a stream of bytes is answered. This project's own.
 use Rattle.std.specs.Prelude.{ℕ, List, [], ◌∷◌, ◌++◌, map, Option, Some, None, option_and_then}
 use Rattle.std.specs.List.{flat_map}
-use Rattle.floor_text.specs.declared.line_reader.Next.{Next}
-use Rattle.floor_text.specs.declared.line_reader.Next.TheVariants.{Line, TooLong, End}
 use Rattle.floor_text.specs.declared.refusal.Refusal.TheVariants.{Syntax}
 use Rattle.floor_text.specs.Lines.{lines_of_bytes}
 use Rattle.floor_events.specs.declared.answer.Answer.{Answer}
-use Rattle.floor_events.specs.declared.answer.Answer.TheVariants.{No}
+use Rattle.floor_events.specs.declared.answer.Answer.TheVariants.{Ok, No}
 use Rattle.floor_events.specs.declared.event.Event.{Event as EventOfLine}
 use Rattle.floor_events.specs.declared.event.Item.{Item}
-use Rattle.floor_events.specs.declared.event.Item.TheVariants.{Event}
+use Rattle.floor_events.specs.declared.event.Item.TheVariants.{Event, Note}
 use Rattle.floor_events.specs.Grammar.{item_of_bytes}
-use Rattle.floor_events.specs.Spelling.{answer_text, report_text}
-use Rattle.tournament_rules.specs.States.{State, first_state}
-use Rattle.tournament_rules.specs.States.{answer_to, state_after}
+use Rattle.floor_events.specs.Spelling.{event_text, answer_text, report_text}
+use Rattle.tournament_rules.specs.States.{State, first_state, answer_to, state_after, run}
 use Rattle.tournament_rules.specs.Report.{report_of}
 
 -- the item of a line, where the line is not too long and in the grammar
 abbrev pub item_of_cut : Option (List ℕ) → Option Item
 item_of_cut cut = option_and_then item_of_bytes cut
 
--- the item of what a reader handed out: of a line, and none of one that is too long or of the end
-abbrev pub item_of_next : Next → List ℕ → Option Item
-item_of_next Line bytes = item_of_bytes bytes
-item_of_next TooLong bytes = None
-item_of_next End bytes = None
-
--- an item is answered by the step; a line that holds none is refused as no line of the grammar
+-- an event is answered by the step, and a note is accepted at any moment; a line that holds neither is refused as no
+-- line of the grammar
 abbrev pub answer_to_item : State → Option Item → Answer
 answer_to_item state None = No Syntax
 answer_to_item state (Some (Event event)) = answer_to state event
+answer_to_item state (Some Note) = Ok
 
--- an item changes the state by the step; a line that holds none changes nothing
+-- an event changes the state by the step; a note and a line that holds nothing change nothing
 abbrev pub state_after_item : State → Option Item → State
-state_after_item state None = state
 state_after_item state (Some (Event event)) = state_after state event
+state_after_item state _ = state
 
 -- the answers to items in order
 abbrev pub answers_to_items : State → List (Option Item) → List Answer
@@ -63,12 +56,20 @@ text_from state items =
 abbrev pub replay_text : List ℕ → List ℕ
 replay_text bytes = text_from first_state (items_of_bytes bytes)
 
--- the events of items in order, without the lines that hold none
+-- the events of items in order, without the notes and the lines that hold nothing
 abbrev pub events_of : List (Option Item) → List EventOfLine
 events_of [] = []
-events_of (None ∷ items) = events_of items
 events_of (Some (Event event) ∷ items) = event ∷ events_of items
+events_of (_ ∷ items) = events_of items
 
 -- the item of an event's line
 abbrev pub item_of_event : EventOfLine → Option Item
 item_of_event event = Some (Event event)
+
+-- an event's line: its text and a line feed
+abbrev pub event_line : EventOfLine → List ℕ
+event_line event = event_text event ++ 10 ∷ []
+
+-- the text of a tournament: a line for each of its events, and then the report after them
+abbrev pub tournament_text : List EventOfLine → List ℕ
+tournament_text events = flat_map event_line events ++ final_text (run first_state events)
