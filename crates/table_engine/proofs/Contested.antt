@@ -1,16 +1,12 @@
 -- Where a hand comes to a showdown, a live player has put in chips.
 use Rattle.std.proofs.Common.{◌≡◌, ◌≢◌, ◌∙◌, ℕ, zero, suc, ◌+◌, ◌-◌, ◌≤◌, ◌<◌, Bool, true, false, cond, List, [], ◌∷◌, length, map, Some, None, refl, ap, sym, subst, inl, inr, arith}
-use Rattle.std.specs.Prelude.{Option, ◌==◌, ◌&&◌, ◌||◌, ◌⊎◌, count_by, find, is_none, nat_le, nat_lt, not, option_map, slice_index_or, slice_set, sum_by}
+use Rattle.std.specs.Prelude.{Option, ◌==◌, ◌&&◌, ◌||◌, ◌⊎◌, count_by, is_none, nat_le, nat_lt, not, option_map, slice_index_or, slice_set, sum_by}
 use Rattle.std.specs.List.{list_all, list_any}
 use Rattle.std.specs.Option.{is_some}
-use Rattle.std.proofs.lemmas.Bool.{and_from, and_parts, and_right, cases_Bool, cases_lt, eqb-false, ne_eqb, not-true, or_parts, or_right}
+use Rattle.std.proofs.lemmas.Bool.{and_from, and_parts, and_right, cases_Bool, eqb-false, ne_eqb, not-true, or_right}
 use Rattle.std.proofs.lemmas.Bool.Decides.{nat_tests}
 use Rattle.std.proofs.lemmas.List.Sums.{sum_by-cons}
-use Rattle.rulebook.specs.Seats.{clockwise_after}
-use Rattle.rulebook.proofs.Among.{is_among, all-among}
-use Rattle.rulebook.proofs.Found.{none-by_test}
-use Rattle.rulebook.proofs.OccupiedSeats.{among-clockwise}
-use Rattle.rulebook.proofs.Passing.{count_by-all, none-find, not-any, sum_by-agree}
+use Rattle.rulebook.proofs.Passing.{count_by-all, not-any, sum_by-agree}
 use Rattle.rulebook.proofs.Tests.{list_all-always}
 use Rattle.betting_round.specs.declared.act.Act.{Act}
 use Rattle.betting_round.specs.declared.bettor.Bettor.{Bettor}
@@ -36,7 +32,9 @@ use Rattle.table_engine.specs.Starts.{IsLawfulStart}
 use Rattle.table_engine.specs.Tellings.{told}
 use Rattle.table_engine.proofs.Along.{kept-play}
 use Rattle.table_engine.proofs.BySeat.{sum-of_start}
+use Rattle.table_engine.proofs.DueSeats.{due-many, nobody-may}
 use Rattle.table_engine.proofs.Puts.{listed-found, puts-hand, puts-moved, puts-next, puts_of}
+use Rattle.table_engine.proofs.Sitting.{none-there}
 use Rattle.table_engine.proofs.Sound.{IsSound, greatest-least, placed-is, put_from-there, sound-play}
 use Rattle.table_engine.proofs.WholeUnits.{blinds-lawful, found-playable}
 
@@ -112,17 +110,6 @@ all_in-next [] = refl
 all_in-next (None ∷ slots) = all_in-next slots
 all_in-next (Some now ∷ slots) = ap (λ (rest : Bool). is_all_in now || rest) (all_in-next slots)
 
--- Nobody passes a test where none of those who do is in a slot.
-none-there : (test : Player → Bool) (slots : List (Option Player)) (index : ℕ) (now : Player)
-    → list_any (is_there test) slots ≡ false
-    → slice_index_or slots index None ≡ Some now → test now ≡ false
-none-there test [] index now none there = absurd cc
-none-there test (None ∷ slots) zero now none there = absurd cc
-none-there test (Some first ∷ slots) zero now none there =
-    let same : first ≡ now = cc in rw (← same) (or_parts (test first) (list_any (is_there test) slots) none).0
-none-there test (slot ∷ slots) (suc index) now none there =
-    none-there test slots index now (or_parts (is_there test slot) (list_any (is_there test) slots) none).1 there
-
 -- Where no live player is all-in those who can act are those who are live.
 count-can_act : (slots : List (Option Player)) → list_any (is_there is_all_in) slots ≡ false
     → count_by (is_there can_act) slots ≡ count_by (is_there is_live) slots
@@ -142,36 +129,17 @@ count-can_act slots none =
         alike now.bettor.live now.bettor.behind (not-true (is_all_in now) partly) in
         ap one_if same
 
--- A walk of ten seats comes to each of them, wherever it starts.
-comes-ten : (after index : ℕ) → index < 10 → is_among (suc index) (clockwise_after 10 after) ≡ true
-comes-ten after index within =
-    elim (cases_lt after 10) [
-      | inl below ↦ among-clockwise 10 after (suc index) (omega arith) (omega arith) (omega arith)
-      | inr above ↦
-          let past : nat_lt after 10 ≡ false = grind (arith, nat_tests) in
-          let last = among-clockwise 10 10 (suc index) (omega arith) (omega arith) (omega arith) in
-          rw past last
-    ]
-
 -- Where nobody is due and two or more are live, of whom none is all-in, no live player may be due.
-nobody-may : (street : Street) (index : ℕ) → has_ended street ≡ true
+nobody-waits : (street : Street) (index : ℕ) → has_ended street ≡ true
     → list_any (is_there is_all_in) street.players ≡ false → index < 10
     → is_there (may_be_due street.level) (player_at street.players (suc index)) ≡ false
-unfolding due_seat
-nobody-may street index ended none within =
+nobody-waits street index ended none within =
     let parts = and_parts (is_none (due_seat street)) (not (is_one_live street.players)) ended in
     let many : is_one_live street.players ≡ false = not-true (is_one_live street.players) parts.1 in
     let counts = count-can_act street.players none in
     let one : (count_by (is_there can_act) street.players == 1) ≡ false = ap (λ (n : ℕ). n == 1) counts ∙ many in
     let open_ : is_closed street.players ≡ false = rw (many, one) refl in
-    let seats = clockwise_after 10 street.after in
-    let search : is_none (find (λ seat. is_there (may_be_due street.level) (player_at street.players seat)) seats) ≡
-    true = rw open_ at parts.0 in
-    let nobody = none-find (λ seat. is_there (may_be_due street.level) (player_at street.players seat)) seats
-    (none-by_test (find (λ seat. is_there (may_be_due street.level) (player_at street.players seat)) seats) search) in
-    not-true (is_there (may_be_due street.level) (player_at street.players (suc index)))
-    (all-among (λ seat. not (is_there (may_be_due street.level) (player_at street.players seat))) (suc index) seats
-    nobody (comes-ten street.after index within))
+    nobody-may street index ended open_ within
 
 -- All puts pass a test where each player's does.
 all-puts : (players : List (Option StartSeat)) (slots : List (Option Player))
@@ -214,7 +182,7 @@ ended-paid start streets acts lawful sound first level ended =
           let sits : player_at street.players (suc index) ≡ Some now =
           ap (λ (n : ℕ). slice_index_or street.players n None) back ∙ there in
           let waits : may_be_due street.level now ≡ false =
-          sym (ap (is_there (may_be_due street.level)) sits) ∙ nobody-may street index ended none within in
+          sym (ap (is_there (may_be_due street.level)) sits) ∙ nobody-waits street index ended none within in
           paid-by now.bettor.live now.acted now.bettor.put now.bettor.behind player.stack street.level partly waits
           (omega arith) level))
     ]
@@ -305,15 +273,6 @@ paid-told true (put ∷ puts) (suc index) put_in all =
 paid-told false (put ∷ puts) (suc index) put_in all =
     let parts = and_parts (has_paid put) (list_all has_paid puts) all in
     and_from _ _ parts.0 (paid-told false puts index put_in parts.1)
-
--- Where somebody is due more than one player is live.
-due-many : (street : Street) (seat : ℕ) → due_seat street ≡ Some seat → is_one_live street.players ≡ false
-unfolding due_seat
-due-many street seat due =
-    elim (cases_Bool (is_one_live street.players)) [
-      | inl one ↦ let never : None ≡ Some seat = rw one at due in absurd cc
-      | inr many ↦ many
-    ]
 
 -- An act that is not refused leaves somebody live, and what is paid is paid.
 alive-act : (start : HandStart) (streets : Streets) (acts seat : ℕ) (act : Act) → IsSound start streets acts

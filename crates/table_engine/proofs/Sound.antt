@@ -88,7 +88,7 @@ put_from-there played seat now low there =
     (player_in-there (street_after played.start played.acts).players seat low ∙ there)
 
 -- Who is in a slot of a table in which one was put into a slot.
-set-at : (slots : List (Option Player)) (index other : ℕ) (was item found : Player)
+pub set-at : (slots : List (Option Player)) (index other : ℕ) (was item found : Player)
     → slice_index_or slots index None ≡ Some was
     → slice_index_or (slice_set slots index (Some item)) other None ≡ Some found
     → ((other ≡ index) × (found ≡ item)) ⊎ ((other ≢ index) × (slice_index_or slots other None ≡ Some found))
@@ -106,7 +106,7 @@ set-at (slot ∷ slots) (suc index) (suc other) was item found there is =
     ]
 
 -- A fold puts nothing in.
-fold-none : (level put behind : ℕ) (act : Act) → is_fold act ≡ true → amount level put behind act ≡ 0
+pub fold-none : (level put behind : ℕ) (act : Act) → is_fold act ≡ true → amount level put behind act ≡ 0
 fold-none level put behind Fold fold = refl
 fold-none level put behind Check fold = absurd cc
 fold-none level put behind Call fold = absurd cc
@@ -171,7 +171,7 @@ placed-is limits start acts entry now right acted =
     (amount_of street.level player entry.act)) slot street) acted.sits
 
 -- The least bet or raise of each game is a full raise above the bet level.
-least-of_game : (game : Game) (facing : Facing) → (limits_of game).least facing ≡ facing.level + facing.full
+pub least-of_game : (game : Game) (facing : Facing) → (limits_of game).least facing ≡ facing.level + facing.full
 least-of_game Holdem facing = refl
 least-of_game Omaha facing = refl
 least-of_game Hilo facing = refl
@@ -291,8 +291,8 @@ sum-no_more one other more (Some item ∷ slots) less =
     let later = sum-no_more one other more slots less in let all = suc-mul (length slots) more in omega arith
 
 -- As many slots as there are seats.
-ten-slots : (start : HandStart) (slots : List (Option Player)) → map is_some slots ≡ map is_some (players_by_seat start)
-    → length slots ≡ 10
+pub ten-slots : (start : HandStart) (slots : List (Option Player))
+    → map is_some slots ≡ map is_some (players_by_seat start) → length slots ≡ 10
 ten-slots start slots there = sym (length-map slots is_some) ∙ ap length there
 
 -- What a player can still do is at most one act more on the next street.
@@ -304,6 +304,24 @@ still-next player = by_acted player.acted
     by_acted true = omega arith
     by_acted false = omega arith
 
+-- Who is in a slot where the next street begins.
+pub slot-next : (start : HandStart) (streets : Streets) (seat : ℕ)
+    → player_at (street_now (with_next_street start streets)).players seat
+    ≡ option_map fresh (option_map at_next_street (player_at (street_now streets).players seat))
+slot-next start streets seat =
+    let street = street_now streets in
+    ap (λ (s : Street). player_at s.players seat) (street_start_is (later_street start streets))
+    ∙ map_at fresh (seat - 1) (next_bettors street)
+    ∙ ap (option_map fresh) (map_at at_next_street (seat - 1) street.players)
+
+-- Nothing is put in on the next street before any act.
+pub level-next : (start : HandStart) (streets : Streets)
+    → (street_now (with_next_street start streets)).level ≡ 0
+level-next start streets =
+    ap (λ (s : Street). s.level) (street_start_is (later_street start streets))
+    ∙ greatest-no_more 0 (λ (bettor : Bettor). bettor.put) at_next_street (street_now streets).players
+    (λ player. omega arith)
+
 -- What holds of a player holds of him where the next street begins.
 each-next : (start : HandStart) (streets : Streets) (acts seat : ℕ) (now : Player) → IsSound start streets acts
     → 1 ≤ seat
@@ -312,12 +330,8 @@ each-next : (start : HandStart) (streets : Streets) (acts seat : ℕ) (now : Pla
     (put_by_seat seat (with_next_street start streets)) seat now
 each-next start streets acts seat now sound low there =
     let street = street_now streets in
-    let next = later_street start streets in
     let after = with_next_street start streets in
-    let slots : player_at (street_now after).players seat
-    ≡ option_map fresh (option_map at_next_street (player_at street.players seat)) =
-    ap (λ (s : Street). player_at s.players seat) (street_start_is next) ∙ map_at fresh (seat - 1) (next_bettors street)
-    ∙ ap (option_map fresh) (map_at at_next_street (seat - 1) street.players) in
+    let slots = slot-next start streets seat in
     let one = map_found fresh (option_map at_next_street (player_at street.players seat)) now (sym slots ∙ there) in
     let two = map_found at_next_street (player_at street.players seat) one.0 one.1 in
     let was = two.0 in
@@ -350,9 +364,7 @@ sound-next start streets acts lawful sound some =
     let all = sum_by-cons put_on streets.last streets.before in
     let blinds = blinds-lawful start lawful in
     let big = blinds.some in
-    let none : greatest 0 (λ (bettor : Bettor). bettor.put) (next_bettors street) ≡ 0 =
-    greatest-no_more 0 (λ (bettor : Bettor). bettor.put) at_next_street street.players (λ player. omega arith) in
-    let level : (street_after next []).level ≡ 0 = ap (λ (s : Street). s.level) began ∙ none in
+    let level = level-next start streets in
     let players = ap (λ (s : Street). s.players) began in
     let still_now : sum_over still (street_after next []).players
     ≡ sum_over (λ (player : Player). still (fresh (at_next_street player))) street.players =
@@ -388,7 +400,7 @@ sound-dealt start (suc left) streets acts lawful sound within =
     ]
 
 -- A player posts at most the big blind.
-posted-most : (start : HandStart) (player : StartSeat) → start.blind.small ≤ start.blind.big
+pub posted-most : (start : HandStart) (player : StartSeat) → start.blind.small ≤ start.blind.big
     → posted start player ≤ start.blind.big
 posted-most start player small =
     elim (cases_Bool (player.seat == start.marks.big)) [
@@ -400,6 +412,42 @@ posted-most start player small =
           ]
     ]
 
+-- Who is in a slot before any act is a player of the start who sits there, as he begins the hand.
+pub slot-first : (start : HandStart) (seat : ℕ) (now : Player) → 1 ≤ seat
+    → player_at (street_now (first_streets start)).players seat ≡ Some now
+    → (player : StartSeat) × (player_of start seat ≡ Some player) × (now ≡ fresh (seated start player))
+slot-first start seat now low there =
+    let first = first_street start in
+    let slots : player_at (street_after first []).players seat
+    ≡ option_map fresh (option_map (seated start) (slice_index_or (players_by_seat start) (seat - 1) None)) =
+    ap (λ (s : Street). player_at s.players seat) (street_start_is first) ∙ map_at fresh (seat - 1) first.bettors
+    ∙ ap (option_map fresh) (map_at (seated start) (seat - 1) (players_by_seat start)) in
+    let one = map_found fresh (option_map (seated start) (slice_index_or (players_by_seat start) (seat - 1) None)) now
+    (sym slots ∙ there) in
+    let two = map_found (seated start) (slice_index_or (players_by_seat start) (seat - 1) None) one.0 one.1 in
+    (two.0, listed-at start seat two.0 low two.1, sym (ap fresh two.2 ∙ one.2))
+  where
+    listed-at : (start : HandStart) (seat : ℕ) (player : StartSeat) → 1 ≤ seat
+        → slice_index_or (players_by_seat start) (seat - 1) None ≡ Some player
+        → player_of start seat ≡ Some player
+    listed-at start seat player low listed =
+        elim (cases_lt (seat - 1) 10) [
+          | inl within ↦
+              let back : 0 + (seat - 1) + 1 ≡ seat = omega arith in
+              ap (player_of start) (sym back) ∙ sym (along-at (player_of start) 10 0 (seat - 1) within) ∙ listed
+          | inr past ↦ let none = along-past (player_of start) 10 0 (seat - 1) past in
+              let never : None ≡ Some player = sym none ∙ listed in absurd cc
+        ]
+
+-- Before any act the bet level is the big blind.
+pub level-first : (start : HandStart) → IsLawfulStart start
+    → (street_now (first_streets start)).level ≡ start.blind.big
+level-first start lawful =
+    let small = lawful-small start lawful in
+    ap (λ (s : Street). s.level) (street_start_is (first_street start))
+    ∙ greatest-no_more start.blind.big (λ (bettor : Bettor). bettor.put) (seated start) (players_by_seat start)
+    (λ player. posted-most start player small)
+
 -- What holds of a player of a start when he begins the hand.
 each-first : (start : HandStart) (seat : ℕ) (now : Player) → IsLawfulStart start → 1 ≤ seat
     → player_at (street_now (first_streets start)).players seat ≡ Some now
@@ -407,16 +455,10 @@ each-first : (start : HandStart) (seat : ℕ) (now : Player) → IsLawfulStart s
 each-first start seat now lawful low there =
     let first = first_street start in
     let began = street_start_is first in
-    let slots : player_at (street_after first []).players seat
-    ≡ option_map fresh (option_map (seated start) (slice_index_or (players_by_seat start) (seat - 1) None)) =
-    ap (λ (s : Street). player_at s.players seat) began ∙ map_at fresh (seat - 1) first.bettors
-    ∙ ap (option_map fresh) (map_at (seated start) (seat - 1) (players_by_seat start)) in
-    let one = map_found fresh (option_map (seated start) (slice_index_or (players_by_seat start) (seat - 1) None)) now
-    (sym slots ∙ there) in
-    let two = map_found (seated start) (slice_index_or (players_by_seat start) (seat - 1) None) one.0 one.1 in
-    let player = two.0 in
-    let is : now ≡ fresh (seated start player) = sym (ap fresh two.2 ∙ one.2) in
-    let found = listed-at start seat player low two.1 in
+    let slot = slot-first start seat now low there in
+    let player = slot.0 in
+    let found = slot.1 in
+    let is = slot.2 in
     let blinds = blinds-lawful start lawful in
     let stack = found-playable start seat player lawful found in
     let posted_so = posted-whole start player blinds stack.1 in
@@ -440,18 +482,6 @@ each-first start seat now lawful low there =
     } in
     subst (λ (p : Player). IsPlayerSound start (street_after first []) (put_by_seat seat (first_streets start)) seat p)
     (sym is) sound_so
-  where
-    listed-at : (start : HandStart) (seat : ℕ) (player : StartSeat) → 1 ≤ seat
-        → slice_index_or (players_by_seat start) (seat - 1) None ≡ Some player
-        → player_of start seat ≡ Some player
-    listed-at start seat player low listed =
-        elim (cases_lt (seat - 1) 10) [
-          | inl within ↦
-              let back : 0 + (seat - 1) + 1 ≡ seat = omega arith in
-              ap (player_of start) (sym back) ∙ sym (along-at (player_of start) 10 0 (seat - 1) within) ∙ listed
-          | inr past ↦ let none = along-past (player_of start) 10 0 (seat - 1) past in
-              let never : None ≡ Some player = sym none ∙ listed in absurd cc
-        ]
 
 -- What holds of the streets before any act, where the first alone has begun.
 pub sound-first : (start : HandStart) → IsLawfulStart start → IsSound start (first_streets start) 0
@@ -461,11 +491,7 @@ sound-first start lawful =
     let right = right-first start lawful in
     let blinds = blinds-lawful start lawful in
     let some = blinds.some in
-    let small = lawful-small start lawful in
-    let level : (street_after first []).level ≡ start.blind.big =
-    ap (λ (s : Street). s.level) began
-    ∙ greatest-no_more start.blind.big (λ (bettor : Bettor). bettor.put) (seated start) (players_by_seat start)
-    (λ player. posted-most start player small) in
+    let level = level-first start lawful in
     let still_now : sum_over still (street_after first []).players
     ≡ sum_over (λ player. still (fresh (seated start player))) (players_by_seat start) =
     ap (λ (s : Street). sum_over still s.players) began ∙ sum_map still fresh first.bettors

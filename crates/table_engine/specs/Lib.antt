@@ -1,6 +1,7 @@
 pub mod Accepted
 pub mod Acts
 pub mod Awards
+pub mod Covers
 pub mod Deals
 pub mod Hands
 pub mod Kept

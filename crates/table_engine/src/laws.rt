@@ -12,8 +12,9 @@ ghost use Rattle.pot_layers.specs.PotTests.{are_others_within, total_of};
 ghost use Rattle.table_engine.specs.declared.record.ActOf.{ActOf};
 ghost use Rattle.table_engine.specs.declared.start.StartSeat.{StartSeat};
 ghost use Rattle.table_engine.specs.Starts.{IsLawfulStart, chips_of, have_playable_stacks};
+ghost use Rattle.table_engine.specs.Covers.{is_big_next, is_covered};
 ghost use Rattle.table_engine.specs.Deals.{dealt_cards};
-ghost use Rattle.table_engine.specs.Hands.{HandTerms, behind, due_in_hand, due_name, is_live, is_over, player_of, players_by_seat, put_in_hand, street_of, streets_of};
+ghost use Rattle.table_engine.specs.Hands.{HandTerms, behind, due_in_hand, due_name, is_live, is_over, player_of, players_by_seat, posted, put_in_hand, street_of, streets_of};
 ghost use Rattle.floor_text.specs.Refusals.{refusal_number};
 ghost use Rattle.rulebook.specs.Pairs.{are_rising};
 ghost use Rattle.table_engine.specs.Acts.{act_checks, done_of_act, hand_after_time, refusal_of_act, refusal_of_time, time_act};
@@ -117,6 +118,21 @@ pub fn an_uncalled_bet_comes_back()
         → is_over hand ≡ true → slice_index_or (players_by_seat hand.start) index None ≡ Some player
         → is_live hand player ≡ true → are_others_within (puts_in_hand hand) index height ≡ true
         → put_in_hand hand player ≤ height + award hand player }
+{}
+
+/// Says that who folds is covered: of each player, some live player has put in during the hand at least as much as he.
+/// That is so where nobody is dealt in between the small mark and the big one. Wherever the marks are, who is not
+/// covered sits in the small mark's seat and has put in no more than he posted, and who sits in the big mark's seat
+/// posted less.
+pub fn who_folds_is_covered()
+    ensures covered { (hand : HandTerms) (seat : ℕ) (player : StartSeat) → IsLawfulStart hand.start
+        → IsLawfulPlay hand → is_big_next hand.start ≡ true → player_of hand.start seat ≡ Some player
+        → is_covered hand player ≡ true }
+    ensures anywhere { (hand : HandTerms) (seat : ℕ) (player big : StartSeat) → IsLawfulStart hand.start
+        → IsLawfulPlay hand → player_of hand.start seat ≡ Some player
+        → player_of hand.start hand.start.marks.big ≡ Some big → is_covered hand player ≡ false
+        → (seat ≡ hand.start.marks.small) × (put_in_hand hand player ≤ posted hand.start player)
+        × (posted hand.start big < posted hand.start player) }
 {}
 
 /// Says that betting does not depend on cards.
