@@ -7,11 +7,10 @@ use seat_book::Place;
 use std::test::Fail;
 
 /// Lines that are not in the grammar.
-static OUTSIDE: [&[u8]; 64] = [
+static OUTSIDE: [&[u8]; 63] = [
     b"",
     b" ",
-    b"*",
-    b"* go",
+    b" *",
     b"go ",
     b" go",
     b"go\r",
@@ -134,6 +133,77 @@ static OUTSIDE_ROUNDS: [&[u8]; 17] = [
     b"round 1",
     b"rounds",
 ];
+
+/// Notes: a star, and any bytes behind it.
+static NOTES: [&[u8]; 6] = [
+    b"*",
+    b"* go",
+    b"**",
+    b"*\r",
+    b"* \xff\0",
+    b"* out 1 ann 140",
+];
+
+#[test]
+fn notes_are_read(rt: HostRuntime) -> Result<(), Fail> {
+    for line in &NOTES {
+        assert!(rt;
+            matches!(read_item(rt.alloc(), line)?, Some(Item::Note)),
+            "{line:?}"
+        );
+    }
+    Ok(())
+}
+
+/// A line of each event in its one spelling.
+static LINES: [&[u8]; 26] = [
+    b"game holdem",
+    b"game omaha",
+    b"game hilo",
+    b"tables 64",
+    b"seats 10",
+    b"stack 9007199254740991",
+    b"buyin 0",
+    b"late 3",
+    b"blinds 50 100 25",
+    b"shares 500 300 200",
+    b"go",
+    b"enter Ann_01 0 64",
+    b"begin 1 2c2d2h2s3c3d3h3s4c4d4h4s5c5d5h5s6c6d6h6s7c7d7h7s8c8d8h8s9c9d9h9sTcTdThTsJcJdJhJsQcQdQhQsKcKdKhKsAcAdAhAs",
+    b"act 12 ann fold",
+    b"act 12 ann allin",
+    b"act 12 ann bet 400",
+    b"act 12 ann raise 600",
+    b"time 5",
+    b"settle 3",
+    b"balance 1 64",
+    b"break 2 64.10,1.6 bob,Ann_01",
+    b"break 3 1.1 a",
+    b"level",
+    b"hands on",
+    b"hands off",
+    b"round",
+];
+
+/// Tells whether the event of a line is written as that line, behind what was there.
+fn is_written_again(line: &[u8], alloc: std::alloc::Global) -> Result<bool, Fail> {
+    let mut right = Vec::from_slice(alloc, b"ok ")?;
+    let mut out = right.clone()?;
+    right.extend_from_slice(line)?;
+    match &read_item(alloc, line)? {
+        Some(Item::Event(event)) => write_event(event, &mut out)?,
+        _ => return Err("an event".into()),
+    }
+    Ok(out.as_slice() == right.as_slice())
+}
+
+#[test]
+fn events_are_written_as_they_are_read(rt: HostRuntime) -> Result<(), Fail> {
+    for line in &LINES {
+        assert!(rt; is_written_again(line, rt.alloc())?, "{line:?}");
+    }
+    Ok(())
+}
 
 #[test]
 fn rounds_outside_the_grammar_hold_no_item(rt: HostRuntime) -> Result<(), Fail> {
