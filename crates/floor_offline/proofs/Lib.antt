@@ -1,4 +1,3 @@
 pub mod Promises
 pub mod Running
-pub mod Runs
 pub mod Counted

@@ -6,11 +6,9 @@
 
 mod answers;
 mod fault;
-mod laws;
 mod replay;
 mod run;
 
-pub use laws::lines_are_a_run;
 pub use run::run_offline;
 
 #[cfg(test)]

@@ -25,3 +25,4 @@ pub mod Stacks
 pub mod NoneStuck
 pub mod StaysOver
 pub mod LaterEntries
+pub mod Runs

@@ -7,9 +7,11 @@
 mod chips;
 mod hands;
 mod levels;
+mod places;
 mod players;
 mod runs;
 mod tables;
+mod texts;
 
 pub use chips::{
     a_race_changes_the_chips_by_what_it_records, chips_are_kept,
@@ -25,6 +27,10 @@ pub use levels::{
     a_level_changes_no_hand, a_race_changes_no_other_table, a_table_races_once_between_levels,
     levels_follow_the_plan, units_follow_the_level,
 };
+pub use places::{
+    a_report_counts_the_chips, a_report_names_each_player_once, places_in_a_report_are_a_ranking,
+    places_rise_without_entries, prizes_are_the_pool,
+};
 pub use players::{
     a_group_is_of_one_round, a_later_entry_moves_each_place_by_one, each_entry_is_in_or_bust,
     groups_never_fall, no_two_entered_under_one_name, once_over_it_stays_over,
@@ -38,3 +44,4 @@ pub use tables::{
     a_broken_table_is_left, a_table_begins_once_in_a_round, a_table_that_is_not_open_is_bare,
     entries_go_to_the_fewest, halted_tables_wait, moves_are_lawful,
 };
+pub use texts::{a_tournaments_text_is_answered_alike, lines_are_a_run};

@@ -1,6 +1,6 @@
 use Rattle.tournament_rules.specs.States.{first_state}
-use Rattle.floor_offline.proofs.Runs.{state_after_items_is_run, answers_to_events}
-use Rattle.floor_offline.proofs.laws.lines_are_a_run.Goals as goal
+use Rattle.tournament_laws.proofs.Runs.{state_after_items_is_run, answers_to_events}
+use Rattle.tournament_laws.proofs.texts.lines_are_a_run.Goals as goal
 
 pub returns-clause-state : goal.returns-clause-state
 returns-clause-state c = state_after_items_is_run first_state

@@ -3,7 +3,7 @@ use Rattle.std.proofs.Common.{◌≡◌, refl, ap, List, [], ◌∷◌}
 use Rattle.std.specs.Prelude.{Option, Some, None, map}
 use Rattle.floor_events.specs.declared.event.Event.{Event as EventOfLine}
 use Rattle.floor_events.specs.declared.event.Item.{Item}
-use Rattle.floor_events.specs.declared.event.Item.TheVariants.{Event}
+use Rattle.floor_events.specs.declared.event.Item.TheVariants.{Event, Note}
 use Rattle.tournament_rules.specs.States.{State}
 use Rattle.tournament_rules.specs.States.{answer_to, state_after}
 use Rattle.tournament_rules.specs.States.{run, answers}
@@ -14,6 +14,7 @@ pub state_after_items_is_run : (state : State) (items : List (Option Item)) → 
     ≡ run state (events_of items)
 state_after_items_is_run state [] = refl
 state_after_items_is_run state (None ∷ items) = state_after_items_is_run state items
+state_after_items_is_run state (Some Note ∷ items) = state_after_items_is_run state items
 state_after_items_is_run state (Some (Event event) ∷ items) = state_after_items_is_run (state_after state event) items
 
 -- the answers to lines that all hold events are the answers to these
