@@ -31,3 +31,4 @@ pub mod Drafts
 pub mod Plays
 pub mod Steps
 pub mod Layers
+pub mod Standings
