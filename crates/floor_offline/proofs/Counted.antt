@@ -2,7 +2,7 @@
 use Rattle.std.proofs.Common.{◌≡◌, ◌≤◌, ◌+◌, Bool, true, false, arith}
 use Rattle.std.specs.Prelude.{Option, Some, None, cond}
 use Rattle.floor_events.specs.declared.event.Item.{Item}
-use Rattle.floor_events.specs.declared.event.Item.TheVariants.{Event}
+use Rattle.floor_events.specs.declared.event.Item.TheVariants.{Event, Note}
 use Rattle.tournament_rules.specs.States.{State, answer_to, accepted, is_accepted}
 use Rattle.tournament_rules.specs.Replay.{state_after_item}
 
@@ -14,5 +14,6 @@ by_answer state after false more = omega arith
 -- an item adds at most one to the events accepted
 pub counted_item : (state : State) (item : Option Item) → (state_after_item state item).accepted ≤ state.accepted + 1
 counted_item state None = omega arith
+counted_item state (Some Note) = omega arith
 counted_item state (Some (Event event)) =
     by_answer state (accepted state event) (is_accepted (answer_to state event)) (omega arith)
