@@ -1,6 +1,6 @@
 -- A book is valid before any entry, and after each.
 use Rattle.std.proofs.Common.{◌≡◌, ◌∙◌, refl, sym, ap, ℕ, zero, suc, ◌+◌, ◌%◌, ◌<◌, ◌≤◌, ◌⊎◌, inl, inr, true, false, cond, ◌==◌, eq-eqb, List, [], ◌∷◌, ◌++◌, map, length, arith, length-append}
-use Rattle.std.specs.Prelude.{nat_lt, count_by, sum_by, replicate, slice_get, Option, Some, None, is_some}
+use Rattle.std.specs.Prelude.{nat_lt, count_by, sum, sum_by, replicate, slice_get, Option, Some, None, is_some}
 use Rattle.std.specs.Option.{ForSome}
 use Rattle.std.proofs.lemmas.Bool.{and_parts, and_from, and_right, cases_lt, eqb-true, leb-true, lt-ltb, ltb-false, ne_eqb}
 use Rattle.std.proofs.lemmas.Bool.Decides.{nat_tests}
@@ -13,7 +13,7 @@ use Rattle.rulebook.proofs.Tests.{none_by_count}
 use Rattle.rulebook.proofs.Repeats.{get_or-repeated}
 use Rattle.place_list.specs.declared.bust.Bust.{Bust}
 use Rattle.level_plan.specs.Items.{is_between, are_levels}
-use Rattle.level_plan.specs.Limits.{greatest_amount}
+use Rattle.level_plan.specs.Limits.{greatest_amount, most_shares, whole_pool}
 use Rattle.level_plan.specs.Plans.{PlanTerms, is_right, unit_of_level}
 use Rattle.entry_list.specs.Entries.{is_known}
 use Rattle.entry_list.proofs.Added.{names-added}
@@ -46,10 +46,13 @@ pub record IsRight (plan : PlanTerms) : Type 0 where
   pub most_seats : plan.seats ≤ 10
   pub some_stack : 1 ≤ plan.stack
   pub most_stack : plan.stack ≤ 1000000000
+  pub most_buyin : plan.buyin ≤ 1000000000
   pub some_late : 1 ≤ plan.late
   pub most_late : plan.late ≤ length plan.blinds
   pub level_count : length plan.blinds ≤ 40
   pub levels : are_levels plan.blinds ≡ true
+  pub some_shares : 1 ≤ length plan.shares
+  pub most_shared : sum plan.shares ≤ 1000
   pub whole : plan.stack % unit_of_level plan.blinds plan.late ≡ 0
 
 -- A right plan has all that.
@@ -63,6 +66,7 @@ right_has plan right =
     let six = and_parts _ _ five.1 in
     let seven = and_parts _ _ six.1 in
     let eight = and_parts _ _ seven.1 in
+    let shares = and_parts _ _ eight.0 in
     let tables = table_range 1 64 plan.tables one.0 in
     let seats = table_range 2 10 plan.seats two.0 in
     let stack = table_range 1 greatest_amount plan.stack three.0 in
@@ -74,10 +78,13 @@ right_has plan right =
       most_seats = seats.1;
       some_stack = stack.0;
       most_stack = stack.1;
+      most_buyin = leb-true plan.buyin greatest_amount four.0;
       some_late = late.0;
       most_late = late.1;
       level_count = leb-true (length plan.blinds) 40 six.0;
       levels = seven.0;
+      some_shares = (table_range 1 most_shares (length plan.shares) shares.0).0;
+      most_shared = leb-true (sum plan.shares) whole_pool (and_parts _ _ (and_parts _ _ shares.1).1).1;
       whole = eqb-true (plan.stack % unit_of_level plan.blinds plan.late) 0 eight.1;
     }
 
