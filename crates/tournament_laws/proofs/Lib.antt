@@ -13,6 +13,10 @@ pub mod RoundLaws
 pub mod GroupLaws
 pub mod ChipLaws
 pub mod Lists
+pub mod Cuts
+pub mod ReportNotes
+pub mod Reportable
+pub mod Answered
 pub mod KeptHands
 pub mod Acting
 pub mod Exchanged
@@ -25,4 +29,4 @@ pub mod Stacks
 pub mod NoneStuck
 pub mod StaysOver
 pub mod LaterEntries
-pub mod Runs
+pub mod ItemRuns
