@@ -18,6 +18,8 @@ pub mod ReportNotes
 pub mod Reportable
 pub mod Answered
 pub mod KeptHands
+pub mod NextBig
+pub mod CoveredHands
 pub mod Acting
 pub mod Exchanged
 pub mod InStates
