@@ -305,7 +305,7 @@ prizes-sum entries buyin shares few some share =
     omega (arith, all, within)
 
 -- They never sum to more.
-prizes-within : (entries buyin : ℕ) (shares : List ℕ) → sum shares ≤ 1000 → sum (prizes_of entries buyin shares)
+pub prizes-within : (entries buyin : ℕ) (shares : List ℕ) → sum shares ≤ 1000 → sum (prizes_of entries buyin shares)
     ≤ pool_of entries buyin
 unfolding prizes_of
 prizes-within entries buyin shares few =

@@ -13,7 +13,13 @@ pub mod RoundLaws
 pub mod GroupLaws
 pub mod ChipLaws
 pub mod Lists
+pub mod Cuts
+pub mod ReportNotes
+pub mod Reportable
+pub mod Answered
 pub mod KeptHands
+pub mod NextBig
+pub mod CoveredHands
 pub mod Acting
 pub mod Exchanged
 pub mod InStates
@@ -25,4 +31,4 @@ pub mod Stacks
 pub mod NoneStuck
 pub mod StaysOver
 pub mod LaterEntries
-pub mod Runs
+pub mod ItemRuns

@@ -6,7 +6,9 @@ ghost use Rattle.card_set.specs.declared.card.CardRow.{CardRow};
 ghost use Rattle.seat_book.specs.Players.{sits_at};
 ghost use Rattle.table_engine.specs.Starts.{IsLawfulStart};
 ghost use Rattle.table_engine.specs.Plays.{IsLawfulPlay};
-ghost use Rattle.table_engine.specs.Hands.{is_over};
+ghost use Rattle.table_engine.specs.declared.start.StartSeat.{StartSeat};
+ghost use Rattle.table_engine.specs.Covers.{is_big_next, is_covered};
+ghost use Rattle.table_engine.specs.Hands.{is_over, player_of};
 ghost use Rattle.floor_events.specs.declared.event.Event.{Event};
 ghost use Rattle.floor_events.specs.declared.event.Event.TheVariants.{Begin, Time, Settle};
 ghost use Rattle.floor_events.specs.declared.answer.Answer.TheVariants.{Ok};
@@ -86,4 +88,14 @@ pub fn no_hand_gets_stuck()
     ensures settle { (before : List Event) (table : ℕ) → ForSome (run first_state before).play (λ play.
         ForSome (hand_at play table) (λ hand. is_over hand ≡ true
         → answer_to (run first_state before) (Settle table) ≡ Ok)) }
+{}
+
+/// Says that after any list of events, nobody is dealt in between the small mark and the big one of a hand that is
+/// played, and each of its players is covered: some live player has put in during the hand at least as much as he.
+pub fn who_folds_in_a_tournament_is_covered()
+    ensures next { (events : List Event) (table : ℕ) → ForSome (run first_state events).play (λ play.
+        ForSome (hand_at play table) (λ hand. is_big_next hand.start ≡ true)) }
+    ensures covered { (events : List Event) (table seat : ℕ) (player : StartSeat)
+        → ForSome (run first_state events).play (λ play. ForSome (hand_at play table) (λ hand.
+        player_of hand.start seat ≡ Some player → is_covered hand player ≡ true)) }
 {}

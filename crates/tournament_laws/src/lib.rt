@@ -21,7 +21,7 @@ pub use chips::{
 pub use hands::{
     a_table_plays_where_a_hand_has_started, acts_stay_at_their_table, hands_are_lawful_plays,
     hands_are_numbered_as_they_begin, hands_have_their_players, no_hand_gets_stuck,
-    nobody_is_dealt_in_at_two_tables, starts_are_lawful,
+    nobody_is_dealt_in_at_two_tables, starts_are_lawful, who_folds_in_a_tournament_is_covered,
 };
 pub use levels::{
     a_level_changes_no_hand, a_race_changes_no_other_table, a_table_races_once_between_levels,
