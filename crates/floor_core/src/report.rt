@@ -109,8 +109,12 @@ fn all_reported(
 fn first_number(slots: &[Option<Seated>]) -> Option<u32>
     ensures { result ≡ option_map (λ player. player.player) (slice_get (players_in slots.now) 0) }
 {
-    let first = slots.iter().find_map(|slot| *slot)?;
-    Some(first.player)
+    for slot in slots {
+        if let Some(player) = slot {
+            return Some(player.player);
+        }
+    }
+    None
 }
 
 /// Reports a player who is out, or the winner, under the name with which he entered.

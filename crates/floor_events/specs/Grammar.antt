@@ -1,5 +1,6 @@
--- The grammar: a line is a note or holds an event. An event has a row, which says how its line is read, and its line, which says what of the event stands
--- in the row's fields. The spelling of an event and what is lawful of it follow from the two. This project's own.
+-- The grammar: a line is a note or holds an event. An event has a row, which says how its line is read, and its line,
+-- which says what of the event stands in the row's fields. The spelling of an event and what is lawful of it follow
+-- from the two. This project's own.
 use Rattle.std.specs.Prelude.{ℕ, nat_le, ◌==◌, Bool, false, List, [], ◌∷◌, ◌++◌, length, codes, Option, Some, None, option_map, if◌then◌else◌}
 use Rattle.floor_text.specs.Limits.{longest_line}
 use Rattle.level_plan.specs.Limits.{most_shares}

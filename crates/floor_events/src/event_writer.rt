@@ -141,8 +141,8 @@ impl WriteText for Event {
     }
 }
 
-/// Writes an event at the end of `out`, in its one spelling and without a line feed. What is written of a writable event
-/// is read as that event (`what_is_written_is_read_first`). After want of memory `out` is as before.
+/// Writes an event at the end of `out`, in its one spelling and without a line feed. What is written of a writable
+/// event is read as that event (`what_is_written_is_read_first`). After want of memory `out` is as before.
 pub fn write_event(event: &Event, out: &mut Vec<u8>) -> Result<(), AllocError>
     ensures ok { OnOk result (out.new.items ≡ out.old.items ++ event_text event.now) }
     ensures err { OnErr result (out.new.items ≡ out.old.items) }
