@@ -25,4 +25,5 @@ pub mod Stacks
 pub mod NoneStuck
 pub mod StaysOver
 pub mod LaterEntries
-pub mod Runs
+pub mod ItemRuns
+pub mod ReportedChips

@@ -1,5 +1,5 @@
 use Rattle.tournament_rules.specs.States.{first_state}
-use Rattle.tournament_laws.proofs.Runs.{state_after_items_is_run, answers_to_events}
+use Rattle.tournament_laws.proofs.ItemRuns.{state_after_items_is_run, answers_to_events}
 use Rattle.tournament_laws.proofs.texts.lines_are_a_run.Goals as goal
 
 pub returns-clause-state : goal.returns-clause-state
