@@ -27,3 +27,6 @@ pub mod StaysOver
 pub mod LaterEntries
 pub mod ItemRuns
 pub mod ReportedChips
+pub mod OrderedStandings
+pub mod TheWinner
+pub mod Prizes
