@@ -30,3 +30,4 @@ pub mod ReportedChips
 pub mod OrderedStandings
 pub mod TheWinner
 pub mod Prizes
+pub mod RankedPlaces
