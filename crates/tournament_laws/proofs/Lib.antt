@@ -31,3 +31,4 @@ pub mod OrderedStandings
 pub mod TheWinner
 pub mod Prizes
 pub mod RankedPlaces
+pub mod NamedOnce

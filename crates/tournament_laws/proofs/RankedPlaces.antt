@@ -19,19 +19,9 @@ use Rattle.tournament_rules.specs.Books.{BookState}
 use Rattle.tournament_rules.specs.Report.{winner, reported, reported_out, standings_in, book_report}
 use Rattle.tournament_rules.specs.Valid.{IsValid}
 use Rattle.tournament_rules.proofs.InOrBust.{all-counted}
+use Rattle.tournament_laws.proofs.Lists.{counts_agree}
 use Rattle.tournament_laws.proofs.OrderedStandings.{sum_by-ordered, all-ordered}
 use Rattle.tournament_laws.proofs.TheWinner.{HasWon, won_or_none}
-
--- Tests that agree on each of a list count the same.
-counts_agree : {A : Type 0} (one other : A → Bool) (items : List A) → All (λ item. one item ≡ other item) items
-    → count_by one items ≡ count_by other items
-counts_agree one other [] agree = refl
-counts_agree one other (item ∷ items) agree =
-    let here = ap (λ (b : Bool). cond {A = ℕ} b 1 0) (All-head (λ item. one item ≡ other item) item items agree) in
-    let rest = counts_agree one other items (All-tail (λ item. one item ≡ other item) item items agree) in
-    let first = count_by-cons one item items in
-    let second = count_by-cons other item items in
-    omega (arith, here, rest, first, second)
 
 ahead_says : (g s h t p q : ℕ) → ((nat_lt h g || (g == h && nat_lt t s)) ≡ true → p < q)
     → ((g == h && s == t) ≡ true → p ≡ q) → ((nat_lt g h || (h == g && nat_lt s t)) ≡ true → q ≤ p)

@@ -30,7 +30,8 @@ over-won book over =
         is =
             ap (λ (over : Bool). if over then option_map (λ (player : Seated). player.player)
             (slice_get book.seating.players 0) else None) over
-            ∙ ap (λ (players : List Seated). option_map (λ (player : Seated). player.player) (slice_get players 0)) same;
+            ∙ ap (λ (players : List Seated).
+            option_map (λ (player : Seated). player.player) (slice_get players 0)) same;
         seated = player;
         alone = same;
         number = refl;
