@@ -32,3 +32,4 @@ pub mod TheWinner
 pub mod Prizes
 pub mod RankedPlaces
 pub mod NamedOnce
+pub mod RisingPlaces
