@@ -115,7 +115,7 @@ begins-numbered before table row taken = by_play state.play refl
         ap (option_map (λ (start : HandStart). start.serial)) here
         ∙ ap (λ (count : ℕ). Some (count + 1)) (begun-counted before play at))
 
--- A level raises the level by one, and no other event of the book changes it.
+-- No event of the book lowers the level.
 pub level-effect : (book : BookState) (hand : Option HandTerms) (event : Event)
     → book.level ≤ (book_effect book hand event).level
 level-effect book hand (events.Settle table) = by_hand hand

@@ -88,7 +88,7 @@ none_picked : (state : State) (events : List Event) → is_any_accepted (λ even
 none_picked state [] = refl
 none_picked state (event ∷ events) = none_picked (state_after state event) events
 
--- Along a list of events it is so.
+-- After any list of events more players are out, none of them in an earlier group than who went out next before it.
 pub run_grows : (state : State) (events : List Event) (play later : PlayState) → state.play ≡ Some play
     → (run state events).play ≡ Some later → Grows play.book later.book
 run_grows state events play later at after =

@@ -1,11 +1,11 @@
 -- The places that are reported are a ranking.
-use Rattle.std.proofs.Common.{◌≡◌, refl, sym, ap, subst, ℕ, ◌+◌, ◌-◌, ◌<◌, ◌≤◌, ◌⊎◌, inl, inr, Bool, true, false, cond, ◌==◌, ◌&&◌, List, [], ◌∷◌, map, length, get_or, arith}
+use Rattle.std.proofs.Common.{◌≡◌, sym, ap, subst, ℕ, ◌+◌, ◌-◌, ◌<◌, ◌≤◌, ◌⊎◌, inl, inr, Bool, true, false, cond, ◌==◌, ◌&&◌, List, ◌∷◌, map, length, get_or, arith}
 use Rattle.std.specs.Prelude.{count_by, nat_lt, ◌||◌, Option, Some, None}
 use Rattle.std.specs.List.{All}
 use Rattle.std.specs.Option.{option_to_list}
 use Rattle.std.proofs.lemmas.Bool.Decides.{nat_tests}
 use Rattle.std.proofs.lemmas.List.{length-map}
-use Rattle.std.proofs.lemmas.List.Elements.{All-map, All-cons, All-head, All-tail, All-weaker}
+use Rattle.std.proofs.lemmas.List.Elements.{All-map, All-cons, All-weaker}
 use Rattle.rulebook.proofs.Tests.{count_by-cons, sum_by-map}
 use Rattle.place_list.specs.declared.bust.Bust.{Bust}
 use Rattle.place_list.specs.declared.standing.Standing.{Standing}

@@ -19,11 +19,11 @@ use Rattle.tournament_rules.specs.Valid.{IsValidPlay, is_lent}
 use Rattle.tournament_rules.proofs.Members.{in_hand-lent}
 
 -- the report of a tournament, and the empty one before there is a plan
-abbrev pub report_in : Option PlayState → Report
+abbrev report_in : Option PlayState → Report
 report_in play = option_map_or (λ play. book_report play.book) play empty_report
 
 -- the chips that are reported to be at rest at a seat
-abbrev pub rests_there : ReportSeat → ℕ
+abbrev rests_there : ReportSeat → ℕ
 rests_there seat = unwrap_or seat.stack 0
 
 -- The chips that are reported are kept: those at rest, in play and removed are those sold and added.

@@ -145,7 +145,8 @@ late-effect play event late =
     let level = level-effect play.book (hand_about play event) event in
     let plan = ap (λ (plan : PlanTerms). plan.late) (plan-effect play.book (hand_about play event) event) in
     let over = ltb-true play.book.plan.late play.book.level late in
-    lt-ltb (play_effect play event).book.plan.late (play_effect play event).book.level (omega (arith, level, plan, over))
+    lt-ltb (play_effect play event).book.plan.late (play_effect play event).book.level
+    (omega (arith, level, plan, over))
 
 -- A late entry is refused.
 late-refused : (play : PlayState) (event : Event) → is_late play.book ≡ true → refusal_of play event ≡ None
