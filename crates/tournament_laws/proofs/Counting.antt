@@ -115,8 +115,8 @@ begins-numbered before table row taken = by_play state.play refl
         ap (option_map (λ (start : HandStart). start.serial)) here
         ∙ ap (λ (count : ℕ). Some (count + 1)) (begun-counted before play at))
 
--- A level raises the level by one, and no other event of the book changes it.
-level-effect : (book : BookState) (hand : Option HandTerms) (event : Event)
+-- No event of the book lowers the level.
+pub level-effect : (book : BookState) (hand : Option HandTerms) (event : Event)
     → book.level ≤ (book_effect book hand event).level
 level-effect book hand (events.Settle table) = by_hand hand
   where
@@ -130,7 +130,7 @@ level-effect book hand events.Stop =
 level-effect book hand _ = omega arith
 
 -- The plan stays.
-plan-effect : (book : BookState) (hand : Option HandTerms) (event : Event)
+pub plan-effect : (book : BookState) (hand : Option HandTerms) (event : Event)
     → (book_effect book hand event).plan ≡ book.plan
 plan-effect book hand (events.Settle table) = by_hand hand
   where

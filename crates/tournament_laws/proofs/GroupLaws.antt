@@ -33,11 +33,11 @@ use Rattle.tournament_rules.proofs.Stayed.{grouped_left, all_in_group, same_grou
 
 -- More players are out than before, none of them in an earlier group than who went out next, and nor is who goes out
 -- next now.
-record Grows (earlier later : BookState) : Type 0 where
-  more : List Bust
-  is : later.busts ≡ earlier.busts ++ more
-  least : list_all (λ bust. nat_le earlier.group bust.group) more ≡ true
-  group : earlier.group ≤ later.group
+pub record Grows (earlier later : BookState) : Type 0 where
+  pub more : List Bust
+  pub is : later.busts ≡ earlier.busts ++ more
+  pub least : list_all (λ bust. nat_le earlier.group bust.group) more ≡ true
+  pub group : earlier.group ≤ later.group
 
 grows_none : (earlier later : BookState) → later.busts ≡ earlier.busts → earlier.group ≤ later.group
     → Grows earlier later
@@ -88,7 +88,8 @@ none_picked : (state : State) (events : List Event) → is_any_accepted (λ even
 none_picked state [] = refl
 none_picked state (event ∷ events) = none_picked (state_after state event) events
 
-run_grows : (state : State) (events : List Event) (play later : PlayState) → state.play ≡ Some play
+-- After any list of events more players are out, none of them in an earlier group than who went out next before it.
+pub run_grows : (state : State) (events : List Event) (play later : PlayState) → state.play ≡ Some play
     → (run state events).play ≡ Some later → Grows play.book later.book
 run_grows state events play later at after =
     run_keeps (λ later. Grows play.book later.book) (λ event. false)

@@ -32,3 +32,10 @@ pub mod NoneStuck
 pub mod StaysOver
 pub mod LaterEntries
 pub mod ItemRuns
+pub mod ReportedChips
+pub mod OrderedStandings
+pub mod TheWinner
+pub mod Prizes
+pub mod RankedPlaces
+pub mod NamedOnce
+pub mod RisingPlaces
