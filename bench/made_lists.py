@@ -6,10 +6,9 @@ as it can be, and is printed with both texts. At the end it says how many lists,
 each answer came, and how many entries, moves, levels, races and rounds were accepted. The status is 1 where a list told
 them apart.
 
-Usage: bench/made_lists.py [--lists N] [--seed N] [--unproved] [--program PATH] [--built PART,PART..]
+Usage: bench/made_lists.py [--lists N] [--seed N] [--unproved] [--program PATH]
 
-The program is the one of `./floor`; with --unproved it is built from the sources before any proof, by `rt try`. --built
-names parts of the product (PARTS of the model) that the program has beside those of BUILT; `--built all` names all.
+The program is the one of `./floor`; with --unproved it is built from the sources before any proof, by `rt try`.
 """
 import argparse
 import os
@@ -18,7 +17,6 @@ import sys
 import tempfile
 from collections import Counter
 
-from rules.built import BUILT, PARTS
 from rules.lines import lines_of
 from rules.maker import Maker
 from rules.step import replayed
@@ -118,9 +116,7 @@ def main():
     words.add_argument("--seed", type=int, default=1)
     words.add_argument("--unproved", action="store_true")
     words.add_argument("--program", default=PROGRAM)
-    words.add_argument("--built", default="")
     words = words.parse_args()
-    BUILT.update(PARTS if words.built == "all" else filter(None, words.built.split(",")))
     texts = [Maker(words.seed * 1_000_000 + number).make() for number in range(words.lists)]
     count(texts)
     if words.unproved:

@@ -2,7 +2,6 @@
 from collections import Counter
 from dataclasses import dataclass, field
 
-from rules.built import BUILT
 from rules.hand import Hand, next_big, next_marks
 from rules.places import standings_of
 
@@ -248,6 +247,5 @@ class Tournament:
         for (table, seat), player in sorted(self.seats.items()):
             playing = player in self.tables[table].dealt.values()
             lines.append(f"* seat {table} {seat} {player} {'play' if playing else self.stacks[player]}")
-        if "places" in BUILT:
-            lines += [f"* out {rank} {player} {prize}" for rank, player, prize in standings_of(self)]
+        lines += [f"* out {rank} {player} {prize}" for rank, player, prize in standings_of(self)]
         return lines + ["* end"]
