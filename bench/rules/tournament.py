@@ -31,7 +31,7 @@ class Tournament:
         self.busts = []
         self.group = 0
         self.removed = self.added = 0
-        self.hands_begun = self.showdowns = 0
+        self.hands_begun = self.showdowns = self.entries_after_a_bust = 0
         self.stopped = False
 
     # -- what is read off the lists --
@@ -129,6 +129,7 @@ class Tournament:
         self.entries.append(player)
         self.seats[table, seat] = player
         self.stacks[player] = self.plan["stack"]
+        self.entries_after_a_bust += bool(self.busts)
 
     def begin(self, table, deck):
         """The hand has the next marks, who sits there and does not wait, and the current level's blinds and unit."""
