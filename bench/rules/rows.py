@@ -224,6 +224,11 @@ def try_places():
     book.seats[1, 3] = "late"
     same("fourth of four", [rank for rank, _, _ in standings_of(book)], [4])
     same("what is left goes to the first", prizes_of(2, 100, (500, 300, 199)), [140, 60])
+    same("more shares than entries", prizes_of(2, 100, (400, 250, 200, 100, 50)), [150, 50])
+    book = seated(6, {1: [6]}, {})
+    book.plan |= {"buyin": 102}
+    book.entries, book.busts = ["bob", "p1.6", "ann"], [("ann", 1000, 0), ("bob", 1000, 0)]
+    same("a tie for the last place paid", standings_of(book), [(1, "p1.6", 215), (2, "bob", 46), (2, "ann", 45)])
 
 
 def try_rows():
