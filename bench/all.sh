@@ -1,7 +1,8 @@
 #!/usr/bin/env bash
-# All measurements of `replay` in one table: refused lines and entries (`lines.py`), hands of folds (`folds.py`), of all
-# acts (`acts.py`) and with showdowns in each game (`showdowns.py`), and one table and 64 (`tables.py`). Each row has the
-# time of sed over the same file in the same run. Builds the program where it is not there yet. Needs sed and python3.
+# All measurements of `replay` in one table: refused lines, notes and entries (`lines.py`), hands of folds (`folds.py`),
+# of all acts (`acts.py`) and with showdowns in each game (`showdowns.py`), and one table and 64 (`tables.py`). Each row
+# has the time of sed over the same file in the same run. Builds the program where it is not there yet. Needs sed and
+# python3.
 set -euo pipefail
 cd "$(dirname "$0")/.."
 . bench/timing.sh
@@ -9,8 +10,9 @@ cd "$(dirname "$0")/.."
 table_head
 python3 bench/lines.py "$work"
 table_row "refused lines" "$work/refused" "no 1 Syntax"
+table_row "notes" "$work/notes" ok
 table_row "entries" "$work/entries" "no 1 Syntax"
-rm "$work/refused" "$work/entries" "$work/limit"
+rm "$work/refused" "$work/notes" "$work/entries" "$work/limit"
 python3 bench/folds.py "$work"
 table_row "hands of folds" "$work/hands" ok
 python3 bench/folds.py "$work" shuffled

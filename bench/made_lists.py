@@ -1,15 +1,15 @@
 #!/usr/bin/env python3
 """Compares the program with the model over lists of events that are made from a seed, lawful and unlawful.
 
-Each answer, each line of the report, the status and err are compared. A list that tells the two apart is made as short
-as it can be, and is printed with both texts. At the end it says how many lists, lines and hands there were, how often
-each answer came, and how many entries, moves, levels, races and rounds were accepted. The status is 1 where a list told
-them apart.
+Each answer, each line of the report, the status and err are compared. So they are for what is kept of each list: its
+accepted lines up to a stop, and its report behind them, of which each line is `ok` and which ends with that report
+again. A list that tells the two apart is made as short as it can be, and is printed with both texts. It says how many
+lists, lines, hands, notes and ties there are, how many entries come after somebody is out, how often each answer comes,
+and how many entries, moves, levels, races and rounds are accepted. The status is 1 where a list told them apart.
 
-Usage: bench/made_lists.py [--lists N] [--seed N] [--unproved] [--program PATH] [--built PART,PART..]
+Usage: bench/made_lists.py [--lists N] [--seed N] [--unproved] [--program PATH]
 
-The program is the one of `./floor`; with --unproved it is built from the sources before any proof, by `rt try`. --built
-names parts of the product (PARTS of the model) that the program has beside those of BUILT; `--built all` names all.
+The program is the one of `./floor`; with --unproved it is built from the sources before any proof, by `rt try`.
 """
 import argparse
 import os
@@ -18,7 +18,6 @@ import sys
 import tempfile
 from collections import Counter
 
-from rules.built import BUILT, PARTS
 from rules.lines import lines_of
 from rules.maker import Maker
 from rules.step import replayed
@@ -32,6 +31,26 @@ PROGRAM = os.path.join(TOP, "crates", "floor_replay", "out", "floor_replay")
 def modelled(text):
     answers, report = replayed(text)
     return "".join(line + "\n" for line in answers + report)
+
+
+def with_its_report(text):
+    """What is kept of a tournament: its accepted lines up to a stop, and its report behind them. The model answers `ok`
+    to each line, and ends with the same report. None where no plan was given."""
+    book = Tournament()
+    answers, _ = replayed(text, book)
+    if book.level == 0:
+        return None
+    lines = [line for line, answer in zip(lines_of(text), answers) if answer == "ok"]
+    if not book.stopped:
+        lines.append(b"stop")
+    _, report = replayed(joined(lines))
+    kept = joined(lines + [line.encode() for line in report])
+    assert replayed(kept) == (["ok"] * len(lines_of(kept)), report), kept
+    return kept
+
+
+def joined(lines):
+    return b"".join(line + b"\n" for line in lines)
 
 
 def ran(program, text):
@@ -65,33 +84,49 @@ def shortest(program, text):
         place = 0
         while place < len(lines):
             fewer = lines[:place] + lines[place + step:]
-            if differs(program, b"".join(line + b"\n" for line in fewer)):
+            if differs(program, joined(fewer)):
                 lines = fewer
             else:
                 place += step
         step //= 2
-    return b"".join(line + b"\n" for line in lines)
+    return joined(lines)
 
 
 def accepted_words(text, given):
-    """How often each first word of a line was accepted."""
-    return Counter(line.split()[0].decode() for line, answer in zip(lines_of(text), given) if answer == "ok")
+    """How often each first word of a line was accepted, `*` for notes; `* refused` for those that are too long."""
+    words = Counter()
+    for line, answer in zip(lines_of(text), given):
+        if line.startswith(b"*"):
+            words["*" if answer == "ok" else "* refused"] += 1
+        elif answer == "ok":
+            words[line.split()[0].decode()] += 1
+    return words
+
+
+def ties_in(report):
+    """How many players share a place in a report."""
+    places = Counter(line.split()[2] for line in report if line.startswith("* out "))
+    return sum(players for players in places.values() if players > 1)
 
 
 def count(texts):
-    """Says how many lines, hands, showdowns and players who go out there are, and how often each answer comes."""
+    """Says how many lines, hands, showdowns, players who go out, notes and ties there are, and how often each answer
+    comes."""
     answers, games, counts, words, tables = Counter(), Counter(), Counter(), Counter(), Counter()
     for text in texts:
         book = Tournament()
-        given, _ = replayed(text, book)
+        given, report = replayed(text, book)
         games[book.plan.get("game", "no game")] += book.showdowns
-        counts.update(hands=book.hands_begun, out=len(book.busts), over=book.is_over())
+        counts.update(hands=book.hands_begun, out=len(book.busts), over=book.is_over(), ties=ties_in(report),
+                      late=book.entries_after_a_bust)
         tables[len(book.tables)] += 1
         words.update(accepted_words(text, given))
         answers.update(" ".join(answer.split()[:3]) for answer in given)
     print(f"{len(texts)} lists, {answers.total()} lines, {counts['hands']} hands begun, "
           f"{words['begin'] - words['settle']} of them void or open at the end, {counts['out']} players out, "
           f"{counts['over']} tournaments over")
+    print(f"{words['*']} notes, {words['* refused']} more that were too long; {counts['ties']} players who tie; "
+          f"{counts['late']} entries after somebody was out")
     print("showdowns:", ", ".join(f"{game} {games[game]}" for game in ("holdem", "omaha", "hilo")))
     print("tables:", ", ".join(f"{number} in {tables[number]} lists" for number in sorted(tables)))
     print("accepted:", ", ".join(f"{word} {words[word]}" for word in MOVES if words[word]))
@@ -118,11 +153,12 @@ def main():
     words.add_argument("--seed", type=int, default=1)
     words.add_argument("--unproved", action="store_true")
     words.add_argument("--program", default=PROGRAM)
-    words.add_argument("--built", default="")
     words = words.parse_args()
-    BUILT.update(PARTS if words.built == "all" else filter(None, words.built.split(",")))
     texts = [Maker(words.seed * 1_000_000 + number).make() for number in range(words.lists)]
     count(texts)
+    kept = list(filter(None, map(with_its_report, texts)))
+    print(f"{len(kept)} of them are played again as what is accepted of them, with their reports behind it")
+    texts += kept
     if words.unproved:
         run = try_unproved(texts)
         print(run.stdout + run.stderr.splitlines()[-1])

@@ -1,6 +1,5 @@
 #!/usr/bin/env python3
-"""A plain model of the program by its rules, written apart from the code of the crates. What the program has of the
-whole product stands in `rules/built.py`.
+"""A plain model of the program by its rules, written apart from the code of the crates.
 
 `model.py < LINES` writes what `replay` writes: an answer to each line, and the report. `model.py --rows` tries the
 model on worked cases. `made_lists.py` compares the program with it over made lists of events.

@@ -8,5 +8,6 @@ cd "$(dirname "$0")/.."
 python3 bench/lines.py "$work"
 table_head
 table_row "refused lines" "$work/refused" "no 1 Syntax"
+table_row "notes" "$work/notes" ok
 table_row "entries" "$work/entries" "no 1 Syntax"
 echo "memory at the peak over $(stat -c %s "$work/limit") bytes of input: $(peak "$work/limit") KiB"

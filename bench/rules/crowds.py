@@ -68,9 +68,10 @@ def hall_plan(maker):
     blinds = maker.levels(rng.choice([5, 25, 100]))
     late = rng.randint(1, len(blinds))
     stack = blinds[late - 1][2] * rng.choice([1, 2, 3, 5, 10, 20, 40])
+    buy_in = rng.choice([0, 1, 10, 1000000000])
     for line in [f"game {rng.choice(['holdem', 'omaha', 'hilo'])}", f"tables {rng.choice([3, 5, 8, 16, 33, 64, 64])}",
-                 f"seats {rng.randint(2, 10)}", f"stack {stack}", "buyin 10", f"late {late}",
-                 *(f"blinds {small} {big} {unit}" for small, big, unit in blinds), "shares 500 300 200", "go"]:
+                 f"seats {rng.randint(2, 10)}", f"stack {stack}", f"buyin {buy_in}", f"late {late}",
+                 *(f"blinds {small} {big} {unit}" for small, big, unit in blinds), maker.shares(), "go"]:
         maker.put(line)
 
 

@@ -2,7 +2,6 @@
 import re
 from dataclasses import dataclass
 
-from rules.built import BUILT
 from rules.cards import cards_of
 from rules.hand import Act
 
@@ -101,11 +100,11 @@ GRAMMAR = {
 
 
 def event_of_line(line):
-    """The event of a line of bytes, `None` outside of the grammar; a note is an event of its own."""
+    """The event of a line of bytes, `None` outside of the grammar; a note is one without anything behind its word."""
     if len(line) > LONGEST_LINE:
         return None
     if line.startswith(b"*"):
-        return Event("*") if "notes" in BUILT else None
+        return Event("*")
     try:
         return event_of_words(line.decode("ascii").split(" "))
     except ValueError:

@@ -9,6 +9,7 @@ from rules.tournament import Tournament
 
 PLAYERS = ["ann", "bob", "cat", "dan", "eve", "fay", "gus", "hal", "ida", "jim", "kim", "leo"]
 CARDS = [text_of([card]) for card in SORTED_DECK]
+NO_LINE_FEED = [chr(byte) for byte in range(256) if byte != 10]
 
 
 def break_line(table, places, names):
@@ -16,7 +17,8 @@ def break_line(table, places, names):
 
 
 class Maker:
-    """Makes one list. It plays the list on the model as it goes, so that it knows what would be lawful."""
+    """Makes one list. It plays the list on the model as it goes, so that it knows what would be lawful. A character of
+    a line stands for the byte of its number."""
 
     def __init__(self, seed):
         self.rng = random.Random(seed)
@@ -27,9 +29,12 @@ class Maker:
         self.is_wild = self.odds(40)
 
     def put(self, line):
-        event = event_of_line(line.encode())
+        event = event_of_line(line.encode("latin-1"))
         self.answers.append(apply(self.book, event) if event else "no 1 Syntax")
         self.lines.append(line)
+
+    def text(self):
+        return "\n".join(self.lines).encode("latin-1")
 
     def odds(self, percent):
         return self.rng.random() * 100 < percent
@@ -49,23 +54,30 @@ class Maker:
         stack = blinds[-1][2] * rng.choice([1, 2, 3, 5, 8, 20, 20, 50, 50, 100])
         game = rng.choice(["holdem", "omaha", "hilo"])
         tables = rng.choice([1, 1, 2, 2, 3, 4, 6])
-        shares = sorted((rng.randint(1, 300) for _ in range(rng.randint(1, 5))), reverse=True)
-        while sum(shares) > 1000:
-            shares.pop()
         items = [f"game {game}", f"tables {tables}", f"seats {rng.randint(2, 10)}", f"stack {stack}",
                  f"buyin {rng.choice([0, 1, 100, 999, 1000000000])}", f"late {rng.randint(1, len(blinds))}",
                  *(f"blinds {small} {big} {unit}" for small, big, unit in blinds),
-                 "shares " + " ".join(map(str, shares))]
+                 self.shares()]
         if self.odds(25):
             rng.shuffle(items)
         for item in items:
             if self.odds(8):
                 self.put(self.wrong_plan_line())
+            if self.odds(3):
+                self.put(self.note())
             if not self.odds(1):
                 self.put(item)
         if self.odds(10):
             self.put(self.wrong_plan_line())
         self.put("go")
+
+    def shares(self):
+        """Few large shares or many small ones, which are rarely the whole pool."""
+        count = self.rng.choice([1, 2, 3, 4, 5, 10, 20, 64])
+        shares = sorted((self.rng.randint(1, min(1000, 2000 // count)) for _ in range(count)), reverse=True)
+        while sum(shares) > 1000:
+            shares.pop()
+        return "shares " + " ".join(map(str, shares))
 
     def levels(self, unit):
         """Blinds level by level, each unit that of the level before times 1 to 6."""
@@ -89,18 +101,27 @@ class Maker:
             "shares " + " ".join(str(rng.choice([0, 1, 500, 501, 1000, 1001]))
                                  for _ in range(rng.choice([1, 2, 3, 64])))])
 
-    # -- what is wrong as a line --
+    # -- notes, and what is wrong as a line --
+
+    def note(self):
+        """A star and any bytes behind it, mostly few, often as many as a note may have, now and then more; or a line as
+        of a report."""
+        length = self.pick((50, self.rng.randrange(20)), (15, self.rng.randrange(400)), (15, 399), (10, 400),
+                           (2, self.rng.randint(401, 900)), (8, None))
+        if length is None:
+            return self.rng.choice(self.book.report())
+        return "*" + "".join(self.rng.choices(NO_LINE_FEED, k=length))
 
     def mangled(self):
         """A line of no grammar, or close to it."""
-        rng, line = self.rng, self.natural()
+        rng, line = self.rng, self.an_event()
         return rng.choice([
-            "", " ", "*", "* report", "* a note", "stop ", " stop", "go go", "stop\r", "Stop", "begin 1", "act 1 ann",
+            "", " ", " *", " * a note", "stop *", "stop ", " stop", "go go", "stop\r", "Stop", "begin 1", "act 1 ann",
             "act 1 ann fold fold", "act 1 ann bet", "act 1 ann raise 0400", "enter floor 1 1", "enter Floor 1 1",
             "enter 1ann 1 1", "enter abcdefghijklmnop 1 1", "enter abcdefghijklmnopq 1 1", "enter ann 01 1",
             "settle 9007199254740991", "settle 9007199254740992", "shares", "shares" + " 1" * 65, "hands out",
-            "break 1 1.1,1.1 ann", "break 1 65.1 ann", "break 1 1.11 ann", "break 1 1.0 ann", "*" + "x" * 399,
-            "*" + "x" * 400, "stop" + " " * 396, "é", "begin 1 " + text_of(SORTED_DECK)[:-1] + "x",
+            "break 1 1.1,1.1 ann", "break 1 65.1 ann", "break 1 1.11 ann", "break 1 1.0 ann",
+            "stop" + " " * 396, "é", "\xff", "begin 1 " + text_of(SORTED_DECK)[:-1] + "x",
             line + " ", line.replace(" ", "  ", 1), line.upper(), line[:-1], line + "0"])
 
     # -- what is done in a tournament --
@@ -258,6 +279,10 @@ class Maker:
         return f"race {self.rng.choice(racing) if racing and not self.odds(10) else self.a_table()} {self.a_row()}"
 
     def natural(self):
+        """Now and then a note, and else an event."""
+        return self.note() if self.odds(5) else self.an_event()
+
+    def an_event(self):
         """What is done next, by how the tournament stands: most of it is lawful."""
         book, rng = self.book, self.rng
         playing = sorted(book.playing_tables())
@@ -279,10 +304,11 @@ class Maker:
         special = self.pick((0.5, crowd), (0.1, crowd_at_one_table), (6, hall), (93.4, None))
         if special:
             special(self)
-            return "\n".join(self.lines).encode()
+            return self.text()
         if self.odds(3):
             for _ in range(self.rng.randint(1, 12)):
-                self.put(self.rng.choice([self.mangled(), self.wrong_plan_line(), self.enter(), self.begin(), "stop"]))
+                self.put(self.rng.choice([self.mangled(), self.note(), self.wrong_plan_line(), self.enter(),
+                                          self.begin(), "stop"]))
         self.plan()
         after_end = self.rng.randint(0, 9)
         for _ in range(self.rng.choice([10, 60, 120, 400, 800])):
@@ -290,5 +316,4 @@ class Maker:
             after_end -= self.book.stopped or self.book.level == 0 or self.book.is_over()
             if after_end < 0:
                 break
-        text = "\n".join(self.lines) + ("" if self.odds(5) else "\n")
-        return text.encode()
+        return self.text() + (b"" if self.odds(5) else b"\n")

@@ -2,7 +2,6 @@
 from collections import Counter
 from dataclasses import dataclass, field
 
-from rules.built import BUILT
 from rules.hand import Hand, next_big, next_marks
 from rules.places import standings_of
 
@@ -32,7 +31,7 @@ class Tournament:
         self.busts = []
         self.group = 0
         self.removed = self.added = 0
-        self.hands_begun = self.showdowns = 0
+        self.hands_begun = self.showdowns = self.entries_after_a_bust = 0
         self.stopped = False
 
     # -- what is read off the lists --
@@ -130,6 +129,7 @@ class Tournament:
         self.entries.append(player)
         self.seats[table, seat] = player
         self.stacks[player] = self.plan["stack"]
+        self.entries_after_a_bust += bool(self.busts)
 
     def begin(self, table, deck):
         """The hand has the next marks, who sits there and does not wait, and the current level's blinds and unit."""
@@ -248,6 +248,5 @@ class Tournament:
         for (table, seat), player in sorted(self.seats.items()):
             playing = player in self.tables[table].dealt.values()
             lines.append(f"* seat {table} {seat} {player} {'play' if playing else self.stacks[player]}")
-        if "places" in BUILT:
-            lines += [f"* out {rank} {player} {prize}" for rank, player, prize in standings_of(self)]
+        lines += [f"* out {rank} {player} {prize}" for rank, player, prize in standings_of(self)]
         return lines + ["* end"]

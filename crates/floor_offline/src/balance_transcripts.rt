@@ -169,6 +169,7 @@ settle 1
 * seat 3 2 jim 900
 * seat 3 4 kim 1000
 * seat 3 5 ida 900
+* out 11 dan 0
 * end
 ",
         ],

@@ -101,6 +101,9 @@ settle 1
 * rest 3000
 * play 0
 * seat 1 6 cat 3000
+* out 1 cat 210
+* out 2 ann 90
+* out 3 bob 0
 * end
 ",
     },

@@ -36,6 +36,10 @@ mod many_tables_tests;
 #[cfg(test)]
 mod over_transcripts;
 #[cfg(test)]
+mod place_tests;
+#[cfg(test)]
+mod place_transcripts;
+#[cfg(test)]
 mod pot_limit_transcripts;
 #[cfg(test)]
 mod race_transcripts;

@@ -68,6 +68,8 @@ enter cat 1 2 : no 5 Stopped
 * rest 2000
 * play 0
 * seat 1 1 ann 2000
+* out 1 ann 140
+* out 2 bob 60
 * end
 ",
         ],
@@ -103,6 +105,8 @@ hands on : no 43 Over
 * rest 2000
 * play 0
 * seat 1 1 ann 2000
+* out 1 ann 140
+* out 2 bob 60
 * end
 ",
         ],

@@ -164,6 +164,7 @@ enter dan 1 1
 * seat 1 1 dan 5000
 * seat 1 2 bob 11800
 * seat 1 3 cat 3200
+* out 4 ann 0
 * end
 ",
         ],
@@ -409,6 +410,7 @@ settle 1 : no 5 Stopped
 * play 0
 * seat 1 1 ann 2900
 * seat 1 5 eve 100
+* out 3 bob 0
 * end
 ",
         ],

@@ -97,6 +97,7 @@ level
 * seat 2 1 dan 1000
 * seat 2 2 eve 900
 * seat 2 3 fay 900
+* out 7 bob 0
 * end
 ",
         ],
@@ -201,6 +202,8 @@ settle 1
 * rest 2100
 * play 0
 * seat 1 4 bob 2100
+* out 1 bob 140
+* out 2 ann 60
 * end
 ",
         ],

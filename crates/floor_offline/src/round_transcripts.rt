@@ -333,6 +333,10 @@ break 2 1.2,1.3,1.6 bob,fay,hal : no 38 DrawWrong
 * seat 2 1 bob 1000
 * seat 2 3 fay 700
 * seat 2 4 hal 1100
+* out 7 gus 0
+* out 8 cat 0
+* out 8 dan 0
+* out 8 eve 0
 * end
 ",
         ],
@@ -395,6 +399,9 @@ round
 * seat 2 2 dan 900
 * seat 2 3 fay 1000
 * seat 2 5 jim 1000
+* out 8 hal 0
+* out 9 cat 0
+* out 9 eve 0
 * end
 ",
         ],

@@ -99,6 +99,10 @@ settle 1 : no 14 NotPlaying
 * rest 4000
 * play 0
 * seat 1 4 dan 4000
+* out 1 dan 280
+* out 2 ann 120
+* out 3 cat 0
+* out 4 bob 0
 * end
 ",
         ],
@@ -150,6 +154,7 @@ enter kim 1 2
 * seat 1 8 hal 600
 * seat 1 9 ida 1000
 * seat 1 10 jim 1000
+* out 11 bob 0
 * end
 ",
         ],
@@ -285,6 +290,9 @@ enter dan 1 2 : no 43 Over
 * rest 300
 * play 0
 * seat 1 6 cat 300
+* out 1 cat 210
+* out 2 ann 90
+* out 3 bob 0
 * end
 ",
         ],
@@ -333,6 +341,7 @@ settle 1 : no 5 Stopped
 * seat 1 2 eve 1000
 * seat 1 4 dan 900
 * seat 1 6 cat 1100
+* out 5 bob 0
 * end
 ",
         ],
@@ -354,6 +363,7 @@ settle 1 : no 5 Stopped
 * seat 1 4 dan 1000
 * seat 1 5 eve play
 * seat 1 6 flo play
+* out 5 cat 0
 * end
 ",
         ],
@@ -396,6 +406,7 @@ settle 1
 * seat 1 4 dan 1000
 * seat 1 5 eve 700
 * seat 1 6 flo 800
+* out 5 cat 0
 * end
 ",
         ],
@@ -448,6 +459,7 @@ settle 1
 * seat 1 1 ann 2300
 * seat 1 3 cat 1000
 * seat 1 6 flo 700
+* out 4 eve 0
 * end
 ",
         ],

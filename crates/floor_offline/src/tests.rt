@@ -150,7 +150,7 @@ pub fn follow(rt: &impl Abort, alloc: Global, transcript: &Transcript) -> Result
     let mut answers = Vec::new(alloc);
     for part in transcript.parts {
         for line in part.lines() {
-            if line.starts_with('*') {
+            if line.starts_with('*') && line.split_once(" : ").is_none() {
                 add_answer(&mut answers, line)?;
             } else {
                 let (line, answer) = with_answer(line);
@@ -167,6 +167,20 @@ fn transcripts_are_followed(rt: HostRuntime) -> Result<(), Fail> {
     for transcript in TRANSCRIPTS {
         follow(&rt, rt.alloc(), transcript)?;
     }
+    Ok(())
+}
+
+/// A note of 400 bytes, one of 401, a line of the byte 255, and a line without a line feed.
+const BYTES: &[u8] =
+    b"*xxxxxxxxxxxxxxxxxxxxxxxxxxxxxxxxxxxxxxxxxxxxxxxxxxxxxxxxxxxxxxxxxxxxxxxxxxxxxxxxxxxxxxxxxxxxxxxxxxxxxxxxxxxxxxxxxxxxxxxxxxxxxxxxxxxxxxxxxxxxxxxxxxxxxxxxxxxxxxxxxxxxxxxxxxxxxxxxxxxxxxxxxxxxxxxxxxxxxxxxxxxxxxxxxxxxxxxxxxxxxxxxxxxxxxxxxxxxxxxxxxxxxxxxxxxxxxxxxxxxxxxxxxxxxxxxxxxxxxxxxxxxxxxxxxxxxxxxxxxxxxxxxxxxxxxxxxxxxxxxxxxxxxxxxxxxxxxxxxxxxxxxxxxxxxxxxxxxxxxxxxxxxxxxxxxxxxxxxxxxxxxxxxxxxxxxxxxxxxx\n*xxxxxxxxxxxxxxxxxxxxxxxxxxxxxxxxxxxxxxxxxxxxxxxxxxxxxxxxxxxxxxxxxxxxxxxxxxxxxxxxxxxxxxxxxxxxxxxxxxxxxxxxxxxxxxxxxxxxxxxxxxxxxxxxxxxxxxxxxxxxxxxxxxxxxxxxxxxxxxxxxxxxxxxxxxxxxxxxxxxxxxxxxxxxxxxxxxxxxxxxxxxxxxxxxxxxxxxxxxxxxxxxxxxxxxxxxxxxxxxxxxxxxxxxxxxxxxxxxxxxxxxxxxxxxxxxxxxxxxxxxxxxxxxxxxxxxxxxxxxxxxxxxxxxxxxxxxxxxxxxxxxxxxxxxxxxxxxxxxxxxxxxxxxxxxxxxxxxxxxxxxxxxxxxxxxxxxxxxxxxxxxxxxxxxxxxxxxxxxxx\n\xff\nstop";
+
+const ANSWERS_TO_BYTES: &[u8] =
+    b"ok\nno 1 Syntax\nno 1 Syntax\nno 2 NoPlan\n* report\n* level 0\n* sold 0\n* removed 0\n* added 0\n* rest 0\n* play 0\n* end\n";
+
+#[test]
+fn lines_of_any_bytes_are_answered(rt: HostRuntime) -> Result<(), Fail> {
+    let input = Vec::from_slice(rt.alloc(), BYTES)?;
+    compare(&rt, rt.alloc(), "bytes", input, ANSWERS_TO_BYTES)?;
     Ok(())
 }
 

@@ -1,5 +1,5 @@
 //! Transcripts of acts, on all streets. A line is answered by what stands behind ` : `, and else `ok`; a line that
-//! begins with `*` is one of the report. `SORTED` and `ACES` stand for rows.
+//! begins with `*` and has no answer is one of the report. `SORTED` and `ACES` stand for rows.
 
 /// A named transcript, in parts.
 #[derive(Clone, Copy)]
@@ -157,6 +157,8 @@ enter cat 1 2 : no 5 Stopped
 * rest 2000
 * play 0
 * seat 1 1 ann 2000
+* out 1 ann 140
+* out 2 bob 60
 * end
 ",
         ],
