@@ -59,7 +59,7 @@ fn answer_handed(
 }
 
 /// Puts the report, by one put. Nothing is held back behind it.
-#[tactic(auto, unfolding(crate::specs::Replay::final_text))]
+#[tactic(auto, unfolding(tournament_rules::specs::Replay::final_text))]
 fn put_report<O: Sink>(alloc: Global, tournament: &Tournament, out: &mut O) -> Result<(), Fault>
     ensures ok { OnOk result (IfSome (O.written out.old)
         (λ before. O.written out.new ≡ Some (before ++ final_text tournament.now))) }

@@ -19,7 +19,7 @@ use Rattle.tournament_rules.specs.Books.{BookState}
 use Rattle.tournament_rules.specs.Checks.{is_over_for_all}
 use Rattle.tournament_rules.specs.Report.{reported_out, standings_in, book_report}
 use Rattle.tournament_rules.specs.Valid.{IsValid, is_bust_of}
-use Rattle.tournament_rules.proofs.Fitting.{table_range}
+use Rattle.tournament_rules.proofs.Entries.{right_has}
 use Rattle.tournament_rules.proofs.InOrBust.{all-counted, one_row}
 use Rattle.tournament_laws.proofs.TheWinner.{over-won, none_won}
 
@@ -57,26 +57,6 @@ busts-distinct book valid = once-distinct book.busts (λ number.
     let most = one_row book.entries number in
     omega (arith, his, most))
 
-shares_fit : (shares : List ℕ) → are_shares shares ≡ true → (1 ≤ length shares) × (sum shares ≤ 1000)
-shares_fit shares right =
-    let some = and_parts (is_between 1 most_shares (length shares)) _ right in
-    let each = and_parts (list_all (is_between 1 whole_pool) shares) _ some.1 in
-    let falls = and_parts (is_falling shares) _ each.1 in
-    ((table_range 1 most_shares (length shares) some.0).0, leb-true (sum shares) whole_pool falls.1)
-
--- A right plan has a share, and its shares are together at most the whole pool.
-shares_right : (plan : PlanTerms) → is_right plan ≡ true → (1 ≤ length plan.shares) × (sum plan.shares ≤ 1000)
-shares_right plan right =
-    let tables = and_parts (is_between 1 most_tables plan.tables) _ right in
-    let seats = and_parts (is_between fewest_seats most_seats plan.seats) _ tables.1 in
-    let stack = and_parts (is_between 1 greatest_amount plan.stack) _ seats.1 in
-    let buyin = and_parts (nat_le plan.buyin greatest_amount) _ stack.1 in
-    let late = and_parts (is_between 1 (length plan.blinds) plan.late) _ buyin.1 in
-    let count = and_parts (nat_le (length plan.blinds) most_levels) _ late.1 in
-    let levels = and_parts (are_levels plan.blinds) _ count.1 in
-    let shares = and_parts (are_shares plan.shares) _ levels.1 in
-    shares_fit plan.shares shares.0
-
 -- The prizes that are reported are those of the standings.
 prizes-reported : (book : BookState) → sum_by (λ out. out.prize) (book_report book).outs
     ≡ sum_by (λ standing. standing.prize) (standings_in book)
@@ -94,18 +74,18 @@ prizes-over book valid over =
     let won = over-won book over in
     let one = ap length won.1.alone in
     let all = all-counted book.entries book.seating.players book.busts valid.entries.once in
-    let shares = shares_right book.plan valid.plan.right in
+    let plan = right_has book.plan valid.plan.right in
     prizes-reported book
     ∙ ap (prizes_with book) won.1.is
     ∙ over-sum (length book.entries) won.0 book.plan.buyin book.plan.shares book.busts (busts-distinct book valid)
-    (omega (arith, one, all)) shares.0 shares.1
+    (omega (arith, one, all)) plan.some_shares plan.most_shared
 
 -- Before it is over they are no more.
 pub prizes-before : (book : BookState) → IsValid book → is_over_for_all book ≡ false
     → sum_by (λ out. out.prize) (book_report book).outs ≤ pool_of (length book.entries) book.plan.buyin
 prizes-before book valid going =
     let said = prizes-reported book ∙ ap (prizes_with book) (none_won book going) in
-    let shares = shares_right book.plan valid.plan.right in
+    let plan = right_has book.plan valid.plan.right in
     let within = out-sum (length book.entries) book.plan.buyin book.plan.shares book.busts (busts-distinct book valid)
-    shares.1 in
+    plan.most_shared in
     omega (arith, said, within)
