@@ -1,15 +1,10 @@
 -- The prizes that are reported are the pool.
 use Rattle.std.proofs.Common.{◌≡◌, ◌∙◌, refl, ap, ℕ, ◌+◌, ◌≤◌, Bool, true, false, cond, ◌==◌, List, [], ◌∷◌, map, length, arith}
-use Rattle.std.specs.Prelude.{sum, sum_by, count_by, not, nat_le, Option}
-use Rattle.std.specs.List.{list_all}
-use Rattle.std.proofs.lemmas.Bool.{and_parts, and_from, eq-eqb, leb-true}
+use Rattle.std.specs.Prelude.{sum_by, count_by, not, Option}
+use Rattle.std.proofs.lemmas.Bool.{and_from, eq-eqb}
 use Rattle.std.proofs.lemmas.List.Folds.{list_all-map}
 use Rattle.rulebook.specs.Pairs.{are_distinct}
 use Rattle.rulebook.proofs.Tests.{count_by-cons, sum_by-map, list_all-follows, none_by_count, eqb-swap}
-use Rattle.level_plan.specs.Plans.{PlanTerms, is_right}
-use Rattle.rulebook.specs.Limits.{most_seats, most_tables}
-use Rattle.level_plan.specs.Limits.{fewest_seats, greatest_amount, most_levels, most_shares, whole_pool}
-use Rattle.level_plan.specs.Items.{is_between, are_levels, is_falling, are_shares}
 use Rattle.place_list.specs.declared.bust.Bust.{Bust}
 use Rattle.place_list.specs.Prizes.{pool_of}
 use Rattle.place_list.specs.Standings.{standings_of}
