@@ -3,3 +3,4 @@ pub mod Fields
 pub mod Moves
 pub mod Pay
 pub mod Seats
+pub mod Tables

@@ -1,10 +1,9 @@
 //! What the book says of an act, of a called time and of a settle, before the hand is asked.
 
-ghost use Rattle.std.specs.Prelude.{◌≡◌, ◌<◌, length, Some, IfOk, IsSome};
-ghost use Rattle.table_engine.specs.declared.start.HandStart.{HandStart};
+ghost use Rattle.std.specs.Prelude.{IfOk};
 ghost use Rattle.rulebook.specs.Checks.{IsChecked};
-ghost use Rattle.tournament_rules.specs.Books.{start_at};
 ghost use Rattle.tournament_rules.specs.Checks.{before_act_checks, before_hand_checks};
+ghost use Rattle.floor_core.specs.Tables.{IsPlayedAt};
 
 use crate::book::Book;
 use floor_text::{Name, Refusal};
@@ -13,9 +12,7 @@ impl Book {
     /// Makes the checks of an act before those of the hand, and gives the table's number.
     pub(crate) fn check_act(&self, table: u64, name: Name) -> Result<u8, Refusal>
         ensures checked { IsChecked (before_act_checks self.now table name) result }
-        ensures same { IfOk result (λ number. number ≡ table) }
-        ensures within { IfOk result (λ number. number < length self.now.started) }
-        ensures started { IfOk result (λ number. IsSome (start_at self.now.started number)) }
+        ensures told { IfOk result (IsPlayedAt self.now table) }
     {
         self.check_going()?;
         self.check_known(name)?;
@@ -25,11 +22,7 @@ impl Book {
     /// Makes the checks of a called time and of a settle before those of the hand, and gives the table's number.
     pub(crate) fn check_hand(&self, table: u64) -> Result<u8, Refusal>
         ensures checked { IsChecked (before_hand_checks self.now table) result }
-        ensures same { IfOk result (λ number. number ≡ table) }
-        ensures within { IfOk result (λ number. number < length self.now.started) }
-        ensures started { IfOk result (λ number. IsSome (start_at self.now.started number)) }
-        ensures here { IfOk result (λ number. (start : HandStart)
-            → start_at self.now.started number ≡ Some start → start.table ≡ number) }
+        ensures told { IfOk result (IsPlayedAt self.now table) }
     {
         self.check_going()?;
         self.check_playing(table)

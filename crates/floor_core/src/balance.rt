@@ -3,14 +3,14 @@
 ghost use Rattle.std.specs.Prelude.{◌≡◌, ◌<◌, ◌≤◌, ◌^◌, ◌++◌, Some, None, option_map, IfOk, OnOk, OnErr};
 ghost use Rattle.rulebook.specs.Limits.{most_entries};
 ghost use Rattle.rulebook.specs.Checks.{IsChecked};
-ghost use Rattle.seat_book.specs.Places.{IsTableOf, IsPlaceOf};
+ghost use Rattle.seat_book.specs.Places.{IsPlaceOf};
 ghost use Rattle.seat_book.specs.Players.{player_at, player_of};
-ghost use Rattle.seat_book.specs.Counts.{count_at};
 ghost use Rattle.balance_rule.specs.Balance.{balance_move};
 ghost use Rattle.table_engine.specs.Acts.{IsAnswer};
 ghost use Rattle.floor_events.specs.declared.event.Event.TheVariants as events;
 ghost use Rattle.tournament_rules.specs.Checks.{going_checks, both_open_checks, leaving_checks, all_balance_checks, book_refusal};
 ghost use Rattle.tournament_rules.specs.Effects.{balanced};
+ghost use Rattle.floor_core.specs.Tables.{AreOpen};
 
 use crate::BookFault;
 use crate::book::Book;
@@ -43,12 +43,7 @@ impl Book {
     fn check_to_balance(&self, from: u64, to: u64) -> Result<OpenTables, Refusal>
         ensures checked { IsChecked (going_checks self.now
             ++ both_open_checks self.now from to ++ leaving_checks self.now from) result }
-        ensures from { IfOk result (λ tables. tables.from ≡ from) }
-        ensures to { IfOk result (λ tables. tables.to ≡ to) }
-        ensures from_within { IfOk result (λ tables. IsTableOf self.now.seating.table_count tables.from) }
-        ensures to_within { IfOk result (λ tables. IsTableOf self.now.seating.table_count tables.to) }
-        ensures from_open { IfOk result (λ tables. 1 ≤ count_at self.now.seating.players tables.from) }
-        ensures to_open { IfOk result (λ tables. 1 ≤ count_at self.now.seating.players tables.to) }
+        ensures told { IfOk result (AreOpen self.now from to) }
     {
         self.check_going()?;
         let tables = self.check_both_open(from, to)?;

@@ -1,13 +1,13 @@
 //! The checks, a group at a time, as the definition has them. What an event's checks are of these its own file says.
 
-ghost use Rattle.std.specs.Prelude.{◌≡◌, ◌<◌, ◌≤◌, ◌&&◌, false, nat_lt, length, is_some, Some, IfSome, IfOk, IsSome, OnOk};
+ghost use Rattle.std.specs.Prelude.{◌≡◌, ◌<◌, ◌≤◌, ◌&&◌, false, nat_lt, is_some, IfSome, IfOk, OnOk};
 ghost use Rattle.rulebook.specs.Checks.{IsChecked};
 ghost use Rattle.seat_book.specs.Places.{IsTableOf, IsPlaceOf};
 ghost use Rattle.seat_book.specs.Counts.{count_at};
 ghost use Rattle.balance_rule.specs.Halting.{is_halted};
-ghost use Rattle.table_engine.specs.declared.start.HandStart.{HandStart};
-ghost use Rattle.tournament_rules.specs.Books.{has_table, has_seat_number, start_at};
+ghost use Rattle.tournament_rules.specs.Books.{has_table, has_seat_number};
 ghost use Rattle.tournament_rules.specs.Checks.{is_table_open, may_be_entered, is_taken, is_not_fewest, going_checks, newcomer_checks, seat_checks, over_checks, entry_checks, room_checks, open_table_checks, not_playing_checks, no_race_checks, enough_checks, table_checks, deck_checks, due_checks, known_checks, playing_checks, leaving_checks, round_checks, both_open_checks, draw_checks};
+ghost use Rattle.floor_core.specs.Tables.{IsPlayedAt, AreOpen};
 
 use crate::book::Book;
 use balance_rule::halted;
@@ -304,11 +304,7 @@ impl Book {
     /// Checks that there is such a table and that a hand is played there, and gives the table's number.
     pub(crate) fn check_playing(&self, table: u64) -> Result<u8, Refusal>
         ensures checked { IsChecked (playing_checks self.now table) result }
-        ensures same { IfOk result (λ number. number ≡ table) }
-        ensures within { IfOk result (λ number. number < length self.now.started) }
-        ensures started { IfOk result (λ number. IsSome (start_at self.now.started number)) }
-        ensures here { IfOk result (λ number. (start : HandStart)
-            → start_at self.now.started number ≡ Some start → start.table ≡ number) }
+        ensures told { IfOk result (IsPlayedAt self.now table) }
     {
         let Some(number) = self.table_number(table) else {
             return Err(Refusal::NoTable);
@@ -341,12 +337,7 @@ impl Book {
     /// Checks that both tables are open, and gives their numbers.
     pub(crate) fn check_both_open(&self, from: u64, to: u64) -> Result<OpenTables, Refusal>
         ensures checked { IsChecked (both_open_checks self.now from to) result }
-        ensures from { IfOk result (λ tables. tables.from ≡ from) }
-        ensures to { IfOk result (λ tables. tables.to ≡ to) }
-        ensures from_within { IfOk result (λ tables. IsTableOf self.now.seating.table_count tables.from) }
-        ensures to_within { IfOk result (λ tables. IsTableOf self.now.seating.table_count tables.to) }
-        ensures from_open { IfOk result (λ tables. 1 ≤ count_at self.now.seating.players tables.from) }
-        ensures to_open { IfOk result (λ tables. 1 ≤ count_at self.now.seating.players tables.to) }
+        ensures told { IfOk result (AreOpen self.now from to) }
     {
         let from = self.check_open(from)?;
         let to = self.check_open(to)?;

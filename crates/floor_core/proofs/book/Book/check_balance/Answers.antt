@@ -26,7 +26,7 @@ returns-in_err-move_-clause-checked c =
     let front : List (Refusal × Bool) = going_checks book
     ++ both_open_checks book c.args.from c.args.to ++ leaving_checks book c.args.from in
     let found = balance_read _ book.seating _ c.args.from _ c.args.to (Some c.in_err-move_.field-0.0)
-    (ap (λ (book : BookState). book.seating) c.self.view_is) c.in_ok-tables.ensures.from c.in_ok-tables.ensures.to
+    (ap (λ (book : BookState). book.seating) c.self.view_is) c.in_ok-tables.ensures.told.from_is c.in_ok-tables.ensures.told.to_is
     c.in_err-move_.ensures.checked in
     checked_on (all_balance_checks book c.args.from c.args.to) c.in_err-move_.field-0.0
     c.from_residual-in_err-move_.result
@@ -40,7 +40,7 @@ returns-in_err-check_round-clause-checked c =
     let front : List (Refusal × Bool) = going_checks book
     ++ both_open_checks book c.args.from c.args.to ++ leaving_checks book c.args.from in
     let none = balance_read _ book.seating _ c.args.from _ c.args.to None
-    (ap (λ (book : BookState). book.seating) c.self.view_is) c.in_ok-tables.ensures.from c.in_ok-tables.ensures.to
+    (ap (λ (book : BookState). book.seating) c.self.view_is) c.in_ok-tables.ensures.told.from_is c.in_ok-tables.ensures.told.to_is
     c.in_ok-move_.ensures.checked in
     checked_on (all_balance_checks book c.args.from c.args.to) c.in_err-check_round.field-0.0
     c.from_residual-in_err-check_round.result
@@ -54,7 +54,7 @@ returns-clause-checked c =
     let front : List (Refusal × Bool) = going_checks book
     ++ both_open_checks book c.args.from c.args.to ++ leaving_checks book c.args.from in
     let none = balance_read _ book.seating _ c.args.from _ c.args.to None
-    (ap (λ (book : BookState). book.seating) c.self.view_is) c.in_ok-tables.ensures.from c.in_ok-tables.ensures.to
+    (ap (λ (book : BookState). book.seating) c.self.view_is) c.in_ok-tables.ensures.told.from_is c.in_ok-tables.ensures.told.to_is
     c.in_ok-move_.ensures.checked in
     found_third front (balance_checks book.seating c.args.from c.args.to) (round_checks book) None
     c.in_ok-tables.ensures.checked none c.in_ok-check_round.ensures
@@ -62,14 +62,14 @@ returns-clause-checked c =
 pub returns-clause-move_ : goal.returns-clause-move_
 returns-clause-move_ c =
     move_read _ c.args.self.now.seating _ c.args.from _ c.args.to c.in_ok-move_.move_
-    (ap (λ (book : BookState). book.seating) c.self.view_is) c.in_ok-tables.ensures.from c.in_ok-tables.ensures.to
+    (ap (λ (book : BookState). book.seating) c.self.view_is) c.in_ok-tables.ensures.told.from_is c.in_ok-tables.ensures.told.to_is
     c.in_ok-move_.ensures.move_
 
 pub returns-clause-sits : goal.returns-clause-sits
 returns-clause-sits c =
     mover-sits c.args.self.now.seating c.args.from c.args.to c.in_ok-move_.move_
     (move_read _ c.args.self.now.seating _ c.args.from _ c.args.to c.in_ok-move_.move_
-    (ap (λ (book : BookState). book.seating) c.self.view_is) c.in_ok-tables.ensures.from c.in_ok-tables.ensures.to
+    (ap (λ (book : BookState). book.seating) c.self.view_is) c.in_ok-tables.ensures.told.from_is c.in_ok-tables.ensures.told.to_is
     c.in_ok-move_.ensures.move_)
 
 pub returns-clause-here : goal.returns-clause-here

@@ -32,10 +32,10 @@ returns-in_err-check_end-clause-answer c =
     let found = c.in_err-check_end.field-0.0 in
     let there : is_some (start_of (hand_in hands c.args.table))
     ≡ true = sym (ap is_some (start_read book hands c.args.table c.self.invariant))
-    ∙ (sym (ap (λ (number : ℕ). is_some (start_at book.started number)) c.in_ok-table.ensures.same)
-    ∙ c.in_ok-table.ensures.started) in
+    ∙ (sym (ap (λ (number : ℕ). is_some (start_at book.started number)) c.in_ok-table.ensures.told.same)
+    ∙ c.in_ok-table.ensures.told.started) in
     let at_index : hand_in c.deref.result.now c.from-index.result
-    ≡ hand_in hands c.args.table = cc (c.deref.ensures.value, c.from-index.ensures, c.in_ok-table.ensures.same) in
+    ≡ hand_in hands c.args.table = cc (c.deref.ensures.value, c.from-index.ensures, c.in_ok-table.ensures.told.same) in
     let refused = refused_end (hand_in hands c.args.table) c.args.table found there
     (λ played is. c.in_err-check_end.ensures.checked played (at_index ∙ is)) in
     answered_no (refusal_of c.args.self.now event) found c.from_residual-in_err-check_end.result (same ∙ refused)
