@@ -1,0 +1,16 @@
+-- A list of fewer or more than three values is no level.
+use Rattle.std.proofs.Common.{ap, ◌∙◌}
+use Rattle.std.specs.Prelude.{option_and_then}
+use Rattle.plan_files.specs.FileValues.{level_of_items}
+use Rattle.plan_files.proofs.EachItem.{too_few, too_many}
+use Rattle.plan_files.proofs.file_value.BlindFileValue.of_value.Goals as goal
+
+pub returns-in_default : goal.returns-in_default
+returns-in_default c =
+    too_few c.as_slice.result.now c.in_ok-as_array.field-0.now.items c.as_slice.ensures.value c.in_default.len_below
+    ∙ ap (option_and_then level_of_items) c.in_ok-as_array.ensures
+
+pub returns-in_default-2 : goal.returns-in_default-2
+returns-in_default-2 c =
+    too_many c.as_slice.result.now c.in_ok-as_array.field-0.now.items c.as_slice.ensures.value c.in_default.len_at_least
+    ∙ ap (option_and_then level_of_items) c.in_ok-as_array.ensures
