@@ -1,0 +1,7 @@
+pub mod DrawnDecks
+pub mod SimulatedActs
+pub mod FirstTables
+pub mod NextOrders
+pub mod OwedChecks
+pub mod Spreading
+pub mod OneOrder

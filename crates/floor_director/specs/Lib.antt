@@ -1,0 +1,5 @@
+pub mod DrawnDecks
+pub mod SimulatedActs
+pub mod Orders
+pub mod Owed
+pub mod Spread
