@@ -26,7 +26,7 @@ use Rattle.tournament_rules.proofs.Fitting.{table_range}
 use Rattle.tournament_rules.proofs.Passed.{passed-parts}
 use Rattle.tournament_laws.specs.Accepted.{how_many_accepted}
 use Rattle.tournament_laws.proofs.Kept.{run_keeps_all}
-use Rattle.tournament_laws.proofs.MoveLaws.{after_accepted}
+use Rattle.tournament_rules.proofs.MoveLaws.{after_accepted}
 
 -- how many hands have begun, and none before there is a plan
 abbrev begun_in : State → ℕ

@@ -20,7 +20,7 @@ use Rattle.tournament_rules.proofs.Plays.{play_keeps}
 use Rattle.tournament_laws.specs.Orders.{is_of_hands}
 use Rattle.tournament_laws.proofs.Lists.{set_swap}
 use Rattle.tournament_laws.proofs.KeptHands.{hand_kept, event_keeps}
-use Rattle.tournament_laws.proofs.Acting.{by_act, MayAct, may_act, acts_freely}
+use Rattle.tournament_rules.proofs.Acting.{by_act, MayAct, may_act, acts_freely}
 
 -- a tournament with other acts at a table
 abbrev pub with_acts : PlayState → ℕ → List ActOf → PlayState

@@ -26,7 +26,7 @@ use Rattle.tournament_rules.specs.States.{State, PlayState, acts_at, hand_at, ha
 use Rattle.tournament_rules.specs.Valid.{IsValidPlay}
 use Rattle.tournament_rules.proofs.Ends.{next_or_same, left-void_first}
 use Rattle.tournament_laws.proofs.Kept.{hands_kept, is_turn, run_keeps}
-use Rattle.tournament_laws.proofs.MoveLaws.{not_refused}
+use Rattle.tournament_rules.proofs.MoveLaws.{not_refused}
 use Rattle.tournament_rules.proofs.Passed.{passed-parts, settle_passed}
 use Rattle.tournament_laws.proofs.RoundLaws.{no_turn}
 use Rattle.tournament_rules.proofs.Stayed.{grouped_left, all_in_group, same_group}

@@ -18,7 +18,7 @@ use Rattle.tournament_rules.proofs.Entries.{start_none}
 use Rattle.tournament_rules.proofs.Plays.{valid_first_play}
 use Rattle.tournament_rules.proofs.Steps.{accepted_none, go_right}
 use Rattle.tournament_laws.specs.Orders.{is_of_book, is_of_hands}
-use Rattle.tournament_laws.proofs.Acting.{by_act, may_act}
+use Rattle.tournament_rules.proofs.Acting.{by_act, may_act}
 use Rattle.tournament_laws.proofs.Exchanged.{refused_alike, act_later, act_sooner, effects_alike}
 
 -- whether an event is one of the book, or of the hands at a table: an event of which this is so of one key

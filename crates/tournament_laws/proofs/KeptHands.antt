@@ -15,6 +15,7 @@ use Rattle.tournament_rules.specs.States.{PlayState, acts_at, hand_at, refusal_o
 use Rattle.tournament_rules.specs.Valid.{IsValidPlay}
 use Rattle.tournament_rules.proofs.Fitting.{other_number}
 use Rattle.tournament_rules.proofs.Passed.{passed-parts, settle_passed}
+use Rattle.tournament_rules.proofs.PlayedHands.{IsPlayedAt, hand_there}
 use Rattle.tournament_laws.specs.Orders.{is_of_hands}
 
 -- The hand at a table and whether the tournament is stopped are as before.
@@ -27,24 +28,6 @@ pub record IsKeptAt (table : ℕ) (before after : PlayState) : Type 0 where
 pub hand_kept : (table : ℕ) (before after : PlayState) → IsKeptAt table before after
     → hand_at after table ≡ hand_at before table
 hand_kept table before after kept = rw (kept.start, kept.acts) refl
-
--- The hand that is played at a table.
-pub record IsPlayedAt (play : PlayState) (table : ℕ) : Type 0 where
-  pub hand : HandTerms
-  pub is : hand_at play table ≡ Some hand
-  pub here : hand.start.table ≡ table
-
--- There is a hand at a table that is played at.
-pub hand_there : (play : PlayState) (table : ℕ) → IsValidPlay play → is_playing play.book table ≡ true
-    → IsPlayedAt play table
-hand_there play table valid playing =
-    let found = some_there (start_at play.book.started table) (sym (valid.book.tables.playing table) ∙ playing) in
-    record {
-      hand = record { start = found.0; acts = acts_at play.acts table };
-      is = ap (λ (start : Option HandStart). option_map
-          (λ (start : HandStart). record { start = start; acts = acts_at play.acts table }) start) found.1;
-      here = (valid.book.hands.starts table found.0 found.1).here;
-    }
 
 -- After a settle at another table.
 settle_keeps : (play : PlayState) (table there : ℕ) → IsValidPlay play → refusal_of play (events.Settle there) ≡ None

@@ -1,4 +1,3 @@
-pub mod Left
 pub mod Kept
 pub mod Holds
 pub mod Apart
@@ -6,7 +5,6 @@ pub mod Elsewhere
 pub mod WhoIsBust
 pub mod Growing
 pub mod TheLast
-pub mod MoveLaws
 pub mod TableLaws
 pub mod RaceLaws
 pub mod RoundLaws
@@ -20,7 +18,6 @@ pub mod Answered
 pub mod KeptHands
 pub mod NextBig
 pub mod CoveredHands
-pub mod Acting
 pub mod Exchanged
 pub mod InStates
 pub mod Orders
@@ -39,3 +36,4 @@ pub mod Prizes
 pub mod RankedPlaces
 pub mod NamedOnce
 pub mod RisingPlaces
+pub mod NamedPlayers

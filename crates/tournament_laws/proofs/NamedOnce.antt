@@ -47,7 +47,7 @@ same_entry entries i j one other distinct his hers = by_number (i == j) refl
     by_number false apart = names_differ entries i j one other distinct his hers apart
 
 -- The name of an entry is known.
-known_at : (entries : List (List ℕ)) (number : ℕ) (name : List ℕ) → slice_get entries number ≡ Some name
+pub known_at : (entries : List (List ℕ)) (number : ℕ) (name : List ℕ) → slice_get entries number ≡ Some name
     → is_known entries name ≡ true
 known_at [] number name is = absurd cc
 known_at (first ∷ entries) zero name is =

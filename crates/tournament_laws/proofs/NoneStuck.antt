@@ -14,9 +14,9 @@ use Rattle.tournament_rules.specs.Valid.{IsValidPlay}
 use Rattle.tournament_rules.proofs.Ends.{none_started-stopped}
 use Rattle.tournament_rules.proofs.Passed.{refusal-parts, passed-parts}
 use Rattle.tournament_rules.proofs.Steps.{valid_events}
-use Rattle.tournament_laws.proofs.Acting.{started_at, acts_freely, settle_free}
+use Rattle.tournament_rules.proofs.Acting.{started_at, acts_freely, settle_free}
 use Rattle.tournament_laws.proofs.Kept.{events_keep}
-use Rattle.tournament_laws.proofs.Stopped.{goes_on}
+use Rattle.tournament_rules.proofs.Going.{goes_on}
 
 -- Once the tournament is stopped no hand is played.
 abbrev IsBareAtEnd : PlayState → Type 0

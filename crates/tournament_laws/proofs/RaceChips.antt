@@ -17,7 +17,7 @@ use Rattle.tournament_rules.specs.Valid.{IsValid}
 use Rattle.tournament_rules.proofs.Passed.{passed-parts}
 use Rattle.tournament_rules.proofs.Paying.{stack_of}
 use Rattle.tournament_rules.proofs.Races.{MayRace, race_passed, by_seat, rest-raced, chips-there}
-use Rattle.tournament_laws.proofs.MoveLaws.{after_accepted}
+use Rattle.tournament_rules.proofs.MoveLaws.{after_accepted}
 
 -- What those who are picked have is what all have, where the others count nothing.
 picked-sum : (table : ℕ) (players : List Seated)

@@ -20,7 +20,7 @@ use Rattle.tournament_rules.specs.States.{State, PlayState, hand_at, hand_about,
 use Rattle.tournament_laws.proofs.Elsewhere.{kept_after}
 use Rattle.tournament_rules.proofs.Fitting.{status_elsewhere}
 use Rattle.tournament_laws.proofs.Kept.{IsKept, status_kept, run_keeps, run_some}
-use Rattle.tournament_laws.proofs.MoveLaws.{not_refused}
+use Rattle.tournament_rules.proofs.MoveLaws.{not_refused}
 use Rattle.tournament_rules.proofs.Passed.{passed-parts}
 use Rattle.tournament_rules.proofs.Paying.{sits_elsewhere}
 use Rattle.tournament_rules.proofs.Races.{race_passed}

@@ -22,7 +22,7 @@ use Rattle.tournament_rules.specs.Valid.{IsValidPlay}
 use Rattle.tournament_rules.proofs.Begins.{may_begin}
 use Rattle.tournament_rules.proofs.Fitting.{table_range, status_here}
 use Rattle.tournament_laws.proofs.Kept.{IsKept, status_kept, hands_kept, is_turn, run_keeps, run_some}
-use Rattle.tournament_laws.proofs.MoveLaws.{not_refused}
+use Rattle.tournament_rules.proofs.MoveLaws.{not_refused}
 use Rattle.tournament_rules.proofs.Passed.{passed-parts}
 
 begun-playing : (tables : List TableStatus) (table : ℕ)

@@ -12,14 +12,8 @@ use Rattle.tournament_rules.specs.Checks.{book_checks, book_refusal}
 use Rattle.tournament_rules.specs.States.{State, PlayState, answer_to, is_accepted, play_effect, state_after, run}
 use Rattle.tournament_rules.proofs.Passed.{passed-parts, plan_late, go_late}
 use Rattle.tournament_laws.proofs.ChipLaws.{refused-after}
-use Rattle.tournament_laws.proofs.MoveLaws.{not_refused}
-
--- A book that takes an event is not stopped: that it goes on is asked before anything else.
-pub goes_on : (book : BookState) (event : Event) → book_refusal book event ≡ None → book.stopped ≡ false
-unfolding book_refusal
-goes_on book (Plan line) none = absurd (plan_late book line none)
-goes_on book Go none = absurd (go_late book none)
-goes_on book event none = not-true book.stopped (and_parts _ _ (none_holds (book_checks book event) none)).0
+use Rattle.tournament_rules.proofs.MoveLaws.{not_refused}
+use Rattle.tournament_rules.proofs.Going.{goes_on}
 
 -- The tournament is stopped.
 record IsStopped (state : State) : Type 0 where

@@ -34,8 +34,8 @@ use Rattle.tournament_rules.proofs.Fitting.{table_range}
 use Rattle.tournament_rules.proofs.Passed.{passed-parts, entry_passed}
 use Rattle.tournament_rules.proofs.Begins.{may_begin}
 use Rattle.tournament_rules.proofs.Breaks.{break_passed}
-use Rattle.tournament_laws.proofs.Left.{broken_left}
-use Rattle.tournament_laws.proofs.MoveLaws.{not_refused, no_table}
+use Rattle.tournament_rules.proofs.Left.{broken_left}
+use Rattle.tournament_rules.proofs.MoveLaws.{not_refused, no_table}
 
 -- Whether a player of this number sits at a table.
 abbrev sits_numbered : ℕ → ℕ → Seated → Bool

@@ -1,3 +1,4 @@
 pub mod Accepted
 pub mod Orders
 pub mod Stacks
+pub mod Named

@@ -1,8 +1,9 @@
 //! Laws of the players: who is in, and who went out.
 
-ghost use Rattle.std.specs.Prelude.{ℕ, ◌≡◌, ◌≢◌, ◌+◌, ◌<◌, nat_le, List, true, false, Some, length, take, drop, count_by, slice_get};
+ghost use Rattle.std.specs.Prelude.{ℕ, ◌≡◌, ◌≢◌, ◌+◌, ◌<◌, nat_le, List, true, false, Some, length, take, drop, count_by, slice_get, Contains};
 ghost use Rattle.std.specs.List.{All};
-ghost use Rattle.std.specs.Option.{ForSome};
+ghost use Rattle.std.specs.Option.{ForSome, option_map_or};
+ghost use Rattle.entry_list.specs.Entries.{is_known};
 ghost use Rattle.std.specs.Str.{bytes_eq};
 ghost use Rattle.rulebook.specs.Pairs.{is_pairwise, are_distinct};
 ghost use Rattle.card_set.specs.declared.card.Card.{Card};
@@ -20,6 +21,7 @@ ghost use Rattle.tournament_rules.specs.Kinds.{ends_round};
 ghost use Rattle.tournament_rules.specs.Valid.{is_bust_of};
 ghost use Rattle.tournament_rules.specs.Checks.{is_over_for_all};
 ghost use Rattle.tournament_laws.specs.Accepted.{is_any_accepted};
+ghost use Rattle.tournament_laws.specs.Named.{names_in};
 
 /// Says that after any list of events, lawful or not, the players are listed by table, at one table in rising seat, and
 /// no two of them sit in one seat.
@@ -94,6 +96,14 @@ pub fn a_group_is_of_one_round()
 pub fn no_two_entered_under_one_name()
     ensures { (events : List Event) → ForSome (run first_state events).play (λ play.
         are_distinct bytes_eq play.book.entries ≡ true) }
+{}
+
+/// Says that after any list of events, nobody is named before entering: whoever an act or a break that is accepted names
+/// has entered.
+pub fn who_is_named_has_entered()
+    ensures { (events : List Event) (event : Event) (name : List ℕ) → answer_to (run first_state events) event ≡ Ok
+        → Contains (names_in event) name
+        → option_map_or (λ play. is_known play.book.entries name) (run first_state events).play false ≡ true }
 {}
 
 /// Says that once the tournament is over it stays over, whatever events follow, with the same last player: he keeps his

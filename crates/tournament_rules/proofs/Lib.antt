@@ -32,3 +32,8 @@ pub mod Plays
 pub mod Steps
 pub mod Layers
 pub mod Standings
+pub mod PlayedHands
+pub mod Going
+pub mod Left
+pub mod MoveLaws
+pub mod Acting

@@ -6,7 +6,7 @@ use Rattle.tournament_rules.specs.States.{first_state, run}
 use Rattle.tournament_rules.proofs.Plays.{play_keeps}
 use Rattle.tournament_rules.proofs.Steps.{valid_events}
 use Rattle.tournament_laws.proofs.LaterEntries.{one_more_in, one_lower}
-use Rattle.tournament_laws.proofs.MoveLaws.{after_accepted}
+use Rattle.tournament_rules.proofs.MoveLaws.{after_accepted}
 use Rattle.tournament_laws.proofs.players.a_later_entry_moves_each_place_by_one.Goals as goal
 
 pub returns-clause-players : goal.returns-clause-players

@@ -2,7 +2,7 @@ use Rattle.floor_events.specs.declared.event.Event.TheVariants.{Balance, Break}
 use Rattle.tournament_rules.specs.States.{first_state, run}
 use Rattle.tournament_rules.proofs.Balances.{balance_passed}
 use Rattle.tournament_rules.proofs.Breaks.{break_passed}
-use Rattle.tournament_laws.proofs.MoveLaws.{not_refused, balance_lawful, break_lawful}
+use Rattle.tournament_rules.proofs.MoveLaws.{not_refused, balance_lawful, break_lawful}
 use Rattle.tournament_rules.proofs.Passed.{passed-parts}
 use Rattle.tournament_rules.proofs.Steps.{valid_events}
 use Rattle.tournament_laws.proofs.tables.moves_are_lawful.Goals as goal

@@ -28,8 +28,8 @@ use Rattle.tournament_rules.specs.Apart.{hand_refusal}
 use Rattle.tournament_rules.proofs.Fitting.{table_started}
 use Rattle.tournament_rules.proofs.Names.{IsNamed}
 use Rattle.tournament_rules.proofs.Passed.{is_so, refusal-parts, passed-parts, act_passed, time_passed}
-use Rattle.tournament_laws.proofs.KeptHands.{hand_there}
-use Rattle.tournament_laws.proofs.Stopped.{goes_on}
+use Rattle.tournament_rules.proofs.PlayedHands.{hand_there}
+use Rattle.tournament_rules.proofs.Going.{goes_on}
 
 -- What is so of each act and of a called time at a table is so of each event that is one of these.
 pub by_act : (P : Event → Type 0) (table : ℕ) → ((name : List ℕ) (act : Act) → P (events.Act table name act))
