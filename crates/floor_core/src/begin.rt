@@ -1,6 +1,6 @@
 //! A hand begins.
 
-ghost use Rattle.std.specs.Prelude.{◌≡◌, ◌≤◌, ◌<◌, ◌^◌, ◌&&◌, ◌++◌, ◌∷◌, [], true, not, length, is_some, if◌then◌else◌, None, Some, IfOk, IfErr, OnOk, OnErr};
+ghost use Rattle.std.specs.Prelude.{◌≡◌, ◌≤◌, ◌<◌, ◌^◌, ◌&&◌, ◌++◌, ◌∷◌, [], true, false, not, length, is_some, if◌then◌else◌, None, Some, IfOk, IfErr, OnOk, OnErr};
 ghost use Rattle.rulebook.specs.Checks.{IsChecked};
 ghost use Rattle.button_blinds.specs.Marks.{AreMarksOf};
 ghost use Rattle.seat_book.specs.Places.{IsTableOf, IsPlaceOf};
@@ -14,7 +14,9 @@ ghost use Rattle.floor_events.specs.declared.event.Event.TheVariants as events;
 ghost use Rattle.tournament_rules.specs.Books.{blind_now};
 ghost use Rattle.tournament_rules.specs.Players.{start_seat, dealt_in};
 ghost use Rattle.tournament_rules.specs.Dealing.{next_at, next_start};
-ghost use Rattle.tournament_rules.specs.Checks.{begin_checks, book_refusal};
+ghost use Rattle.card_set.specs.declared.card.CardRow.{CardRow};
+ghost use Rattle.card_set.specs.Decks.{repeats_a_card};
+ghost use Rattle.tournament_rules.specs.Checks.{going_checks, table_checks, due_checks, begin_checks, book_refusal};
 ghost use Rattle.tournament_rules.specs.Effects.{begun_book};
 
 use crate::BookFault;
@@ -100,6 +102,20 @@ fn deal_in(seats: &mut SeatBook, table: u8, waiting: &SeatSet)
 }
 
 impl Book {
+    /// Makes the checks of a hand's begin but that of its deck, and gives the table's number.
+    fn ready_table(&self, table: u64) -> Result<u8, Refusal>
+        ensures checked { IsChecked
+            (going_checks self.now ++ table_checks self.now table ++ due_checks self.now table) result }
+        ensures same { IfOk result (λ number. number ≡ table) }
+        ensures within { IfOk result (IsTableOf self.now.seating.table_count) }
+        ensures two { IfOk result (λ number. 2 ≤ count_at self.now.seating.players number) }
+    {
+        self.check_going()?;
+        let table = self.check_table(table)?;
+        self.check_turn(table)?;
+        Ok(table)
+    }
+
     /// Makes the checks of a hand's begin, and gives the table's number and the deck.
     fn ready(&self, table: u64, row: &CardRow) -> Result<Ready, Refusal>
         ensures checked { IsChecked (begin_checks self.now table row.now) result }
@@ -108,11 +124,24 @@ impl Book {
         ensures within { IfOk result (λ ready. IsTableOf self.now.seating.table_count ready.table) }
         ensures two { IfOk result (λ ready. 2 ≤ count_at self.now.seating.players ready.table) }
     {
-        self.check_going()?;
-        let table = self.check_table(table)?;
-        self.check_turn(table)?;
+        let table = self.ready_table(table)?;
         let deck = check_deck(row)?;
         Ok(Ready { table, deck })
+    }
+
+    /// Checks that a hand may begin at a table with any deck, and changes nothing. What it answers is what a begin is
+    /// refused, whatever its row, and where it answers none only a row that repeats a card is refused.
+    #[tactic(auto, unfolding(tournament_rules::specs::Checks::book_refusal))]
+    pub fn check_table_begins(&self, table: u64) -> Result<(), Refusal>
+        ensures ok { OnOk result ((row : CardRow) → repeats_a_card row.cards ≡ false
+            → book_refusal self.now (events.Begin table row) ≡ None) }
+        ensures err { IfErr result (λ refusal. (row : CardRow)
+            → book_refusal self.now (events.Begin table row) ≡ Some refusal) }
+    {
+        match self.ready_table(table) {
+            Ok(_) => Ok(()),
+            Err(refusal) => Err(refusal),
+        }
     }
 
     /// Checks that a hand may begin at a table, with a row that is a deck, and changes nothing: it begins where memory

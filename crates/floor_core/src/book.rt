@@ -109,6 +109,34 @@ impl Book {
         &self.seats
     }
 
+    /// Gives the plan.
+    pub fn plan(&self) -> &Plan
+        ensures { result.now ≡ self.now.plan }
+    {
+        &self.plan
+    }
+
+    /// Counts the players who entered.
+    pub fn entered(&self) -> u32
+        ensures { result ≡ length self.now.entries }
+    {
+        self.entries.len()
+    }
+
+    /// Counts the hands that have begun.
+    pub fn begun(&self) -> u64
+        ensures { result ≡ self.now.begun }
+    {
+        self.begun
+    }
+
+    /// Tells whether the tournament was stopped.
+    pub fn is_stopped(&self) -> bool
+        ensures { result ≡ self.now.stopped }
+    {
+        self.stopped
+    }
+
     /// Counts the events that were accepted. `begin`, `settle` and `order` ask that they are fewer than 2^60.
     pub fn accepted(&self) -> u64
         ensures { result ≡ self.now.accepted }
@@ -117,7 +145,7 @@ impl Book {
     }
 
     /// Counts the players who are in: all who entered but those who are out.
-    fn count_players(&self) -> u32
+    pub fn count_players(&self) -> u32
         ensures { result ≡ length self.now.seating.players }
     {
         self.entries.len() - self.busts.len()

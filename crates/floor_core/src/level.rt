@@ -67,7 +67,7 @@ fn announce_from(seats: &mut SeatBook, before: u64, unit: u64)
 
 impl Book {
     /// Tells whether the current level is the last of the plan.
-    fn is_last_level(&self) -> bool
+    pub fn is_last_level(&self) -> bool
         ensures { result ≡ is_last_level self.now }
     {
         self.plan.blinds.items().len() as u64 <= self.level

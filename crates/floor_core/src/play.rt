@@ -7,7 +7,8 @@ ghost use Rattle.table_engine.specs.Acts.{IsAnswer, refusal_of_act, refusal_of_t
 ghost use Rattle.table_engine.specs.Plays.{IsCompletePlay, recorded_hand};
 ghost use Rattle.rulebook.specs.Checks.{IsChecked};
 ghost use Rattle.floor_events.specs.declared.event.Event.TheVariants as events;
-ghost use Rattle.tournament_rules.specs.States.{first_play, refusal_of, play_effect};
+ghost use Rattle.std.specs.Option.{option_copied};
+ghost use Rattle.tournament_rules.specs.States.{first_play, hand_at, refusal_of, play_effect};
 ghost use Rattle.tournament_rules.specs.Checks.{end_checks};
 ghost use Rattle.tournament_rules.specs.Valid.{IsValid};
 ghost use Rattle.tournament_rules.specs.Apart.{hand_in};
@@ -54,6 +55,16 @@ impl Play {
         let hands = empty_slots(alloc, plan.tables as usize + 1)?;
         let book = Book::new(alloc, plan)?;
         Ok(Play { book, hands })
+    }
+
+    /// Gives the hand that is played at a table, if one is.
+    #[tactic(auto, using(tournament_rules::proofs::Layers::hand_read))]
+    pub(crate) fn hand(&self, table: u8) -> Option<&Hand>
+        ensures hand { option_copied result ≡ hand_at self.now table }
+        ensures lawful { IsValid self.now.book }
+    {
+        let _ = self.book.seats();
+        self.hands.get(usize::from(table))?.as_ref()
     }
 
     /// Begins a hand.

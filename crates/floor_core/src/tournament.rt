@@ -1,24 +1,29 @@
 //! The sequential tournament.
 
-ghost use Rattle.std.specs.Prelude.{◌≡◌, ◌<◌, ◌^◌, ℕ, true, None, is_some, if◌then◌else◌, IfOk, OnOk, OnErr};
-ghost use Rattle.std.specs.Option.{ForSome};
+ghost use Rattle.std.specs.Prelude.{◌≡◌, ◌<◌, ◌^◌, ℕ, true, false, None, is_some, option_map, if◌then◌else◌, IfOk, OnOk, OnErr};
+ghost use Rattle.std.specs.Option.{ForSome, option_copied, option_map_or, option_and_then};
+ghost use Rattle.seat_book.specs.Seatings.{empty_seating};
 ghost use Rattle.floor_events.specs.declared.answer.Answer.TheVariants as answers;
 ghost use Rattle.floor_events.specs.declared.event.Event.TheVariants as events;
 ghost use Rattle.card_set.specs.declared.card.CardRow.{CardRow};
 ghost use Rattle.table_engine.specs.Starts.{IsLawfulStart};
 ghost use Rattle.tournament_rules.specs.Dealing.{next_start};
-ghost use Rattle.tournament_rules.specs.States.{first_state, answer_to, state_after, effect, is_accepted, is_over_state};
+ghost use Rattle.tournament_rules.specs.Checks.{is_playing};
+ghost use Rattle.tournament_rules.specs.States.{first_state, hand_at, answer_to, state_after, effect, is_accepted, is_over_state};
 ghost use Rattle.tournament_rules.specs.Valid.{IsValid};
 ghost use Rattle.tournament_rules.specs.Report.{report_of, empty_report};
 
 use crate::BookFault;
+use crate::book::Book;
 use crate::plan::take_line;
 use crate::play::Play;
 use floor_events::{Answer, Event, Report};
 use floor_text::{List, Refusal};
 use level_plan::{PlanDraft, PlanFault};
+use seat_book::SeatBook;
 use std::alloc::{AllocError, Global};
 use std::marker::Model;
+use table_engine::Hand;
 
 /// The sequential tournament: a plan's draft until `go`, and then a book and its hands. Contracts see it as a
 /// `State`.
@@ -28,19 +33,23 @@ pub struct Tournament {
     draft: PlanDraft,
     play: Option<Play>,
     accepted: u64,
+    /// The seats before there is a plan: one table of two seats, where nobody sits.
+    nobody: SeatBook,
 }
 
 impl Model for Tournament {
-    ghost use Rattle.std.specs.Prelude.{◌≤◌};
+    ghost use Rattle.std.specs.Prelude.{◌≡◌, ◌≤◌};
     ghost use Rattle.std.specs.Option.{ForSome};
+    ghost use Rattle.seat_book.specs.Seatings.{empty_seating};
     ghost use Rattle.tournament_rules.specs.States.{State};
 
     ghost Value = { State };
 
     ghost view = { λ fields. record { draft = fields.draft; play = fields.play; accepted = fields.accepted } };
 
-    // What the book accepted is accepted.
-    ghost invariant = { λ fields. ForSome fields.play (λ play. play.book.accepted ≤ fields.accepted) };
+    // What the book accepted is accepted, and nobody sits before there is a plan.
+    ghost invariant = { λ fields. ForSome fields.play (λ play. play.book.accepted ≤ fields.accepted)
+        × (fields.nobody ≡ empty_seating 1 2) };
 }
 
 impl Tournament {
@@ -53,6 +62,7 @@ impl Tournament {
             draft: PlanDraft::new(alloc),
             play: None,
             accepted: 0,
+            nobody: SeatBook::new(alloc, 1, 2)?,
         })
     }
 
@@ -139,6 +149,39 @@ impl Tournament {
         ensures { result ≡ self.now.accepted }
     {
         self.accepted
+    }
+
+    /// Gives the book, once there is a plan.
+    pub fn book(&self) -> Option<&Book>
+        ensures book { option_copied result ≡ option_map (λ play. play.book) self.now.play }
+    {
+        match &self.play {
+            Some(play) => Some(&play.book),
+            None => None,
+        }
+    }
+
+    /// Gives the seats: who sits where, with which stack at rest, and how each table stands. Before there is a plan
+    /// nobody sits.
+    pub fn seats(&self) -> &SeatBook
+        ensures seats { result.now
+            ≡ option_map_or (λ play. play.book.seating) self.now.play (empty_seating 1 2) }
+    {
+        match &self.play {
+            Some(play) => play.book.seats(),
+            None => &self.nobody,
+        }
+    }
+
+    /// Gives the hand that is played at a table. `None` exactly where the table is not playing.
+    pub fn hand(&self, table: u8) -> Option<&Hand>
+        ensures hand { option_copied result ≡ option_and_then (λ play. hand_at play table) self.now.play }
+        ensures none { is_some result ≡ option_map_or (λ play. is_playing play.book table) self.now.play false }
+    {
+        match &self.play {
+            Some(play) => play.hand(table),
+            None => None,
+        }
     }
 
     /// Tells whether the tournament is over, which it is not before there is a plan.
