@@ -135,7 +135,7 @@ def main():
     print(f"{len(kept)} of them are played again as what is accepted of them, with their reports behind it")
     texts += kept
     if words.unproved:
-        found = runs.tried([(["replay"], text, modelled(text), 0) for text in texts])
+        found = runs.tried([runs.Case(["replay"], text, modelled(text)) for text in texts])
     else:
         runs.build(words.program)
         found = compare(words.program, texts)

@@ -1,11 +1,11 @@
 #!/usr/bin/env python3
 """Compares the program with the model over plan files that are made from a seed.
 
-There are right ones, spelled in many ways and with other keys beside; one for each of many ways to make one wrong in one
-place; ones that are wrong in two; and ones with bytes that are no UTF-8. `simulate 1` is run over each: its status, its
-text where the plan is right, and else the item on err are compared. It prints each plan that tells the two apart, at
-most ten of them, and says how many plans were right and which items were wrong. The status is 1 where a plan told them
-apart.
+There are right ones, spelled in many ways and with other keys beside; one for each of many ways to make one wrong in
+one place; ones that are wrong in two; and ones with bytes that are no UTF-8. `simulate 1` is run over each: its status,
+its text where the plan is right, and else the item on err are compared. It prints each plan that tells the two apart,
+at most ten of them, and says how many plans were right and which items were wrong. The status is 1 where a plan told
+them apart.
 
 Usage: bench/made_plans.py [--plans N] [--seed N] [--unproved] [--program PATH]
 
@@ -55,42 +55,31 @@ def twice_wrong_plans(seed, count):
         yield two[1][0], maker.data()
 
 
-def modelled(item, data):
-    """The text, the status and err; the item is the one that was made wrong."""
+def case_of(item, data):
+    """What the model says of a plan; the item is the one that was made wrong."""
+    words = ["simulate", "1"]
     try:
         lines = lines_of_file(data)
     except WrongItem as wrong:
         assert wrong.item == item, (wrong.item, item, data)
-        return "", 6, f"plan {wrong.item}\n"
+        return runs.Case(words, data, "", 6, f"plan {wrong.item}\n")
     assert item is None, (item, data)
-    return "".join(line + "\n" for line in Simulation(1, lines).told()), 0, ""
-
-
-def compare(program, plans):
-    found = 0
-    for data, text in plans:
-        given = runs.ran(program, ["simulate", "1"], data)
-        if given != runs.ended(*text):
-            found += 1
-            if found <= 10:
-                print(f"---- a plan on which they differ\n{data.decode('utf-8', 'backslashreplace')}\n---- the program\n"
-                      f"{given}---- the model\n{runs.ended(*text)}")
-    return found
+    return runs.Case(words, data, "".join(line + "\n" for line in Simulation(1, lines).told()))
 
 
 def main():
     words = runs.options(plans=150, seed=1)
-    made = [*right_plans(words.seed, words.plans), *wrong_plans(words.seed),
-            *twice_wrong_plans(words.seed, words.plans)]
-    items = Counter(item for item, _ in made)
-    print(f"{len(made)} plans, {items.pop(None)} of them right;",
+    plans = [*right_plans(words.seed, words.plans), *wrong_plans(words.seed),
+             *twice_wrong_plans(words.seed, words.plans)]
+    items = Counter(item for item, _ in plans)
+    print(f"{len(plans)} plans, {items.pop(None)} of them right;",
           ", ".join(f"{item} wrong in {items[item]}" for item in ORDER))
-    plans = [(data, modelled(item, data)) for item, data in made]
+    cases = [case_of(item, data) for item, data in plans]
     if words.unproved:
-        found = runs.tried([(["simulate", "1"], data, text[0], text[1]) for data, text in plans])
+        found = runs.tried(cases)
     else:
         runs.build(words.program)
-        found = compare(words.program, plans)
+        found = runs.compared(words.program, cases)
     print(f"plans that tell the program and the model apart: {found}")
     return int(found > 0)
 

@@ -4,10 +4,23 @@ import os
 import re
 import subprocess
 import tempfile
+from dataclasses import dataclass
 
 TOP = os.path.dirname(os.path.dirname(os.path.abspath(__file__)))
 CRATE = os.path.join(TOP, "crates", "floor_replay")
 PROGRAM = os.path.join(CRATE, "out", "floor_replay")
+MOST_PRINTED = 10
+
+
+@dataclass(frozen=True)
+class Case:
+    """A run of the program: its words, its input, and what the model says that it writes and ends with."""
+
+    words: list
+    data: bytes
+    out: str
+    status: int = 0
+    err: str = ""
 
 
 def options(**numbers):
@@ -37,21 +50,37 @@ def ran(program, words, data):
     return ended(run.stdout.decode("ascii", "replace"), run.returncode, run.stderr.decode("ascii", "replace"))
 
 
+def print_case(case, given):
+    print(f"---- a run on which they differ: {' '.join(case.words)}, over\n"
+          f"{case.data.decode('utf-8', 'backslashreplace')}\n---- the program\n{given}"
+          f"---- the model\n{ended(case.out, case.status, case.err)}")
+
+
+def compared(program, cases):
+    """Runs the program in each case. Prints the first cases that differ, and counts all of them."""
+    found = 0
+    for case in cases:
+        given = ran(program, case.words, case.data)
+        if given != ended(case.out, case.status, case.err):
+            found += 1
+            if found <= MOST_PRINTED:
+                print_case(case, given)
+    return found
+
+
 def tried(cases):
-    """Has `rt try` run the program in each case, by one build of the sources before any proof, and compare what it writes
-    on out. A case is the program's words, its input, the text and the status. Prints those that differ, and counts them;
-    err is not compared."""
+    """Has `rt try` run the program in each case, by one build of the sources before any proof; err is not compared."""
     with tempfile.TemporaryDirectory() as folder:
-        for number, (words, data, out, _) in enumerate(cases):
-            for ending, content in (("", data), (".args", "\n".join(words).encode()), (".stdout", out.encode())):
+        for number, case in enumerate(cases):
+            words = "\n".join(case.words).encode()
+            for ending, content in (("", case.data), (".args", words), (".stdout", case.out.encode())):
                 with open(os.path.join(folder, f"case{number}{ending}"), "wb") as file:
                     file.write(content)
         run = subprocess.run(["rt", "try", "--cases", folder], capture_output=True, text=True, check=False, cwd=CRATE)
-    told = dict(re.findall(r"^case=case(\d+) run=ended status=(\d+) .*output=expected", run.stderr, re.MULTILINE))
-    different = [number for number, case in enumerate(cases) if told.get(str(number)) != str(case[3])]
-    for number in different[:10]:
-        words, data, out, status = cases[number]
-        print(f"---- {' '.join(words)} differs, over\n{data.decode('utf-8', 'replace')}---- the model: status {status}\n{out}")
+    same = dict(re.findall(r"^case=case(\d+) run=ended status=(\d+) .*output=expected", run.stderr, re.MULTILINE))
+    different = [case for number, case in enumerate(cases) if same.get(str(number)) != str(case.status)]
+    for case in different[:MOST_PRINTED]:
+        print_case(case, "another text or status, as told below\n")
     if different:
         print(run.stderr[-3000:])
     return len(different)

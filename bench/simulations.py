@@ -67,26 +67,15 @@ def joined(lines):
 
 
 def cases_of(number, data, simulation):
-    """The words, the input, the text and the status of both runs."""
-    events = joined(simulation.lines).encode()
-    return [(["simulate", str(number)], data, joined(simulation.told()), 0),
-            (["replay"], events, joined(len(simulation.lines) * ["ok"] + simulation.book.report()), 0)]
-
-
-def compare(program, cases):
-    found = 0
-    for words, data, text, _ in cases:
-        given = runs.ran(program, words, data)
-        if given != text:
-            found += 1
-            if found <= 10:
-                print(f"---- {' '.join(words)} differs, over\n{data.decode()}---- the program\n{given}---- the model\n{text}")
-    return found
+    """A run of `simulate`, and one of `replay` over the model's events."""
+    events, oks = joined(simulation.lines).encode(), len(simulation.lines) * ["ok"]
+    return [runs.Case(["simulate", str(number)], data, joined(simulation.told())),
+            runs.Case(["replay"], events, joined(oks + simulation.book.report()))]
 
 
 def main():
     words = runs.options(numbers=200, seed=1)
-    cases, events, games, moved = [], Counter(), Counter(), 0
+    cases, events, games = [], Counter(), Counter()
     for number, data in numbers_and_plans(words.numbers, words.seed):
         simulation = Simulation(number, lines_of_file(data))
         cases += cases_of(number, data, simulation)
@@ -99,7 +88,7 @@ def main():
         found = runs.tried(cases)
     else:
         runs.build(words.program)
-        found = compare(words.program, cases)
+        found = runs.compared(words.program, cases)
     print(f"runs that tell the program and the model apart: {found}")
     return int(found > 0)
 

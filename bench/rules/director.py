@@ -16,7 +16,7 @@ def drawn_break(book, table, seed, number):
 
 
 def next_order(book, seed, number):
-    """The lawful break where one is; else the lawful balance from the lowest table, and of these to the lowest; or None.
+    """The lawful break where one is; else the lawful balance from the lowest table, and of these to the lowest.
 
     Tried are the moves that may be lawful: the break of the last open table, since each other is refused by 36, and
     balances between tables whose counts differ by two or more, since each other is refused by 35 or before.

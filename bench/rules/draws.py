@@ -114,7 +114,7 @@ def deck_of(seed, number):
 
 
 def draw_of(seed, number, fill, names):
-    """The draw of a break: the seats to fill and the players in rising seat, each shuffled by a generator of its own."""
+    """The draw of a break: the seats to fill and the players in rising seat, shuffled by two generators."""
     return shuffled(fill, words_of(seed, SEATS, number)), shuffled(names, words_of(seed, PLAYERS, number))
 
 

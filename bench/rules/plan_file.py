@@ -1,7 +1,7 @@
 """Plan files: TOML that gives the items of a plan, and to a server the session words.
 
-Python reads TOML 1.0, and the program TOML 1.1, nested at most 80 deep, with whole numbers of 64 bits and floats that are
-no greater than the greatest. So what is compared with the program has to be what both read alike, or both refuse.
+Python reads TOML 1.0, and the program TOML 1.1, nested at most 80 deep, with whole numbers of 64 bits and no float that
+is too great for one. So what is compared with the program has to be what both read alike, or both refuse.
 """
 import re
 import tomllib

@@ -19,8 +19,9 @@ WRONG_VALUES = {
     "blinds": (
         "1", "[1, 2, 1]", "[[1, 2]]", "[[1, 2, 1, 1]]", "[[1, 2, 1], []]", "[[1, 2, 1], 3]", "[[[1, 2, 1]]]",
         '[["1", 2, 1]]', "[[1.0, 2, 1]]", "[[1, 2, true]]", "[{ small = 1, big = 2, unit = 1 }]", "[[0, 2, 1]]",
-        "[[1, 2, 0]]", "[[2, 1, 1]]", "[[-1, 2, 1]]", "[[1, 2, -1]]", "[[1, 1000000001, 1]]", "[[2, 5, 2]]", "[[3, 6, 2]]",
-        "[[5, 10, 5], [6, 12, 6]]", "[[5, 10, 5], [7, 14, 7]]", "[[5, 10, 5], [5, 10, 1]]", "[[1, 2, 1], [7, 14, 7]]",
+        "[[1, 2, 0]]", "[[2, 1, 1]]", "[[-1, 2, 1]]", "[[1, 2, -1]]", "[[1, 1000000001, 1]]", "[[2, 5, 2]]",
+        "[[3, 6, 2]]", "[[5, 10, 5], [6, 12, 6]]", "[[5, 10, 5], [7, 14, 7]]", "[[5, 10, 5], [5, 10, 1]]",
+        "[[1, 2, 1], [7, 14, 7]]",
         f"[{', '.join(41 * ['[1, 2, 1]'])}]"),
     "shares": (
         "1000", "[0]", "[1001]", "[-1]", "[500, 501]", "[500, 300, 201]", "[500, 0]", "[500, -1]", '["500"]', "[500.0]",
@@ -29,14 +30,15 @@ WRONG_VALUES = {
 
 # Statements that make a file no TOML.
 NO_TOML = (
-    "more", "more =", "= 1", "more = yes", "more = 01", "more = 1__0", "more = 1_", "more = _1", "more = 0x", "more = 1.",
-    "more = .5", "more = +-1", "more = - 1", 'more = "open', "more = 'open", 'more = """open', 'more = "a\nb"',
-    'more = "\\q"', "more = [1", "more = [1 2]", "more = [1,,2]", "more = {a = 1", "more = {a = 1 b = 2}",
-    "more = {a = 1, a = 2}", "more = {a = 1} 2", "more = 1 less = 2", "more less = 1", "more. = 1", ".more = 1",
-    "more = 1\nmore = 2", "more = 1\nmore.less = 2", 'more = 1\n"more" = 2', "more.less = 1\nmore.less = 2")
+    "more", "more =", "= 1", "more = yes", "more = 01", "more = 1__0", "more = 1_", "more = _1", "more = 0x",
+    "more = 1.", "more = .5", "more = +-1", "more = - 1", 'more = "open', "more = 'open", 'more = """open',
+    'more = "a\nb"', 'more = "\\q"', "more = [1", "more = [1 2]", "more = [1,,2]", "more = {a = 1",
+    "more = {a = 1 b = 2}", "more = {a = 1, a = 2}", "more = {a = 1} 2", "more = 1 less = 2", "more less = 1",
+    "more. = 1", ".more = 1", "more = 1\nmore = 2", "more = 1\nmore.less = 2", 'more = 1\n"more" = 2',
+    "more.less = 1\nmore.less = 2")
 NO_TOML_TAILS = (
-    "[more", "[more]]", "[[more]", "[]", "[more]\n[more]", "[more]\n[[more]]", "[[more]]\n[more]", "[game]", "[[blinds]]",
-    "[game.more]", "[more] a = 1", "[more]\nless = 1\nless = 2")
+    "[more", "[more]]", "[[more]", "[]", "[more]\n[more]", "[more]\n[[more]]", "[[more]]\n[more]", "[game]",
+    "[[blinds]]", "[game.more]", "[more] a = 1", "[more]\nless = 1\nless = 2")
 NO_UTF_8 = (b"\xff", b"\xc3", b"\xc3(", b"\xc0\xaf", b"\xed\xa0\x80", b"\xf4\x90\x80\x80", b"\xe2\x82")
 
 # Keys that are no items.
@@ -45,7 +47,8 @@ OTHERS = (
     "words = 3", 'dealers = ["ann", "bob"]', 'room = { name = "hall", rows = [1, [2, 3]] }', 'place.name = "hall"',
     '"" = 1', "Game = 1", '"game " = 2', '"gamé" = "é"', 'text = """\ngame = 5\n"""', 'mixed = [1, "a", [2.5], {}]',
     "at = 2026-05-27T19:30:00Z", "stacks = 5", "shares_ = []", "1 = 2")
-TAILS = ('[more]\ngame = 1\ntables = "x"', "[[rounds]]\nseats = 0\n[[rounds]]\nseats = 1", "[more.game]\nseats = 0", "[more]")
+TAILS = ("", "", "", '[more]\ngame = 1\ntables = "x"', "[[rounds]]\nseats = 0\n[[rounds]]\nseats = 1",
+         "[more.game]\nseats = 0", "[more]", "[more]\n[more.late]\n[rounds]\nseats.more = 0")
 
 
 class PlanMaker:
@@ -78,8 +81,9 @@ class PlanMaker:
         while sum(shares) > 1000:
             shares.pop()
         return {
-            "game": self.text(rng.choice(["holdem", "omaha", "hilo"])), "tables": self.number(rng.choice([1, 1, 1, 2, 3])),
-            "seats": self.number(rng.choice([2, 2, 3])), "stack": self.number(self.unit * rng.choice([1, 2, 3, 5])),
+            "game": self.text(rng.choice(["holdem", "omaha", "hilo"])),
+            "tables": self.number(rng.choice([1, 1, 1, 2, 3])), "seats": self.number(rng.choice([2, 2, 3])),
+            "stack": self.number(self.unit * rng.choice([1, 2, 3, 5])),
             "buyin": self.number(rng.choice([0, 1, 20, 999])), "late": self.number(self.late),
             "blinds": self.list_of(self.list_of(map(self.number, level)) for level in self.levels),
             "shares": self.list_of(map(self.number, shares))}
@@ -87,7 +91,8 @@ class PlanMaker:
     # -- how it is spelled --
 
     def number(self, value):
-        return self.rng.choice([str(value), str(value), f"{value:_}", f"+{value}", hex(value), oct(value), bin(value)])
+        spelled = [str(value), str(value), f"{value:_}", f"+{value}", hex(value), oct(value), bin(value)]
+        return self.rng.choice(spelled if value else spelled + ["-0"])
 
     def text(self, value):
         escaped = f"\\u{ord(value[0]):04x}{value[1:]}"
@@ -107,7 +112,7 @@ class PlanMaker:
         """Keys that are ignored, and tables behind all."""
         for other in self.rng.sample(OTHERS, self.rng.randint(0, 4)):
             self.statements[other] = other
-        self.tail += self.rng.sample(TAILS[:2], self.rng.randint(0, 1)) or self.rng.sample(TAILS, self.rng.randint(0, 1))
+        self.tail.append(self.rng.choice(TAILS))
 
     def data(self):
         rng = self.rng

@@ -13,8 +13,8 @@ ROUNDS_OF_A_LEVEL = 10
 
 
 class Simulation:
-    """Plays the simulation of a number over the lines of a plan; `lines` are its events. The number of a draw is that of
-    the events before it."""
+    """Plays the simulation of a number over the lines of a plan; `lines` are its events. The number of a draw is that
+    of the events before it."""
 
     def __init__(self, number, plan):
         self.number, self.seed = number, seed_of(number)

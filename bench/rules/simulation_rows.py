@@ -1,12 +1,11 @@
 """Tries the model on worked cases of draws, plan files, orders and simulations."""
 import random
 import re
-from pathlib import Path
 
 from rules.cards import SORTED_DECK
 from rules.director import drawn_break, is_lawful, listed_acts, next_order
 from rules.draws import deck_of, draw_of, seed_of, shuffled, words_from, words_of
-from rules.hand import Act, Marks
+from rules.hand import Act
 from rules.plan_file import WrongItem, lines_of_file, served_of_file
 from rules.rows import EXAMPLES, same, seated
 from rules.simulate import Simulation
@@ -68,27 +67,34 @@ def outcome(read, text):
         return wrong.item
 
 
+def names(item, *changes):
+    """Each change of the file, a text and what stands in its place, makes this item the first that is wrong."""
+    for old, new in changes:
+        same(f"{new} for {old}", outcome(lines_of_file, FILE.replace(old, new, 1)), item)
+
+
 def try_plan_files():
     same("a plan", outcome(lines_of_file, FILE), LINES)
-    same("in any order, with other keys", outcome(lines_of_file, '"late" = 0x2\r\nwords = 3\r\n' + "".join(
-        line + "\n" for line in reversed(FILE.splitlines()) if not line.startswith("late")) + "[more]\ngame = 1"), LINES)
-    for old, new, item in [
-            ('"holdem"', '"stud"', "game"), ('game = "holdem"', "", "game"), ("game", "Game", "game"),
-            ('"holdem"', "holdem", "toml"), ("seats", "tables", "toml"), ("tables", "tables.most", "tables"),
-            ("= 3", "= 3.0", "tables"), ("= 3", "= true", "tables"), ("= 3", "= 65", "tables"), ("= 9", "= 11", "seats"),
-            ("= 10000", "= [10000]", "stack"), ("= 10000", "= -25", "stack"), ("= 10000", "= 10010", "stack"),
-            ("= 200", "= 1000000001", "buyin"), ("= 200", "= 0", LINES[:4] + ["buyin 0"] + LINES[5:]),
-            ("late = 2", "late = 41", "late"), ("late = 2", "late = 7", "late"), ("[[25, 50, 25]", "[[25, 50]", "blinds"),
-            ("[[25, 50, 25]", "[[25, 50, 25, 25]", "blinds"), ("[[25, 50, 25]", "[[25, 50, 7]", "blinds"),
-            ("[[25, 50, 25]", "[[50, 50, 50]", "blinds"), ("[[25, 50, 25]", "[25", "blinds"),
-            ("blinds = ", "blinds = [] #", "blinds"), ("blinds = [", "blinds = [" + 35 * "[25, 50, 25],", "blinds"),
-            ("[500, 300, 200]", "[]", "shares"), ("[500, 300, 200]", str(65 * [1]), "shares"),
-            ("[500, 300, 200]", "[500, 501]", "shares"), ("[500, 300, 200]", "[500, -1]", "shares"),
-            ("[500, 300, 200]", "[500, 300, 201]", "shares"), ("[500, 300, 200]", '["500"]', "shares")]:
-        same(f"{new} for {old}", outcome(lines_of_file, FILE.replace(old, new, 1)), item)
-    same("the first wrong item", outcome(lines_of_file, FILE.replace("= 9", "= 1").replace("= 2\n", "= 7\n")), "seats")
-    same("late and stack", outcome(lines_of_file, FILE.replace("= 2\n", "= 7\n").replace("10000", "10010", 1)), "late")
-    same("shares before late", outcome(lines_of_file, FILE.replace("= 2\n", "= 7\n").replace(", 200]", ", 0]")), "shares")
+    backwards = [line for line in reversed(FILE.splitlines()) if not line.startswith("late")]
+    same("in any order, with other keys", outcome(lines_of_file, "\r\n".join(
+        ['"late" = 0x2', "words = 3", *backwards, "[more]", "game = 1"])), LINES)
+    same("no buy-in", outcome(lines_of_file, FILE.replace("= 200", "= 0"))[4], "buyin 0")
+    names("toml", ('"holdem"', "holdem"), ("seats", "tables"), ("= 9", "= 09"), ("= 9", "= 9\ngame.more = 1"))
+    names("game", ('"holdem"', '"stud"'), ('game = "holdem"', ""), ("game", "Game"), ('"holdem"', "1"))
+    names("tables", ("tables", "tables.more"), ("= 3", "= 3.0"), ("= 3", "= true"), ("= 3", "= 65"), ("= 3", "= -1"))
+    names("seats", ("= 9", "= 11"), ("= 9", "= 1"), ("= 9\n", "= 11\nlate = 2\n[more]\n"))
+    names("stack", ("= 10000", "= [10000]"), ("= 10000", "= -25"), ("= 10000", "= 10010"), ("= 10000", "= 0"))
+    names("buyin", ("= 200", "= 1000000001"), ("= 200", '= "200"'))
+    names("late", ("late = 2", "late = 41"), ("late = 2", "late = 7"))
+    names("blinds", ("[[25, 50, 25]", "[[25, 50]"), ("[[25, 50, 25]", "[[25, 50, 25, 25]"), ("[[25, 50, 25]", "[25"),
+          ("[[25, 50, 25]", "[[25, 50, 7]"), ("[[25, 50, 25]", "[[50, 50, 50]"), ("blinds = ", "blinds = [] #"),
+          ("blinds = [", "blinds = [" + 35 * "[25, 50, 25],"), ("50, 100, 25", '50, "100", 25'))
+    names("shares", *(("[500, 300, 200]", wrong) for wrong in (
+        "[]", str(65 * [1]), "[500, 501]", "[500, -1]", "[500, 300, 201]", '["500"]', "500")))
+    too_late = FILE.replace("late = 2", "late = 7")
+    same("the first wrong item", outcome(lines_of_file, too_late.replace("= 9", "= 1")), "seats")
+    same("late and stack", outcome(lines_of_file, too_late.replace("10000", "10010", 1)), "late")
+    same("shares before late", outcome(lines_of_file, too_late.replace(", 200]", ", 0]")), "shares")
     same("no UTF-8", outcome(lines_of_file, FILE.encode() + b"# \xff"), "toml")
 
 
@@ -96,15 +102,15 @@ def try_served_files():
     floor, words = 'floor_word = "f1"\n', '[words]\nann = "a"\nFloor = "B2"\n'
     same("words", outcome(served_of_file, floor + FILE + words), (LINES, "f1", {"ann": "a", "Floor": "B2"}))
     same("nobody", outcome(served_of_file, floor + FILE + "[words]"), (LINES, "f1", {}))
-    for head, tail, item in [
-            ("", words, "floor_word"), ("floor_word = 1\n", words, "floor_word"), ('floor_word = ""\n', "", "floor_word"),
-            (f'floor_word = "{33 * "f"}"\n', words, "floor_word"), ('floor_word = "f-"\n', words, "floor_word"),
-            (floor, "", "words"), (floor + "words = []\n", "", "words"), (floor, "[words]\nfloor = 'a'", "words"),
-            (floor, "[words]\n1ann = 'a'", "words"), (floor, "[words]\nann = 'a b'", "words"),
-            (floor, "[words]\nann = 1", "words"), (floor, "[[words]]\nann = 'a'", "words"),
-            (floor, "[words]\n" + "".join(f"p{number} = 'a'\n" for number in range(641)), "words"),
-            ("tables = 1\n", words, "toml"), ("buyin.more = 1\n", "", "toml")]:
-        same(f"{item}: {head}{tail}"[:80], outcome(served_of_file, head + FILE + tail), item)
+    for wrong in ("", "floor_word = 1\n", 'floor_word = ""\n', f'floor_word = "{33 * "f"}"\n', 'floor_word = "f-"\n'):
+        same(wrong, outcome(served_of_file, wrong + FILE + words), "floor_word")
+        same(f"{wrong} and no words", outcome(served_of_file, wrong + FILE), "floor_word")
+    many = "".join(f"p{number} = 'a'\n" for number in range(641))
+    for wrong in ("", "[[words]]\nann = 'a'", "[words]\nfloor = 'a'", "[words]\n1ann = 'a'", "[words]\nann = 'a b'",
+                  "[words]\nann = 1", f"[words]\n{many}"):
+        same(wrong[:40], outcome(served_of_file, floor + FILE + wrong), "words")
+    same("an empty list", outcome(served_of_file, f"words = []\n{floor}{FILE}"), "words")
+    same("twice", outcome(served_of_file, f"tables = 1\n{floor}{FILE}{words}"), "toml")
 
 
 def order_by_trying_all(book, seed, number):
@@ -144,6 +150,13 @@ def try_orders():
     same("amounts", listed_acts(1, 300, 200)[:2], [Act("raise", 500), Act("bet", 200)])
 
 
+def try_plan_examples():
+    """Each plan of the examples is simulated by the number 7."""
+    for path in sorted(EXAMPLES.glob("*.toml")):
+        told = Simulation(7, lines_of_file(path.read_bytes())).told()
+        same(path.name, told, path.with_suffix(".out").read_text(encoding="ascii").splitlines())
+
+
 def try_simulations():
     """A simulation of three tables of nine: its figures, and its events as lines. And one of two tables in which levels
     and races come."""
@@ -163,4 +176,4 @@ def try_simulations():
     same("what follows a level", {hands[place + 1] for place, word in enumerate(hands) if word == "level"}, {"race"})
 
 
-TRIES = (try_draws, try_plan_files, try_served_files, try_orders, try_simulations)
+TRIES = (try_draws, try_plan_files, try_served_files, try_orders, try_plan_examples, try_simulations)
