@@ -10,7 +10,7 @@ them apart.
 Usage: bench/made_plans.py [--plans N] [--seed N] [--unproved] [--program PATH]
 
 There are so many right plans, and as many that are wrong in two places. The program is the one of `./floor`; with
---unproved it is built from the sources before any proof, by `rt try`, and err is not compared.
+--unproved it is built from the sources before any proof, by `rt try`.
 """
 import sys
 from collections import Counter

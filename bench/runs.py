@@ -68,17 +68,34 @@ def compared(program, cases):
     return found
 
 
+def put_case(folder, name, case):
+    """A case as `rt try` takes it. It compares out alone; where there is err, it is given no out, and shows both."""
+    files = {name: case.data, f"{name}.args": "\n".join(case.words).encode()}
+    if not case.err:
+        files[f"{name}.stdout"] = case.out.encode()
+    for path, content in files.items():
+        with open(os.path.join(folder, path), "wb") as file:
+            file.write(content)
+
+
+def is_as_told(name, case, run):
+    """Whether `rt try` says of a case that it ended with its status and the same out, or shows its out and err."""
+    line = re.escape(f"{case.err}case={name} run=ended status={case.status} ")
+    if not case.err:
+        line += ".*output=expected"
+    elif f"== {name}\n{case.out}== " not in f"{run.stdout}== ":
+        return False
+    return re.search(f"^{line}", run.stderr, re.MULTILINE) is not None
+
+
 def tried(cases):
-    """Has `rt try` run the program in each case, by one build of the sources before any proof; err is not compared."""
+    """Has `rt try` run the program in each case, by one build of the sources before any proof. Prints the first cases
+    that differ, and counts all of them."""
     with tempfile.TemporaryDirectory() as folder:
         for number, case in enumerate(cases):
-            words = "\n".join(case.words).encode()
-            for ending, content in (("", case.data), (".args", words), (".stdout", case.out.encode())):
-                with open(os.path.join(folder, f"case{number}{ending}"), "wb") as file:
-                    file.write(content)
+            put_case(folder, f"case{number}", case)
         run = subprocess.run(["rt", "try", "--cases", folder], capture_output=True, text=True, check=False, cwd=CRATE)
-    same = dict(re.findall(r"^case=case(\d+) run=ended status=(\d+) .*output=expected", run.stderr, re.MULTILINE))
-    different = [case for number, case in enumerate(cases) if same.get(str(number)) != str(case.status)]
+    different = [case for number, case in enumerate(cases) if not is_as_told(f"case{number}", case, run)]
     for case in different[:MOST_PRINTED]:
         print_case(case, "another text or status, as told below\n")
     if different:
