@@ -11,21 +11,16 @@ Usage: bench/made_lists.py [--lists N] [--seed N] [--unproved] [--program PATH]
 
 The program is the one of `./floor`; with --unproved it is built from the sources before any proof, by `rt try`.
 """
-import argparse
-import os
-import subprocess
 import sys
-import tempfile
 from collections import Counter
 
+import runs
 from rules.lines import lines_of
 from rules.maker import Maker
 from rules.step import replayed
 from rules.tournament import Tournament
 
-TOP = os.path.dirname(os.path.dirname(os.path.abspath(__file__)))
 MOVES = ("enter", "balance", "break", "level", "race", "hands", "round")
-PROGRAM = os.path.join(TOP, "crates", "floor_replay", "out", "floor_replay")
 
 
 def modelled(text):
@@ -54,22 +49,7 @@ def joined(lines):
 
 
 def ran(program, text):
-    """What the program writes; its status and err are put behind it where they are not those of an accepted input."""
-    run = subprocess.run([program, "replay"], input=text, capture_output=True, check=False)
-    told = "" if run.returncode == 0 and not run.stderr else f"status {run.returncode}, err {run.stderr!r}\n"
-    return run.stdout.decode("ascii", "replace") + told
-
-
-def try_unproved(texts):
-    """Has `rt try` compare the texts of all lists, by one build of the sources before any proof."""
-    with tempfile.TemporaryDirectory() as folder:
-        for number, text in enumerate(texts):
-            with open(os.path.join(folder, f"list{number}"), "wb") as file:
-                file.write(text)
-            with open(os.path.join(folder, f"list{number}.stdout"), "w", encoding="ascii") as file:
-                file.write(modelled(text))
-        return subprocess.run(["rt", "try", "--cases", folder, "--", "replay"], capture_output=True, text=True,
-                              check=False, cwd=os.path.join(TOP, "crates", "floor_replay"))
+    return runs.ran(program, ["replay"], text)
 
 
 def differs(program, text):
@@ -148,25 +128,17 @@ def compare(program, texts):
 
 
 def main():
-    words = argparse.ArgumentParser()
-    words.add_argument("--lists", type=int, default=1000)
-    words.add_argument("--seed", type=int, default=1)
-    words.add_argument("--unproved", action="store_true")
-    words.add_argument("--program", default=PROGRAM)
-    words = words.parse_args()
+    words = runs.options(lists=1000, seed=1)
     texts = [Maker(words.seed * 1_000_000 + number).make() for number in range(words.lists)]
     count(texts)
     kept = list(filter(None, map(with_its_report, texts)))
     print(f"{len(kept)} of them are played again as what is accepted of them, with their reports behind it")
     texts += kept
     if words.unproved:
-        run = try_unproved(texts)
-        print(run.stdout + run.stderr.splitlines()[-1])
-        return int(run.returncode != 0)
-    if not os.path.exists(words.program):
-        subprocess.run([os.path.join(TOP, "floor"), "replay"], stdin=subprocess.DEVNULL, stdout=subprocess.DEVNULL,
-                       check=True)
-    found = compare(words.program, texts)
+        found = runs.tried([runs.Case(["replay"], text, modelled(text)) for text in texts])
+    else:
+        runs.build(words.program)
+        found = compare(words.program, texts)
     print(f"lists that tell the program and the model apart: {found}")
     return int(found > 0)
 

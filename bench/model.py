@@ -1,21 +1,43 @@
 #!/usr/bin/env python3
 """A plain model of the program by its rules, written apart from the code of the crates.
 
-`model.py < LINES` writes what `replay` writes: an answer to each line, and the report. `model.py --rows` tries the
-model on worked cases. `made_lists.py` compares the program with it over made lists of events.
+`model.py < LINES` writes what `replay` writes: an answer to each line, and the report. `model.py simulate N < PLAN`
+writes what `simulate N` writes over a plan file, or on err the first wrong item with status 6, and `model.py events N <
+PLAN` the events of that simulation, a line for each, which `replay` takes. `model.py --rows` tries the model on worked
+cases. `made_lists.py` compares the program with it over made lists of events, `made_plans.py` over made plan files, and
+`simulations.py` over the simulations of many numbers.
 """
 import sys
 
+from rules.plan_file import WrongItem, lines_of_file
 from rules.rows import try_rows
+from rules.simulate import Simulation
+from rules.simulation_rows import TRIES
 from rules.step import replayed
 
 
-def main():
-    if sys.argv[1:] == ["--rows"]:
-        return try_rows()
-    answers, report = replayed(sys.stdin.buffer.read())
-    sys.stdout.write("".join(line + "\n" for line in answers + report))
+def put(lines):
+    sys.stdout.write("".join(line + "\n" for line in lines))
     return 0
+
+
+def simulate(what, number):
+    try:
+        simulation = Simulation(int(number), lines_of_file(sys.stdin.buffer.read()))
+    except WrongItem as wrong:
+        sys.stderr.write(f"plan {wrong.item}\n")
+        return 6
+    return put(simulation.told() if what == "simulate" else simulation.lines)
+
+
+def main():
+    words = sys.argv[1:]
+    if words == ["--rows"]:
+        return try_rows(*TRIES)
+    if words:
+        return simulate(*words)
+    answers, report = replayed(sys.stdin.buffer.read())
+    return put(answers + report)
 
 
 if __name__ == "__main__":

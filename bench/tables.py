@@ -11,8 +11,7 @@ import sys
 from rules.cards import SORTED_DECK, seats_clockwise, text_of
 from rules.checks import MOST_ENTRIES
 from rules.hand import next_marks
-from rules.lines import event_of_line
-from rules.maker import break_line
+from rules.lines import break_line, event_of_line
 from rules.step import apply
 from rules.tournament import Tournament
 

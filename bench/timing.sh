@@ -19,12 +19,13 @@ lesser() { python3 -c "print(min($1, ${2:-$1}))"; }
 replay() { "$program" replay < "$1" > "$work/out"; }
 stock() { LC_ALL=C sed "s/.*/$2/" < "$1" > "$work/stock"; }
 
-# how much memory replay takes at its peak over a file, in KiB
+# how much memory replay takes at its peak over a file, in KiB, or the words that are given behind it
 peak() {
-    python3 - "$program" "$1" <<'PEAK'
+    python3 - "$program" "$@" <<'PEAK'
 import resource, subprocess, sys
-with open(sys.argv[2], "rb") as source:
-    subprocess.run([sys.argv[1], "replay"], stdin=source, stdout=subprocess.DEVNULL, check=True)
+program, path, *words = sys.argv[1:]
+with open(path, "rb") as source:
+    subprocess.run([program, *(words or ["replay"])], stdin=source, stdout=subprocess.DEVNULL, check=True)
 print(resource.getrusage(resource.RUSAGE_CHILDREN).ru_maxrss)
 PEAK
 }

@@ -1,6 +1,6 @@
 """A list in which 64 full tables become one."""
 from rules.crowds import quick_act
-from rules.maker import break_line
+from rules.lines import break_line
 
 
 def break_down(maker):

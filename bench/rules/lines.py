@@ -115,3 +115,12 @@ def lines_of(text):
     """The bytes cut at line feeds; what is behind the last one is a line where it has a byte."""
     lines = text.split(b"\n")
     return lines if lines[-1] else lines[:-1]
+
+
+def break_line(table, places, names):
+    return f"break {table} {','.join(f'{to}.{seat}' for to, seat in places)} {','.join(names)}"
+
+
+def act_line(table, player, act):
+    amount = f" {act.amount}" if act.kind in ("bet", "raise") else ""
+    return f"act {table} {player} {act.kind}{amount}"

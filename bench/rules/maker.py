@@ -3,17 +3,13 @@ import random
 
 from rules.cards import SORTED_DECK, text_of
 from rules.crowds import crowd, crowd_at_one_table, hall
-from rules.lines import event_of_line
+from rules.lines import break_line, event_of_line
 from rules.step import apply
 from rules.tournament import Tournament
 
 PLAYERS = ["ann", "bob", "cat", "dan", "eve", "fay", "gus", "hal", "ida", "jim", "kim", "leo"]
 CARDS = [text_of([card]) for card in SORTED_DECK]
 NO_LINE_FEED = [chr(byte) for byte in range(256) if byte != 10]
-
-
-def break_line(table, places, names):
-    return f"break {table} {','.join(f'{to}.{seat}' for to, seat in places)} {','.join(names)}"
 
 
 class Maker:

@@ -135,10 +135,10 @@ def try_moves():
     book = seated(6, {1: range(1, 7), 2: [1, 2, 3, 5, 6], 3: [1, 2]}, {})
     same("no fill list", book.fill_list(3), None)
     book = seated(6, {1: [1, 2, 3]}, {})
-    book.stacks = dict(zip(("p1.1", "p1.2", "p1.3"), (1025, 50, 3075)))
+    book.stacks = dict(zip(("p1_1", "p1_2", "p1_3"), (1025, 50, 3075)))
     book.tables[1] = Table(unit=25, pending=100)
     book.race(1, SORTED_DECK)
-    same("a race", ([book.stacks[f"p1.{seat}"] for seat in (1, 2, 3)], book.removed, book.added),
+    same("a race", ([book.stacks[f"p1_{seat}"] for seat in (1, 2, 3)], book.removed, book.added),
          ([1000, 100, 3100], 150, 200))
 
 
@@ -152,8 +152,8 @@ def seated(seats, players, marks):
     for table, taken in players.items():
         book.tables[table].marks = Marks(*marks[table]) if table in marks else None
         for seat in taken:
-            book.seats[table, seat] = f"p{table}.{seat}"
-            book.stacks[f"p{table}.{seat}"] = 1000
+            book.seats[table, seat] = f"p{table}_{seat}"
+            book.stacks[f"p{table}_{seat}"] = 1000
     book.hands_begun = 1
     return book
 
@@ -213,12 +213,12 @@ def try_marks():
 def try_places():
     book = seated(6, {1: [1]}, {})
     book.plan |= {"buyin": 100, "shares": (500, 300, 199)}
-    book.entries = ["p1.1", "one", "two", "three"]
+    book.entries = ["p1_1", "one", "two", "three"]
     book.busts = [("one", 800, 0), ("two", 500, 0), ("three", 500, 0)]
     same("places of one group", standings_of(book),
-         [(1, "p1.1", 201), (2, "one", 120), (3, "two", 40), (3, "three", 39)])
+         [(1, "p1_1", 201), (2, "one", 120), (3, "two", 40), (3, "three", 39)])
     book = seated(6, {1: [1, 2]}, {})
-    book.entries, book.busts = ["p1.1", "p1.2", "two"], [("two", 500, 0)]
+    book.entries, book.busts = ["p1_1", "p1_2", "two"], [("two", 500, 0)]
     same("third of three", [rank for rank, _, _ in standings_of(book)], [3])
     book.entries.append("late")
     book.seats[1, 3] = "late"
@@ -227,13 +227,13 @@ def try_places():
     same("more shares than entries", prizes_of(2, 100, (400, 250, 200, 100, 50)), [150, 50])
     book = seated(6, {1: [6]}, {})
     book.plan |= {"buyin": 102}
-    book.entries, book.busts = ["bob", "p1.6", "ann"], [("ann", 1000, 0), ("bob", 1000, 0)]
-    same("a tie for the last place paid", standings_of(book), [(1, "p1.6", 215), (2, "bob", 46), (2, "ann", 45)])
+    book.entries, book.busts = ["bob", "p1_6", "ann"], [("ann", 1000, 0), ("bob", 1000, 0)]
+    same("a tie for the last place paid", standings_of(book), [(1, "p1_6", 215), (2, "bob", 46), (2, "ann", 45)])
 
 
-def try_rows():
+def try_rows(*more):
     for tries in (try_examples, try_lines, try_hands_by_lines, try_tables, try_moves, try_bets, try_values, try_marks,
-                  try_places):
+                  try_places, *more):
         tries()
     print("rows: all as worked out" if not failures else f"rows: {len(failures)} differ")
     return 1 if failures else 0
