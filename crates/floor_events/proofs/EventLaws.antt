@@ -5,8 +5,10 @@ use Rattle.std.specs.Prelude.{codes}
 use Rattle.std.specs.Fmt.{decimal}
 use Rattle.std.specs.List.{join_with_byte, flat_map, AllByRecursion}
 use Rattle.std.specs.Option.{IfSome}
+use Rattle.std.specs.Prelude.{Result, IfOk}
 use Rattle.std.proofs.lemmas.Bool.Decides.{nat_tests}
 use Rattle.std.proofs.lemmas.Option.{same_Some}
+use Rattle.std.proofs.lemmas.Result.{IfOk-weaker}
 use Rattle.floor_text.specs.Limits.{longest_line}
 use Rattle.floor_text.specs.Lines.{HasNoFeed, cut_line, lines_of_bytes}
 use Rattle.floor_text.proofs.CutLines.{lines_of_bytes-line}
@@ -104,6 +106,18 @@ note_again line is =
 pub line_again : (item : Item) (line : List ℕ) → IsLineOf item line → item_of_bytes line ≡ Some item
 line_again (found.Event event) line is = ap item_of_bytes is.1 ∙ event_again event is.0
 line_again found.Note line is = note_again line is
+
+-- What is read where it is what the line holds is spelled so.
+pub found_there : {E : Type 0} (line : List ℕ) (read : Result (Option Item) E)
+    → IfOk read (λ found. found ≡ item_of_bytes line) → IfOk read (λ found. IfSome found (λ item. IsLineOf item line))
+found_there line read exact = IfOk-weaker read _ _ (λ found same. found_in_line line found same) exact
+
+-- What is spelled so is read, where what the line holds is.
+pub only_there : {E : Type 0} (line : List ℕ) (read : Result (Option Item) E)
+    → IfOk read (λ found. found ≡ item_of_bytes line) → (item : Item) → IsLineOf item line
+    → IfOk read (λ found. found ≡ Some item)
+only_there line read exact item holds =
+    IfOk-weaker read _ _ (λ found same. same ∙ line_again item line holds) exact
 
 -- A line holds one item at most.
 pub one_item : (line : List ℕ) (one other : Item) → IsLineOf one line → IsLineOf other line → one ≡ other

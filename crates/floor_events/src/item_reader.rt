@@ -1,7 +1,8 @@
 //! Lines are read as items.
 
-ghost use Rattle.std.specs.Prelude.{◌≡◌, Some, option_map, IfOk, OnErr, IfSome, IsSome};
+ghost use Rattle.std.specs.Prelude.{◌≡◌, codes, Some, option_map, IfOk, OnErr, IfSome, IsSome};
 ghost use Rattle.std.specs.Str.{bytes_eq};
+ghost use Rattle.floor_events.specs.declared.event.Event.TheVariants as events;
 ghost use Rattle.floor_events.specs.declared.event.Item.{Item};
 ghost use Rattle.floor_events.specs.declared.event.Item.TheVariants as items;
 ghost use Rattle.line_words.specs.Rows.{read_by};
@@ -15,32 +16,64 @@ use level_plan::{Blind, PlanLine};
 use line_words::LineWords;
 use std::alloc::{AllocError, Global};
 
+#[inline(always)]
 fn is(word: &[u8], text: &[u8]) -> bool
     ensures { result ≡ bytes_eq word.now text.now }
 {
     word == text
 }
 
+/// Gives the item of a line of a plan.
+fn plan_item(line: PlanLine) -> Item
+    ensures { result ≡ items.Event (events.Plan line) }
+{
+    Item::Event(Event::Plan(line))
+}
+
 /// Reads a line of a plan that has no list by its first word.
 #[tactic(auto, unfolding(line_words::specs::Rows::read_fields))]
-fn read_plan_fields(word: &[u8], line: &mut LineWords<'_>) -> Option<Event>
-    ensures { result ≡ read_by plan_rows word.now line.old }
+fn read_plan_fields(word: &[u8], line: &mut LineWords<'_>) -> Option<Item>
+    ensures { result ≡ option_map items.Event (read_by plan_rows word.now line.old) }
 {
     match word {
-        _ if is(word, b"game") => Some(Event::Plan(PlanLine::Game(line.last_field()?))),
-        _ if is(word, b"tables") => Some(Event::Plan(PlanLine::Tables(line.last_field()?))),
-        _ if is(word, b"seats") => Some(Event::Plan(PlanLine::Seats(line.last_field()?))),
-        _ if is(word, b"stack") => Some(Event::Plan(PlanLine::Stack(line.last_field()?))),
-        _ if is(word, b"buyin") => Some(Event::Plan(PlanLine::Buyin(line.last_field()?))),
-        _ if is(word, b"late") => Some(Event::Plan(PlanLine::Late(line.last_field()?))),
-        _ if is(word, b"blinds") => Some(Event::Plan(PlanLine::Blinds(Blind {
+        _ if is(word, b"game") => Some(plan_item(PlanLine::Game(line.last_field()?))),
+        _ if is(word, b"tables") => Some(plan_item(PlanLine::Tables(line.last_field()?))),
+        _ if is(word, b"seats") => Some(plan_item(PlanLine::Seats(line.last_field()?))),
+        _ if is(word, b"stack") => Some(plan_item(PlanLine::Stack(line.last_field()?))),
+        _ if is(word, b"buyin") => Some(plan_item(PlanLine::Buyin(line.last_field()?))),
+        _ if is(word, b"late") => Some(plan_item(PlanLine::Late(line.last_field()?))),
+        _ if is(word, b"blinds") => Some(plan_item(PlanLine::Blinds(Blind {
             small: line.field()?,
             big: line.field()?,
             unit: line.last_field()?,
         }))),
-        _ if is(word, b"go") => line.is_done().then_some(Event::Go),
+        _ if is(word, b"go") => line.is_done().then_some(Item::Event(Event::Go)),
         _ => None,
     }
+}
+
+/// Reads the table and the deck of a hand that begins. It is a function of its own, since a row takes much room.
+#[inline(never)]
+#[tactic(auto, unfolding(line_words::specs::Rows::read_fields))]
+fn read_begin(line: &mut LineWords<'_>) -> Option<Item>
+    ensures { result ≡ option_map items.Event (read_by plain_rows (codes "begin") line.old) }
+{
+    Some(Item::Event(Event::Begin {
+        table: line.field()?,
+        row: line.last_field()?,
+    }))
+}
+
+/// Reads the table and the cards of a chip race. It is a function of its own, since a row takes much room.
+#[inline(never)]
+#[tactic(auto, unfolding(line_words::specs::Rows::read_fields))]
+fn read_race(line: &mut LineWords<'_>) -> Option<Item>
+    ensures { result ≡ option_map items.Event (read_by plain_rows (codes "race") line.old) }
+{
+    Some(Item::Event(Event::Race {
+        table: line.field()?,
+        row: line.last_field()?,
+    }))
 }
 
 /// Reads an event without a list by its first word, the most frequent words first.
@@ -54,10 +87,7 @@ fn read_fields(word: &[u8], line: &mut LineWords<'_>) -> Option<Item>
             name: line.field()?,
             act: line.act()?,
         })),
-        _ if is(word, b"begin") => Some(Item::Event(Event::Begin {
-            table: line.field()?,
-            row: line.last_field()?,
-        })),
+        _ if is(word, b"begin") => read_begin(line),
         _ if is(word, b"settle") => Some(Item::Event(Event::Settle {
             table: line.last_field()?,
         })),
@@ -74,32 +104,12 @@ fn read_fields(word: &[u8], line: &mut LineWords<'_>) -> Option<Item>
             to: line.last_field()?,
         })),
         _ if is(word, b"level") => line.is_done().then_some(Item::Event(Event::Level)),
-        _ if is(word, b"race") => Some(Item::Event(Event::Race {
-            table: line.field()?,
-            row: line.last_field()?,
-        })),
+        _ if is(word, b"race") => read_race(line),
         _ if is(word, b"hands") => Some(Item::Event(Event::Hands(line.last_field()?))),
         _ if is(word, b"round") => line.is_done().then_some(Item::Event(Event::Round)),
         _ if is(word, b"stop") => line.is_done().then_some(Item::Event(Event::Stop)),
-        _ => read_plan_fields(word, line).map(Item::Event),
+        _ => read_plan_fields(word, line),
     }
-}
-
-#[tactic(auto, unfolding(crate::specs::Grammar::item_of_words))]
-fn read_words(alloc: Global, line: &mut LineWords<'_>) -> Result<Option<Item>, AllocError>
-    ensures exact { IfOk result (λ found. found ≡ item_of_words line.old) }
-    ensures err { OnErr result (IsSome (item_of_words line.old)) }
-{
-    let Some(word) = line.next_word() else {
-        return Ok(None);
-    };
-    if is(word, b"shares") {
-        return read_shares(alloc, line);
-    }
-    if is(word, b"break") {
-        return read_break(alloc, line);
-    }
-    Ok(read_fields(word, line))
 }
 
 /// Tells whether a line is a note.
@@ -112,22 +122,10 @@ fn is_note(line: &[u8]) -> bool
     }
 }
 
-#[tactic(auto, unfolding(crate::specs::Grammar::item_of_bytes))]
-fn read_line(alloc: Global, line: &[u8]) -> Result<Option<Item>, AllocError>
-    ensures exact { IfOk result (λ found. found ≡ item_of_bytes line.now) }
-    ensures err { OnErr result (IsSome (item_of_bytes line.now)) }
-{
-    if line.len() > LONGEST_LINE {
-        return Ok(None);
-    }
-    if is_note(line) {
-        return Ok(Some(Item::Note));
-    }
-    read_words(alloc, &mut LineWords::of_line(line))
-}
-
 /// Reads a line, without its line feed. `None` exactly where it is not in the grammar; memory is wanted only
 /// where it is.
+#[inline(never)]
+#[tactic(auto, using(crate::proofs::EventLaws::found_in_line), unfolding(crate::specs::Grammar::item_of_words, crate::specs::Grammar::item_of_bytes))]
 pub fn read_item(alloc: Global, line: &[u8]) -> Result<Option<Item>, AllocError>
     ensures exact { IfOk result (λ found. found ≡ item_of_bytes line.now) }
     ensures err { OnErr result (IsSome (item_of_bytes line.now)) }
@@ -136,5 +134,21 @@ pub fn read_item(alloc: Global, line: &[u8]) -> Result<Option<Item>, AllocError>
     // What is so is read.
     ensures only { (item : Item) → IsLineOf item line.now → IfOk result (λ found. found ≡ Some item) }
 {
-    read_line(alloc, line)
+    if line.len() > LONGEST_LINE {
+        return Ok(None);
+    }
+    if is_note(line) {
+        return Ok(Some(Item::Note));
+    }
+    let mut words = LineWords::of_line(line);
+    let Some(word) = words.next_word() else {
+        return Ok(None);
+    };
+    if is(word, b"shares") {
+        return read_shares(alloc, &mut words);
+    }
+    if is(word, b"break") {
+        return read_break(alloc, &mut words);
+    }
+    Ok(read_fields(word, &mut words))
 }

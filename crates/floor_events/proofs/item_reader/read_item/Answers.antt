@@ -1,13 +1,34 @@
-use Rattle.std.proofs.Common.{ap, ◌∙◌}
-use Rattle.std.proofs.lemmas.Result.{IfOk-weaker}
-use Rattle.floor_events.specs.Grammar.{item_of_bytes}
-use Rattle.floor_events.proofs.EventLaws.{found_in_line, line_again}
+use Rattle.std.proofs.Common.{◌≡◌, ◌∙◌, rules, Option, Some}
+use Rattle.floor_events.specs.declared.event.Item.{Item}
+use Rattle.floor_events.specs.declared.event.Item.TheVariants as items
+use Rattle.floor_events.specs.Grammar.{item_of_words, item_of_bytes}
+use Rattle.floor_events.proofs.EventLaws.{found_there, only_there, line_again}
 use Rattle.floor_events.proofs.item_reader.read_item.Goals as goal
 
-pub returns-clause-found : goal.returns-clause-found
-returns-clause-found c =
-    IfOk-weaker c.read_line.result _ _ (λ read same. found_in_line c.args.line.now read same) c.read_line.ensures.exact
+pub returns-then-is_note-clause-only : goal.returns-then-is_note-clause-only
+unfolding item_of_bytes
+returns-then-is_note-clause-only c =
+    let exact : Some items.Note ≡ item_of_bytes c.args.line.now = search rules in
+    λ item holds. exact ∙ line_again item c.args.line.now holds
+
+pub returns-then-is-clause-found : goal.returns-then-is-clause-found
+unfolding item_of_words item_of_bytes
+returns-then-is-clause-found c = found_there c.args.line.now c.read_shares.result (search rules)
+
+pub returns-then-is-clause-only : goal.returns-then-is-clause-only
+unfolding item_of_words item_of_bytes
+returns-then-is-clause-only c = only_there c.args.line.now c.read_shares.result (search rules)
+
+pub returns-then-is-2-clause-found : goal.returns-then-is-2-clause-found
+unfolding item_of_words item_of_bytes
+returns-then-is-2-clause-found c = found_there c.args.line.now c.read_break.result (search rules)
+
+pub returns-then-is-2-clause-only : goal.returns-then-is-2-clause-only
+unfolding item_of_words item_of_bytes
+returns-then-is-2-clause-only c = only_there c.args.line.now c.read_break.result (search rules)
 
 pub returns-clause-only : goal.returns-clause-only
-returns-clause-only c = λ item holds. IfOk-weaker c.read_line.result _ _
-    (λ read is. is ∙ line_again item c.args.line.now holds) c.read_line.ensures.exact
+unfolding item_of_words item_of_bytes
+returns-clause-only c =
+    let exact : c.read_fields.result ≡ item_of_bytes c.args.line.now = search rules in
+    λ item holds. exact ∙ line_again item c.args.line.now holds
