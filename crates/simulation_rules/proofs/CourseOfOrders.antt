@@ -1,20 +1,13 @@
 -- A simulated tournament stays under way when a table breaks and when two tables are balanced.
 use Rattle.std.proofs.Common.{◌≡◌, ◌∙◌, refl, ap, ℕ, ◌≤◌, List, length}
-use Rattle.std.specs.Prelude.{◌||◌, Option, Some, None}
+use Rattle.std.specs.Prelude.{None}
 use Rattle.std.specs.List.{list_any}
-use Rattle.std.specs.Option.{ForSome}
-use Rattle.std.proofs.lemmas.Bool.{cond_both}
 use Rattle.seat_book.specs.declared.place.Place.{Place}
 use Rattle.seat_book.specs.declared.table_status.TableStatus.{TableStatus}
 use Rattle.seat_book.specs.Tables.{status_at}
-use Rattle.seat_book.specs.Seatings.{Seating, is_race_pending, is_round_open}
-use Rattle.balance_rule.specs.Balance.{balance_move, is_even_enough}
-use Rattle.balance_rule.specs.Filling.{fill_seats, names_at}
-use Rattle.break_draw.specs.declared.random.DrawKind.TheVariants.{Seats, Names}
-use Rattle.break_draw.specs.Generator.{drawn_order}
-use Rattle.floor_events.specs.declared.event.Event.{Event}
+use Rattle.seat_book.specs.Seatings.{Seating}
+use Rattle.balance_rule.specs.Balance.{balance_move}
 use Rattle.floor_events.specs.declared.event.Event.TheVariants.{Balance, Break}
-use Rattle.floor_director.specs.Orders.{balance_of, break_of, drawn_break, first_order, giver, is_playing, last_open, next_order, owed_balance, owed_break, taker}
 use Rattle.tournament_rules.specs.Books.{BookState}
 use Rattle.tournament_rules.specs.Checks.{book_refusal}
 use Rattle.tournament_rules.specs.Effects.{balanced, broken, forgotten, with_table}
@@ -23,7 +16,6 @@ use Rattle.tournament_rules.specs.Units.{is_due}
 use Rattle.tournament_rules.specs.Valid.{IsValid}
 use Rattle.tournament_rules.proofs.Balances.{valid_balanced}
 use Rattle.tournament_rules.proofs.Breaks.{valid_broken}
-use Rattle.tournament_rules.proofs.Plays.{some_so}
 use Rattle.simulation_rules.specs.declared.place.SimPlace.{SimPlace}
 use Rattle.simulation_rules.specs.Course.{IsUnderWay}
 use Rattle.simulation_rules.specs.Entrants.{entrants}

@@ -15,6 +15,7 @@ use Rattle.tournament_rules.specs.Effects.{first_book, first_status}
 use Rattle.tournament_rules.specs.States.{acts_at, first_play, hand_at}
 use Rattle.tournament_rules.specs.Units.{is_due}
 use Rattle.tournament_rules.proofs.Entries.{right_has, start_none, valid_first}
+use Rattle.simulation_rules.proofs.OwedOrders.{orders-few}
 use Rattle.simulation_rules.specs.Effort.{effort_in_play, effort_of_entries, effort_of_hand, effort_of_hands, effort_of_levels, effort_of_orders, effort_of_places, most_acts, most_chips, open_tables}
 use Rattle.simulation_rules.specs.Places.{first_place}
 
@@ -38,16 +39,7 @@ few_entries plan right =
     omega (arith, few)
 
 few_orders : (plan : PlanTerms) → is_right plan ≡ true → effort_of_orders (first_book plan).seating ≤ 416064
-unfolding effort_of_orders
-few_orders plan right =
-    let has = right_has plan right in
-    let seating = (first_book plan).seating in
-    let most = has.most_tables in
-    let opened = count_by-le-length (is_open seating.players) (table_numbers seating.table_count) in
-    let size = length-walk plan.tables 0 in
-    let uneven = spread-few seating (valid_first plan right).tables.lawful in
-    let few : open_tables seating ≤ 64 = omega (arith, most, opened, size) in
-    omega (arith, few, uneven)
+few_orders plan right = orders-few (first_book plan).seating (valid_first plan right).tables.lawful
 
 few_levels : (plan : PlanTerms) → is_right plan ≡ true → effort_of_levels (first_book plan) ≤ 2664
 unfolding effort_of_levels

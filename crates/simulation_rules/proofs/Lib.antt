@@ -19,6 +19,7 @@ pub mod OnCourse
 pub mod OpenTables
 pub mod AfterBreak
 pub mod OrdersFall
+pub mod OwedOrders
 pub mod FewChips
 pub mod Parts
 pub mod FloorFalls

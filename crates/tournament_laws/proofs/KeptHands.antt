@@ -1,21 +1,18 @@
 -- What an event that is not of the hands at a table leaves of the hand there.
-use Rattle.std.proofs.Common.{◌≡◌, ◌≢◌, ◌∙◌, refl, sym, ap, subst, ℕ, true, false, [], set}
-use Rattle.std.specs.Prelude.{Option, Some, None, option_map}
+use Rattle.std.proofs.Common.{◌≡◌, ◌≢◌, ◌∙◌, refl, sym, subst, ℕ, false, [], set}
+use Rattle.std.specs.Prelude.{Option, None}
 use Rattle.std.specs.Option.{option_map_or}
 use Rattle.std.proofs.lemmas.List.{get_or-set_other}
-use Rattle.rulebook.proofs.Tests.{some_there}
-use Rattle.table_engine.specs.declared.start.HandStart.{HandStart}
 use Rattle.table_engine.specs.Hands.{HandTerms}
 use Rattle.floor_events.specs.declared.event.Event.{Event}
 use Rattle.floor_events.specs.declared.event.Event.TheVariants as events
 use Rattle.tournament_rules.specs.Books.{start_at}
-use Rattle.tournament_rules.specs.Checks.{is_playing}
 use Rattle.tournament_rules.specs.Effects.{settled}
 use Rattle.tournament_rules.specs.States.{PlayState, acts_at, hand_at, refusal_of, play_effect}
 use Rattle.tournament_rules.specs.Valid.{IsValidPlay}
 use Rattle.tournament_rules.proofs.Fitting.{other_number}
 use Rattle.tournament_rules.proofs.Passed.{passed-parts, settle_passed}
-use Rattle.tournament_rules.proofs.PlayedHands.{IsPlayedAt, hand_there}
+use Rattle.tournament_rules.proofs.PlayedHands.{hand_there}
 use Rattle.tournament_laws.specs.Orders.{is_of_hands}
 
 -- The hand at a table and whether the tournament is stopped are as before.

@@ -53,10 +53,10 @@ all_known book (events.Act table name act) valid none =
 all_known book (events.Break table places names) valid none =
     let move = break_lawful book table places names valid (break_passed book table places names none) in
     λ k d within. All-contains (λ name. is_known book.entries name ≡ true) (names_at book.seating table)
-        (get_or names k d) (table_known book table valid)
-        (Contains-permutation names (names_at book.seating table) (get_or names k d)
-        (IsPermutation-sym (names_at book.seating table) names move.lawful.players)
-        (All-contains_itself names k d within))
+    (get_or names k d) (table_known book table valid)
+    (Contains-permutation names (names_at book.seating table) (get_or names k d)
+    (IsPermutation-sym (names_at book.seating table) names move.lawful.players)
+    (All-contains_itself names k d within))
 all_known book event valid none = All-nil (λ name. is_known book.entries name ≡ true)
 
 -- Before there is a plan nobody is named.

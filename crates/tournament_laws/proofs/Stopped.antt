@@ -1,16 +1,12 @@
 -- After a stop nothing is accepted, and nothing changes.
-use Rattle.std.proofs.Common.{◌≡◌, ◌≢◌, ◌∙◌, refl, ap, true, false, List, [], ◌∷◌}
+use Rattle.std.proofs.Common.{◌≡◌, ◌≢◌, ◌∙◌, refl, ap, true, List, [], ◌∷◌}
 use Rattle.std.specs.Prelude.{Option, Some, None}
-use Rattle.std.proofs.lemmas.Bool.{and_parts, not-true}
-use Rattle.rulebook.proofs.Checks.{none_holds}
 use Rattle.floor_text.specs.declared.refusal.Refusal.TheVariants.{NoPlan}
 use Rattle.floor_events.specs.declared.answer.Answer.TheVariants.{Ok, No}
 use Rattle.floor_events.specs.declared.event.Event.{Event}
-use Rattle.floor_events.specs.declared.event.Event.TheVariants.{Plan, Go, Stop}
-use Rattle.tournament_rules.specs.Books.{BookState}
-use Rattle.tournament_rules.specs.Checks.{book_checks, book_refusal}
+use Rattle.floor_events.specs.declared.event.Event.TheVariants.{Stop}
 use Rattle.tournament_rules.specs.States.{State, PlayState, answer_to, is_accepted, play_effect, state_after, run}
-use Rattle.tournament_rules.proofs.Passed.{passed-parts, plan_late, go_late}
+use Rattle.tournament_rules.proofs.Passed.{passed-parts}
 use Rattle.tournament_laws.proofs.ChipLaws.{refused-after}
 use Rattle.tournament_rules.proofs.MoveLaws.{not_refused}
 use Rattle.tournament_rules.proofs.Going.{goes_on}

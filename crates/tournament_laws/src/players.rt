@@ -98,8 +98,8 @@ pub fn no_two_entered_under_one_name()
         are_distinct bytes_eq play.book.entries ≡ true) }
 {}
 
-/// Says that after any list of events, nobody is named before entering: whoever an act or a break that is accepted names
-/// has entered.
+/// Says that after any list of events, nobody is named before entering: whoever an act or a break that is accepted
+/// names has entered.
 pub fn who_is_named_has_entered()
     ensures { (events : List Event) (event : Event) (name : List ℕ) → answer_to (run first_state events) event ≡ Ok
         → Contains (names_in event) name
