@@ -1,0 +1,2 @@
+pub mod Midst
+pub mod Told
