@@ -1,3 +1,4 @@
 pub mod Promises
 pub mod Running
 pub mod Counted
+pub mod Ended

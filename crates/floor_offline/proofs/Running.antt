@@ -7,6 +7,7 @@ use Rattle.floor_text.specs.LineReader.{Reads}
 use Rattle.floor_text.specs.Reading.{Reading, bytes_ahead}
 use Rattle.floor_text.specs.declared.line_reader.Next.{Next}
 use Rattle.floor_text.specs.declared.line_reader.Next.TheVariants.{End}
+use Rattle.level_plan.specs.declared.line.PlanItem.{PlanItem}
 use Rattle.tournament_rules.specs.States.{State, first_state}
 use Rattle.floor_offline.specs.declared.fault.Fault.{Fault}
 use Rattle.floor_offline.specs.declared.fault.Fault.TheVariants as faults
@@ -140,60 +141,40 @@ on_err (Ok value) error P is holds = absurd is
 on_err (Err other) error P is holds = subst P (sym is) holds
 
 -- a fault's status is one of those told
-pub status_of_fault : (fault : Fault) → Contains (0 ∷ 2 ∷ 3 ∷ 4 ∷ 5 ∷ 8 ∷ []) (fault_status fault)
+pub status_of_fault : (fault : Fault) → Contains (0 ∷ 2 ∷ 3 ∷ 4 ∷ 5 ∷ 6 ∷ 8 ∷ []) (fault_status fault)
 status_of_fault faults.Usage = (1, omega arith, refl)
 status_of_fault faults.Read = (2, omega arith, refl)
 status_of_fault faults.Write = (3, omega arith, refl)
 status_of_fault faults.NoMemory = (4, omega arith, refl)
-status_of_fault faults.InputTooLong = (5, omega arith, refl)
-
--- a run that ended well, or for want of memory, needs no more
-pub ended : (status : ℕ) (left : Option (List ℕ)) → (status ≡ 0) ⊎ (status ≡ 5)
-    → IfSome left (λ bytes. length bytes ≤ input_limit → (status ≡ 0) ⊎ (status ≡ 5))
-ended status None how = tt
-ended status (Some bytes) how = λ within. how
-
-too_long_alone : (left rest : Option (List ℕ)) (P : Type 0) → GivesMore input_limit left rest
-    → IfSome left (λ bytes. length bytes ≤ input_limit → P)
-too_long_alone None rest P more = tt
-too_long_alone (Some bytes) None P more = absurd more
-too_long_alone (Some bytes) (Some left) P more = λ within. absurd (omega (arith, more, within))
-
--- a fault that has its cause can be none but want of memory, where there was no other cause
-pub memory_alone : (fault : Fault) (left rest : Option (List ℕ)) (read write : Type 0)
-    → (fault ≡ faults.Usage → ⊥) → (fault ≡ faults.Read → read) → (fault ≡ faults.Write → write)
-    → (fault ≡ faults.InputTooLong → GivesMore input_limit left rest)
-    → (read → ⊥) → (write → ⊥)
-    → IfSome left (λ bytes. length bytes ≤ input_limit → (fault_status fault ≡ 0) ⊎ (fault_status fault ≡ 5))
-memory_alone faults.Usage left rest read write usage reads writes more no_read no_write = absurd (usage refl)
-memory_alone faults.Read left rest read write usage reads writes more no_read no_write = absurd (no_read (reads refl))
-memory_alone faults.Write left rest read write usage reads writes more no_read no_write =
-    absurd (no_write (writes refl))
-memory_alone faults.NoMemory left rest read write usage reads writes more no_read no_write = ended 5 left (inr refl)
-memory_alone faults.InputTooLong left rest read write usage reads writes more no_read no_write =
-    too_long_alone left rest _ (more refl)
+status_of_fault (faults.Plan item) = (5, omega arith, refl)
+status_of_fault faults.InputTooLong = (6, omega arith, refl)
 
 -- A run that was closed ended by its own fault or a late failure of out. Where that is no write fault, out holds back
 -- nothing of what was put.
 pub lets_go : {S : Type 0} (held : S → List ℕ) (first mid now : S) (ran closed : Result (Unit {0}) Fault)
     (fault : Fault) (late : Type 0) → closed ≡ Err fault → (closed ≡ ran) ⊎ ((closed ≡ Err faults.Write) × late)
-    → (ran ≡ Err faults.Usage → ⊥) → IfErr ran (λ fault. IsOfReading fault → LetsGo held first mid)
+    → (ran ≡ Err faults.Usage → ⊥) → ((item : PlanItem) → ran ≡ Err (faults.Plan item) → ⊥)
+    → IfErr ran (λ fault. IsOfReading fault → LetsGo held first mid)
     → (closed ≡ Err faults.NoMemory → held now ≡ []) → ((ran ≡ Err faults.NoMemory → ⊥) → now ≡ mid)
-    → (fault_status fault ≡ 4 → ⊥) → LetsGo held first now
-lets_go held first mid now ran closed faults.Usage late is how usage reading memory same no_write = elim how [
+    → (fault ≡ faults.Write → ⊥) → LetsGo held first now
+lets_go held first mid now ran closed faults.Usage late is how usage plan reading memory same no_write = elim how [
   | inl own ↦ absurd (usage (sym own ∙ is))
   | inr failed ↦ cc
 ]
-lets_go held first mid now ran closed faults.Read late is how usage reading memory same no_write = elim how [
+lets_go held first mid now ran closed faults.Read late is how usage plan reading memory same no_write = elim how [
   | inl own ↦
       let ended : ran ≡ Err faults.Read = sym own ∙ is in
       rw (same (λ wanting. cc)) ((rw ended at reading) tt)
   | inr failed ↦ cc
 ]
-lets_go held first mid now ran closed faults.Write late is how usage reading memory same no_write =
+lets_go held first mid now ran closed faults.Write late is how usage plan reading memory same no_write =
     absurd (no_write refl)
-lets_go held first mid now ran closed faults.NoMemory late is how usage reading memory same no_write = inl (memory is)
-lets_go held first mid now ran closed faults.InputTooLong late is how usage reading memory same no_write = elim how [
+lets_go held first mid now ran closed faults.NoMemory late is how usage plan reading memory same no_write = inl (memory is)
+lets_go held first mid now ran closed (faults.Plan item) late is how usage plan reading memory same no_write = elim how [
+  | inl own ↦ absurd (plan item (sym own ∙ is))
+  | inr failed ↦ cc
+]
+lets_go held first mid now ran closed faults.InputTooLong late is how usage plan reading memory same no_write = elim how [
   | inl own ↦
       let ended : ran ≡ Err faults.InputTooLong = sym own ∙ is in
       rw (same (λ wanting. cc)) ((rw ended at reading) tt)
@@ -208,4 +189,5 @@ no_reading (Err faults.Usage) P writing = λ reading. absurd reading
 no_reading (Err faults.Read) P writing = λ reading. absurd writing
 no_reading (Err faults.Write) P writing = λ reading. absurd reading
 no_reading (Err faults.NoMemory) P writing = λ reading. absurd reading
+no_reading (Err (faults.Plan item)) P writing = λ reading. absurd reading
 no_reading (Err faults.InputTooLong) P writing = λ reading. absurd writing

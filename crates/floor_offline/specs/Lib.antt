@@ -2,3 +2,4 @@ pub mod Endings
 pub mod Limits
 pub mod Handed
 pub mod Promise
+pub mod Commands

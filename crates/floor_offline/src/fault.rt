@@ -2,10 +2,12 @@
 
 ghost use Rattle.std.specs.Prelude.{◌≡◌};
 ghost use Rattle.floor_text.specs.declared.line_reader.ReadEnd.TheVariants as read_ends;
-ghost use Rattle.floor_offline.specs.declared.fault.Fault.TheVariants.{Write, NoMemory};
-ghost use Rattle.floor_offline.specs.Endings.{fault_status, fault_line, fault_of_read_end};
+ghost use Rattle.floor_offline.specs.declared.fault.Fault.TheVariants.{Write, NoMemory, Plan};
+ghost use Rattle.floor_offline.specs.Endings.{fault_status, fault_line, fault_of_read_end, fault_of_whole_end, fault_of_plan};
 
 use floor_text::{Failed, ReadEnd};
+use level_plan::{PlanFault, PlanItem};
+use plan_files::WholeEnd;
 use std::alloc::AllocError;
 
 /// Why a run ends otherwise than well.
@@ -19,8 +21,29 @@ pub enum Fault {
     Write,
     /// Memory ran out.
     NoMemory,
+    /// This item of the plan is wrong.
+    Plan(PlanItem),
     /// The input has more bytes than the limit.
     InputTooLong,
+}
+
+/// Gives the line that tells which item of a plan is wrong.
+fn plan_line(item: PlanItem) -> &'static [u8]
+    ensures { result.now ≡ fault_line (Plan item) }
+{
+    match item {
+        PlanItem::Toml => b"plan toml\n",
+        PlanItem::Game => b"plan game\n",
+        PlanItem::Tables => b"plan tables\n",
+        PlanItem::Seats => b"plan seats\n",
+        PlanItem::Stack => b"plan stack\n",
+        PlanItem::Buyin => b"plan buyin\n",
+        PlanItem::Late => b"plan late\n",
+        PlanItem::Blinds => b"plan blinds\n",
+        PlanItem::Shares => b"plan shares\n",
+        PlanItem::FloorWord => b"plan floor_word\n",
+        PlanItem::Words => b"plan words\n",
+    }
 }
 
 impl Fault {
@@ -33,6 +56,7 @@ impl Fault {
             Fault::Read => 3,
             Fault::Write => 4,
             Fault::NoMemory => 5,
+            Fault::Plan(_) => 6,
             Fault::InputTooLong => 8,
         }
     }
@@ -46,6 +70,7 @@ impl Fault {
             Fault::Read => b"read fault\n",
             Fault::Write => b"write fault\n",
             Fault::NoMemory => b"out of memory\n",
+            Fault::Plan(item) => plan_line(item),
             Fault::InputTooLong => b"input too long\n",
         }
     }
@@ -74,6 +99,29 @@ impl From<ReadEnd> for Fault {
         match end {
             ReadEnd::ReadFault => Fault::Read,
             ReadEnd::InputTooLong => Fault::InputTooLong,
+        }
+    }
+}
+
+impl From<WholeEnd> for Fault {
+    ghost from_gives = { λ end fault. fault ≡ fault_of_whole_end end };
+
+    fn from(end: WholeEnd) -> Fault {
+        match end {
+            WholeEnd::ReadFault => Fault::Read,
+            WholeEnd::InputTooLong => Fault::InputTooLong,
+            WholeEnd::NoMemory => Fault::NoMemory,
+        }
+    }
+}
+
+impl From<PlanFault> for Fault {
+    ghost from_gives = { λ reason fault. fault ≡ fault_of_plan reason };
+
+    fn from(reason: PlanFault) -> Fault {
+        match reason {
+            PlanFault::Wrong(item) => Fault::Plan(item),
+            PlanFault::NoMemory => Fault::NoMemory,
         }
     }
 }

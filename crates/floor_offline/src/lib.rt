@@ -1,13 +1,16 @@
-//! Tournaments run offline: lines in, answers and a report out.
+//! Tournaments run offline: lines in, answers and a report out, and simulated tournaments.
 //!
-//! It stands on floor_core, floor_events and floor_text. `run_offline` is the whole program over any source and
-//! sinks, and its contract says what the program promises: what it wrote is `replay_text` of what it read.
+//! It stands on floor_core, floor_simulation, plan_files, floor_events and floor_text. `run_offline` is the whole
+//! program over any source and sinks, and its contract says what the program promises: what it wrote is the text that
+//! the command makes of what it read.
 #![tactic(auto)]
 
 mod answers;
+mod command;
 mod fault;
 mod replay;
 mod run;
+mod simulate;
 
 pub use run::run_offline;
 
@@ -57,6 +60,8 @@ mod short_blind_transcripts;
 mod showdown_tests;
 #[cfg(test)]
 mod showdown_transcripts;
+#[cfg(test)]
+mod simulate_tests;
 #[cfg(test)]
 mod table_plans;
 #[cfg(test)]

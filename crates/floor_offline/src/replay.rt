@@ -4,6 +4,7 @@ ghost use Rattle.std.specs.Prelude.{◌⊎◌, ◌≡◌, ◌≢◌, ◌≤◌, 
 ghost use Rattle.floor_text.specs.Outside.{Rose};
 ghost use Rattle.floor_text.specs.LineReader.{Reads, lines_of_next};
 ghost use Rattle.floor_text.specs.Reading.{bytes_ahead};
+ghost use Rattle.level_plan.specs.declared.line.PlanItem.{PlanItem};
 ghost use Rattle.floor_events.specs.Grammar.{item_of_bytes};
 ghost use Rattle.floor_offline.specs.Limits.{input_limit};
 ghost use Rattle.floor_offline.specs.Endings.{IsOfWriting, IsOfReading, LetsGo};
@@ -33,8 +34,8 @@ fn answer_line(
     ensures state { OnOk result (tournament.new ≡ state_after_item tournament.old (item_of_bytes line.now)) }
     ensures counted { OnOk result (tournament.new.accepted ≤ tournament.old.accepted + 1) }
 {
-    match &read_item(alloc, line)? {
-        Some(Item::Event(event)) => tournament.apply(event),
+    match read_item(alloc, line)? {
+        Some(Item::Event(event)) => tournament.apply(&event),
         Some(Item::Note) => Ok(Answer::Ok),
         None => Ok(Answer::No(Refusal::Syntax)),
     }
@@ -144,6 +145,7 @@ fn answer_next<I: Source, O: Sink>(
     ensures read { IsErrOf result Fault.Read → Rose (I.faults input.old) (I.faults input.new) }
     ensures write { IsErrOf result Fault.Write → Rose (O.faults out.old) (O.faults out.new) }
     ensures words { IsErrOf result Fault.Usage → ⊥ }
+    ensures plan { (item : PlanItem) → IsErrOf result (Fault.Plan item) → ⊥ }
 {
     let answer = answer_handed(alloc, tournament, line, reader.line())?;
     let at_hand = reader.next_held();
@@ -177,6 +179,7 @@ pub fn replay<I: Source, O: Sink>(alloc: Global, input: &mut I, out: &mut O) -> 
     ensures out_later { O.faults out.old ≤ O.faults out.new }
     ensures write { IsErrOf result Fault.Write → Rose (O.faults out.old) (O.faults out.new) }
     ensures words { IsErrOf result Fault.Usage → ⊥ }
+    ensures plan { (item : PlanItem) → IsErrOf result (Fault.Plan item) → ⊥ }
 {
     let mut reader = input_reader(alloc)?;
     let mut tournament = Tournament::new(alloc)?;

@@ -22,10 +22,10 @@ const USAGE: &str = "usage: replay / view NAME / simulate N / serve PORT DESKS\n
 
 /// What a run over memory came to.
 #[derive(Drop)]
-struct Ran {
-    status: u8,
-    out: MemSink,
-    err: MemSink,
+pub struct Ran {
+    pub status: u8,
+    pub out: MemSink,
+    pub err: MemSink,
 }
 
 /// The words that stand for rows, and the rows.
@@ -80,7 +80,8 @@ fn words_of(alloc: Global, text: &str) -> Result<Vec<String>, AllocError> {
     Ok(words)
 }
 
-fn run(
+/// Runs words over an input, with the takes and the puts of these numbers failing.
+pub fn run(
     alloc: Global,
     word: &str,
     input: Vec<u8>,
