@@ -5,7 +5,7 @@ ghost use Rattle.table_engine.specs.Awards.{award_in};
 
 /// What the players of a hand get, in chips.
 #[derive(Clone, Copy, Debug)]
-pub(crate) enum Awards {
+pub enum Awards {
     /// One player alone is live and gets so much: everything.
     Sole(u64),
     /// The awards of a showdown, by seat: index 0 is seat 1.
@@ -14,7 +14,7 @@ pub(crate) enum Awards {
 
 impl Awards {
     /// Tells what the player in a seat gets, who is live or has folded.
-    pub(crate) fn award_in(&self, seat: u8, live: bool) -> u64
+    pub fn award_in(&self, seat: u8, live: bool) -> u64
         requires first { 1 ≤ seat }
         requires last { seat ≤ 10 }
         ensures { result ≡ award_in self.now seat live }

@@ -295,8 +295,8 @@ impl Hand {
         )
     }
 
-    /// Tells what the players get of the pots of a hand that is over.
-    fn awards(&self) -> Awards
+    /// Tells what the players get of the pots of a hand that is over. It takes no memory.
+    pub fn awards(&self) -> Awards
         requires { IsTrue (is_over self.now) }
         ensures awards { result ≡ awards_in_hand self.now }
         ensures most { most_awarded result < 2 ^ 53 }
@@ -357,6 +357,17 @@ impl Hand {
             acts: self.acts,
             stacks: List::from_vec(stacks),
         }
+    }
+
+    /// Gives the start and the acts. It takes no memory.
+    pub fn into_parts(self) -> (HandStart, List<ActOf>)
+        ensures start { result.0 ≡ self.start }
+        ensures acts { result.1 ≡ self.acts }
+        ensures lawful { IsLawfulStart self.start }
+        ensures played { IsLawfulPlay self }
+    {
+        let Hand { start, acts, .. } = self;
+        (start, acts)
     }
 
     /// Gives the start back, as if nothing had been dealt. It takes no memory.

@@ -23,6 +23,7 @@ mod record;
 mod start;
 mod telling;
 
+pub use awards::Awards;
 pub use hand::Hand;
 pub use laws::{
     a_showdown_has_the_whole_board, acts_of_a_hand, an_uncalled_bet_comes_back, cards_do_not_bet,
