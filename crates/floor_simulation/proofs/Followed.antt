@@ -1,6 +1,6 @@
 -- A simulated tournament in its midst, step by step.
 use Rattle.std.proofs.Common.{◌≡◌, ◌∙◌, refl, sym, ap, ℕ, ◌+◌, ◌^◌, ◌<◌, ◌≤◌, List, ◌∷◌, [], length, arith}
-use Rattle.std.specs.Prelude.{count_by, if◌then◌else◌}
+use Rattle.std.specs.Prelude.{count_by}
 use Rattle.rulebook.proofs.Tests.{at_most_one, count_by-cons}
 use Rattle.floor_events.specs.declared.answer.Answer.TheVariants.{Ok}
 use Rattle.floor_events.specs.declared.event.Event.{Event}

@@ -1,13 +1,12 @@
 -- What comes next, by what is known of the book.
 use Rattle.std.proofs.Common.{◌≡◌, ◌∙◌, refl, sym, ap, subst, ℕ, true, false, List, length, find, Option, Some, None}
-use Rattle.std.specs.Prelude.{nat_lt, if◌then◌else◌, option_map}
+use Rattle.std.specs.Prelude.{nat_lt, option_map}
 use Rattle.std.specs.Option.{ForSome, option_map_or}
 use Rattle.seat_book.specs.Counts.{table_numbers}
 use Rattle.tournament_rules.specs.Books.{BookState}
 use Rattle.tournament_rules.specs.Checks.{is_race_due}
 use Rattle.tournament_rules.specs.States.{PlayState, State}
 use Rattle.simulation_rules.specs.declared.place.SimPlace.{SimPlace}
-use Rattle.simulation_rules.specs.declared.step.SimStep.{SimStep}
 use Rattle.simulation_rules.specs.declared.step.SimStep.TheVariants.{Take, End}
 use Rattle.simulation_rules.specs.Course.{IsUnderWay}
 use Rattle.simulation_rules.specs.Entrants.{entrants, next_entry}

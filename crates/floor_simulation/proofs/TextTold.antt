@@ -1,5 +1,5 @@
 -- What is told of a simulated tournament is its text.
-use Rattle.std.proofs.Common.{◌≡◌, ◌∙◌, refl, sym, ap, ℕ, List, [], ◌++◌, append_assoc, length, map}
+use Rattle.std.proofs.Common.{◌≡◌, ◌∙◌, refl, ap, ℕ, List, [], ◌++◌, append_assoc, length}
 use Rattle.std.specs.Prelude.{codes, count_by, Option, Some, None}
 use Rattle.std.specs.Option.{option_map_or}
 use Rattle.std.proofs.lemmas.List.{length-map}

@@ -1,4 +1,4 @@
-use Rattle.std.proofs.Common.{◌≡◌, ◌∙◌, sym, ap, not, ℕ, Option, Some, arith}
+use Rattle.std.proofs.Common.{◌∙◌, sym, ap, not, ℕ, Option, arith}
 use Rattle.std.specs.Prelude.{unwrap_or}
 use Rattle.button_blinds.specs.SeatSets.{has_seat}
 use Rattle.seat_book.specs.Players.{taken_seats}

@@ -1,7 +1,6 @@
-use Rattle.std.proofs.Common.{◌≡◌, ◌∙◌, ◌+◌, ◌<◌, ◌≤◌, refl, sym, ap, ℕ, Option, arith}
+use Rattle.std.proofs.Common.{◌≡◌, ◌∙◌, refl, sym, ap, ℕ, Option, arith}
 use Rattle.std.specs.Prelude.{unwrap_or}
 use Rattle.seat_book.specs.Counts.{count_at, table_numbers}
-use Rattle.seat_book.specs.Places.{IsTableOf}
 use Rattle.balance_rule.specs.Filling.{lowest_table}
 use Rattle.simulation_rules.specs.Entrants.{table_to_enter}
 use Rattle.floor_simulation.proofs.LowestTables.{lowest-next, lowest-stays}

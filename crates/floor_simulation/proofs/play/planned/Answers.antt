@@ -1,7 +1,6 @@
 use Rattle.std.proofs.Common.{◌≡◌, ◌∙◌, [], arith, rules}
 use Rattle.std.specs.Vec.Iter.{into_iter_items}
 use Rattle.std.proofs.lemmas.List.{nil_from_length}
-use Rattle.plan_files.specs.PlanLines.{lines_of_plan}
 use Rattle.floor_simulation.proofs.PlanLines.{planning-ends, planning-next, planning-room, planning-starts}
 use Rattle.floor_simulation.proofs.play.planned.Goals as goal
 

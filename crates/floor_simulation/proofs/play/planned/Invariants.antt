@@ -1,4 +1,3 @@
-use Rattle.std.proofs.Common.{◌≡◌, ◌≤◌, ◌+◌, length}
 use Rattle.std.specs.Vec.Iter.{into_iter_items}
 use Rattle.floor_simulation.proofs.PlanLines.{IsPlanning}
 use Rattle.floor_simulation.proofs.play.planned.Given as goal

@@ -1,4 +1,4 @@
-use Rattle.std.proofs.Common.{◌≡◌, ◌∙◌, refl, sym, ap, ℕ, Bool, true, Option, Some, None, Ok, Err, Result, OnOk}
+use Rattle.std.proofs.Common.{◌≡◌, ◌∙◌, sym, ap, ℕ, true, Option, None, Ok, Err, Result, OnOk}
 use Rattle.std.specs.Prelude.{is_none, if◌then◌else◌}
 use Rattle.std.specs.Result.{is_ok}
 use Rattle.floor_text.specs.declared.refusal.Refusal.{Refusal}

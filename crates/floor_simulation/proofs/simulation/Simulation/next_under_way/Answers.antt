@@ -1,4 +1,4 @@
-use Rattle.std.proofs.Common.{◌≡◌, ◌∙◌, sym, ap, true, false, length, find, Ok, Err, Result, IfOk}
+use Rattle.std.proofs.Common.{◌∙◌, sym, ap, length, find, Ok, Err, Result, IfOk}
 use Rattle.std.specs.Prelude.{nat_lt}
 use Rattle.std.proofs.lemmas.Bool.{ltb-true}
 use Rattle.seat_book.specs.Counts.{table_numbers}
