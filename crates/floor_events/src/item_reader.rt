@@ -116,7 +116,8 @@ fn is_note(line: &[u8]) -> bool
 
 /// Reads a line, without its line feed. `None` exactly where it is not in the grammar; memory is wanted only
 /// where it is.
-#[inline(never)]
+// Its item is made where the caller looks at it, and is not moved there from a call.
+#[inline(always)]
 #[tactic(auto, using(crate::proofs::EventLaws::found_in_line), unfolding(crate::specs::Grammar::item_of_words, crate::specs::Grammar::item_of_bytes))]
 pub fn read_item(alloc: Global, line: &[u8]) -> Result<Option<Item>, AllocError>
     ensures exact { IfOk result (λ found. found ≡ item_of_bytes line.now) }
