@@ -1,7 +1,6 @@
 //! Lines are read as items.
 
 ghost use Rattle.std.specs.Prelude.{◌≡◌, codes, Some, option_map, IfOk, OnErr, IfSome, IsSome};
-ghost use Rattle.std.specs.Str.{bytes_eq};
 ghost use Rattle.floor_events.specs.declared.event.Event.TheVariants as events;
 ghost use Rattle.floor_events.specs.declared.event.Item.{Item};
 ghost use Rattle.floor_events.specs.declared.event.Item.TheVariants as items;
@@ -13,15 +12,8 @@ use crate::event::{Event, Item};
 use crate::list_reader::{read_break, read_shares};
 use floor_text::LONGEST_LINE;
 use level_plan::{Blind, PlanLine};
-use line_words::LineWords;
+use line_words::{LineWords, is};
 use std::alloc::{AllocError, Global};
-
-#[inline(always)]
-fn is(word: &[u8], text: &[u8]) -> bool
-    ensures { result ≡ bytes_eq word.now text.now }
-{
-    word == text
-}
 
 /// Gives the item of a line of a plan.
 fn plan_item(line: PlanLine) -> Item
@@ -124,7 +116,8 @@ fn is_note(line: &[u8]) -> bool
 
 /// Reads a line, without its line feed. `None` exactly where it is not in the grammar; memory is wanted only
 /// where it is.
-#[inline(never)]
+// Its item is made where the caller looks at it, and is not moved there from a call.
+#[inline(always)]
 #[tactic(auto, using(crate::proofs::EventLaws::found_in_line), unfolding(crate::specs::Grammar::item_of_words, crate::specs::Grammar::item_of_bytes))]
 pub fn read_item(alloc: Global, line: &[u8]) -> Result<Option<Item>, AllocError>
     ensures exact { IfOk result (λ found. found ≡ item_of_bytes line.now) }

@@ -5,7 +5,7 @@ ghost use Rattle.floor_text.specs.Numbers.{number_of};
 ghost use Rattle.card_set.specs.Cards.{row_of};
 ghost use Rattle.line_words.specs.Fields.{name_of, game_of, switch_of, meaning, act_list, amount_list, place_at, place_of};
 
-use crate::words::LineWords;
+use crate::words::{LineWords, is};
 use betting_round::Act;
 use card_set::{CardRow, Game, read_row};
 use floor_text::{Name, read_number};
@@ -63,8 +63,8 @@ impl Spelled for bool {
 
     fn read(word: &[u8]) -> Option<bool> {
         match word {
-            b"on" => Some(true),
-            b"off" => Some(false),
+            _ if is(word, b"on") => Some(true),
+            _ if is(word, b"off") => Some(false),
             _ => None,
         }
     }
@@ -86,9 +86,9 @@ fn read_game(word: &[u8]) -> Option<Game>
     ensures { result ≡ game_of word.now }
 {
     match word {
-        b"holdem" => Some(Game::Holdem),
-        b"omaha" => Some(Game::Omaha),
-        b"hilo" => Some(Game::Hilo),
+        _ if is(word, b"holdem") => Some(Game::Holdem),
+        _ if is(word, b"omaha") => Some(Game::Omaha),
+        _ if is(word, b"hilo") => Some(Game::Hilo),
         _ => None,
     }
 }
@@ -112,10 +112,10 @@ pub fn read_act(word: &[u8]) -> Option<Act>
     ensures { result ≡ meaning act_list word.now }
 {
     match word {
-        b"fold" => Some(Act::Fold),
-        b"check" => Some(Act::Check),
-        b"call" => Some(Act::Call),
-        b"allin" => Some(Act::AllIn),
+        _ if is(word, b"fold") => Some(Act::Fold),
+        _ if is(word, b"check") => Some(Act::Check),
+        _ if is(word, b"call") => Some(Act::Call),
+        _ if is(word, b"allin") => Some(Act::AllIn),
         _ => None,
     }
 }
@@ -125,8 +125,8 @@ pub fn read_act_with(word: &[u8], amount: u64) -> Option<Act>
     ensures { result ≡ meaning (amount_list amount) word.now }
 {
     match word {
-        b"bet" => Some(Act::Bet(amount)),
-        b"raise" => Some(Act::Raise(amount)),
+        _ if is(word, b"bet") => Some(Act::Bet(amount)),
+        _ if is(word, b"raise") => Some(Act::Raise(amount)),
         _ => None,
     }
 }

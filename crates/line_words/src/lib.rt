@@ -20,7 +20,7 @@ pub use fields::{Spelled, read_act, read_act_with};
 pub use limits::MOST_MEMBERS;
 pub use line_writer::{Word, push_line, push_lines, push_words};
 pub use text::{WriteText, push_behind, push_each, push_joined, write_text};
-pub use words::LineWords;
+pub use words::{LineWords, is};
 
 #[cfg(test)]
 mod tests;

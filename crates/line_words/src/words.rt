@@ -2,6 +2,7 @@
 
 ghost use Rattle.std.specs.Prelude.{◌≡◌, ◌==◌, Some, None, [], ◌∷◌, MatchOption};
 ghost use Rattle.std.specs.List.{position};
+ghost use Rattle.std.specs.Str.{bytes_eq};
 ghost use Rattle.line_words.specs.Words.{pieces_of, words_of_line, no_word};
 ghost use Rattle.line_words.specs.Fields.{act_of, next_by, last_by};
 
@@ -13,6 +14,18 @@ use std::marker::Model;
 
 /// The byte between two words of a line.
 pub(crate) const SPACE: u8 = b' ';
+
+/// Tells whether a word is a text. The length of a text is known where its word is looked up, so that the two are
+/// compared at once; a call for that would cost more than the bytes do.
+#[inline(always)]
+pub fn is<const N: usize>(word: &[u8], text: &[u8; N]) -> bool
+    ensures { result ≡ bytes_eq word.now text.now }
+{
+    match <&[u8; N]>::try_from(word) {
+        Ok(word) => word == text,
+        Err(_) => false,
+    }
+}
 
 fn first_of(between: u8, bytes: &[u8]) -> Option<usize>
     ensures { result ≡ position (λ byte. byte == between) bytes.now }
