@@ -1,0 +1,12 @@
+pub mod Members
+pub mod Betting
+pub mod SameCards
+pub mod Seen
+pub mod Refusals
+pub mod Effects
+pub mod Reports
+pub mod Settles
+pub mod GoesOn
+pub mod Growing
+pub mod Alike
+pub mod Agreed
