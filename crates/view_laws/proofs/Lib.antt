@@ -10,3 +10,5 @@ pub mod GoesOn
 pub mod Growing
 pub mod Alike
 pub mod Agreed
+pub mod OwnLines
+pub mod OtherDecks

@@ -1,12 +1,16 @@
 //! Laws of the cards that are shown to a player, and of the lines that he is told.
 
-ghost use Rattle.std.specs.Prelude.{◌≡◌, ℕ, List, ◌++◌, Contains};
+ghost use Rattle.std.specs.Prelude.{◌≡◌, ℕ, List, ◌∷◌, ◌++◌, filter, Contains, None};
+ghost use Rattle.card_set.specs.declared.card.CardRow.{CardRow};
 ghost use Rattle.floor_events.specs.declared.event.Event.{Event};
+ghost use Rattle.floor_events.specs.declared.event.Event.TheVariants.{Begin};
 ghost use Rattle.tournament_rules.specs.States.{first_state, answers, run};
 ghost use Rattle.tournament_rules.specs.Report.{report_of};
 ghost use Rattle.view_rules.specs.Shown.{Viewer};
 ghost use Rattle.view_rules.specs.Agreeing.{AgreeFor, places_shown_in};
 ghost use Rattle.view_rules.specs.Views.{lines_seen_by};
+ghost use Rattle.view_laws.specs.OwnLines.{is_for_all};
+ghost use Rattle.view_laws.specs.OtherDecks.{CouldBe};
 
 /// Says that two lists of events that agree on all that a player may see, or on all that everybody may, are answered
 /// alike, end in the same report, and are told alike to him: no answer, no report and no line of his tells anything of
@@ -26,4 +30,28 @@ pub fn what_is_shown_stays_shown()
     ensures { (who : Viewer) (before events more : List Event) (table place : ℕ)
         → Contains (places_shown_in who (run first_state before) table events) place
         → Contains (places_shown_in who (run first_state before) table (events ++ more)) place }
+{}
+
+/// Says that a player is told what everybody is told, in the same order, and beside that his own hole cards alone.
+pub fn a_player_is_told_what_all_are_told()
+    ensures { (who : Viewer) (events : List Event)
+        → filter is_for_all (lines_seen_by who events) ≡ lines_seen_by None events }
+{}
+
+/// Says that a card that is not shown to a player could have been any other, as far as he can tell: with another deck
+/// that has the same cards at all places that come to be shown to him of a hand, each event is answered as it was, and
+/// he is told the same.
+pub fn a_card_that_is_not_shown_could_be_any_other()
+    ensures answers { (who : Viewer) (before behind : List Event) (table : ℕ) (row other : CardRow)
+        → CouldBe who before table row other behind
+        → answers first_state (before ++ Begin table row ∷ behind)
+        ≡ answers first_state (before ++ Begin table other ∷ behind) }
+    ensures report { (who : Viewer) (before behind : List Event) (table : ℕ) (row other : CardRow)
+        → CouldBe who before table row other behind
+        → report_of (run first_state (before ++ Begin table row ∷ behind))
+        ≡ report_of (run first_state (before ++ Begin table other ∷ behind)) }
+    ensures lines { (who : Viewer) (before behind : List Event) (table : ℕ) (row other : CardRow)
+        → CouldBe who before table row other behind
+        → lines_seen_by who (before ++ Begin table row ∷ behind)
+        ≡ lines_seen_by who (before ++ Begin table other ∷ behind) }
 {}

@@ -6,4 +6,7 @@
 
 mod laws;
 
-pub use laws::{agreeing_lists_are_told_alike, what_is_shown_stays_shown};
+pub use laws::{
+    a_card_that_is_not_shown_could_be_any_other, a_player_is_told_what_all_are_told,
+    agreeing_lists_are_told_alike, what_is_shown_stays_shown,
+};
