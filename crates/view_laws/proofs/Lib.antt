@@ -12,3 +12,5 @@ pub mod Alike
 pub mod Agreed
 pub mod OwnLines
 pub mod OtherDecks
+pub mod PlacesApart
+pub mod Folded

@@ -28,6 +28,12 @@ pub made_hold : {A B : Type 0} (P : B → Type 0) (f : A → B) (items : List A)
 made_hold P f [] all = tt
 made_hold P f (item ∷ items) all = (all.0, made_hold P f items all.1)
 
+-- What holds of what each item of a list is made into holds of each item of the list that is made of it.
+pub hold_made : {A B : Type 0} (P : B → Type 0) (f : A → B) (items : List A) → AllByRecursion (λ item. P (f item)) items
+    → AllByRecursion P (map f items)
+hold_made P f [] all = tt
+hold_made P f (item ∷ items) all = (all.0, hold_made P f items all.1)
+
 -- What holds of all that the items of a list give holds of all that each of them gives.
 pub given_hold : {A B : Type 0} (P : B → Type 0) (f : A → List B) (items : List A)
     → AllByRecursion P (flat_map f items) → AllByRecursion (λ item. AllByRecursion P (f item)) items
@@ -48,6 +54,29 @@ all_given P f (item ∷ items) each =
 pub always_hold : {A : Type 0} (P : A → Type 0) (items : List A) → ((item : A) → P item) → AllByRecursion P items
 always_hold P [] always = tt
 always_hold P (item ∷ items) always = (always item, always_hold P items always)
+
+-- What holds where something else does holds of each item of which that holds.
+pub weaker : {A : Type 0} (P Q : A → Type 0) (items : List A) → ((item : A) → P item → Q item) → AllByRecursion P items
+    → AllByRecursion Q items
+weaker P Q [] leads all = tt
+weaker P Q (item ∷ items) leads all = (leads item all.0, weaker P Q items leads all.1)
+
+-- What holds of each item that passes a test holds of each that it keeps.
+pub hold_kept : {A : Type 0} (P : A → Type 0) (test : A → Bool) (items : List A)
+    → AllByRecursion (λ item. test item ≡ true → P item) items → AllByRecursion P (filter test items)
+hold_kept P test [] all = tt
+hold_kept P test (item ∷ items) all = by_test (test item) refl (hold_kept P test items all.1)
+  where
+    by_test : (passes : Bool) → test item ≡ passes → AllByRecursion P (filter test items)
+        → AllByRecursion P (cond passes (item ∷ filter test items) (filter test items))
+    by_test true is rest = (all.0 is, rest)
+    by_test false is rest = rest
+
+-- What holds of each item holds of each that a test keeps.
+pub hold_filter : {A : Type 0} (P : A → Type 0) (test : A → Bool) (items : List A) → AllByRecursion P items
+    → AllByRecursion P (filter test items)
+hold_filter P test items all =
+    hold_kept P test items (weaker P (λ item. test item ≡ true → P item) items (λ item holds passes. holds) all)
 
 -- What holds of each item that a test keeps holds of each item that passes it.
 pub kept_hold : {A : Type 0} (P : A → Type 0) (test : A → Bool) (items : List A)

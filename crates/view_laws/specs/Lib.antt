@@ -1,2 +1,3 @@
 pub mod OwnLines
 pub mod OtherDecks
+pub mod Folded

@@ -1,16 +1,21 @@
 //! Laws of the cards that are shown to a player, and of the lines that he is told.
 
 ghost use Rattle.std.specs.Prelude.{◌≡◌, ℕ, List, ◌∷◌, ◌++◌, filter, Contains, None};
+ghost use Rattle.std.specs.Option.{ForSome};
 ghost use Rattle.card_set.specs.declared.card.CardRow.{CardRow};
+ghost use Rattle.table_engine.specs.declared.start.StartSeat.{StartSeat};
+ghost use Rattle.table_engine.specs.Hands.{HandTerms};
+ghost use Rattle.table_engine.specs.Starts.{IsLawfulStart};
 ghost use Rattle.floor_events.specs.declared.event.Event.{Event};
 ghost use Rattle.floor_events.specs.declared.event.Event.TheVariants.{Begin};
 ghost use Rattle.tournament_rules.specs.States.{first_state, answers, run};
 ghost use Rattle.tournament_rules.specs.Report.{report_of};
-ghost use Rattle.view_rules.specs.Shown.{Viewer};
-ghost use Rattle.view_rules.specs.Agreeing.{AgreeFor, places_shown_in};
+ghost use Rattle.view_rules.specs.Shown.{Viewer, hole_places, places_shown};
+ghost use Rattle.view_rules.specs.Agreeing.{AgreeFor, hand_left, places_shown_in};
 ghost use Rattle.view_rules.specs.Views.{lines_seen_by};
 ghost use Rattle.view_laws.specs.OwnLines.{is_for_all};
 ghost use Rattle.view_laws.specs.OtherDecks.{CouldBe};
+ghost use Rattle.view_laws.specs.Folded.{HasFolded};
 
 /// Says that two lists of events that agree on all that a player may see, or on all that everybody may, are answered
 /// alike, end in the same report, and are told alike to him: no answer, no report and no line of his tells anything of
@@ -54,4 +59,16 @@ pub fn a_card_that_is_not_shown_could_be_any_other()
         → CouldBe who before table row other behind
         → lines_seen_by who (before ++ Begin table row ∷ behind)
         ≡ lines_seen_by who (before ++ Begin table other ∷ behind) }
+{}
+
+/// Says that no card of a player who has folded is shown to anybody else: no place of the deck from which he got a hole
+/// card is among those that his hand shows to others, nor among those that a list of events comes to show of it.
+pub fn who_folds_shows_no_card()
+    ensures hand { (who : Viewer) (hand : HandTerms) (player : StartSeat) (place : ℕ) → IsLawfulStart hand.start
+        → HasFolded who hand player → Contains (hole_places hand.start player.seat) place
+        → Contains (places_shown who hand) place → ⊥ }
+    ensures events { (who : Viewer) (before events : List Event) (table place : ℕ)
+        → ForSome (hand_left (run first_state before) table events) (λ hand. (player : StartSeat)
+        → HasFolded who hand player → Contains (hole_places hand.start player.seat) place
+        → Contains (places_shown who hand) place → ⊥) }
 {}
