@@ -13,4 +13,7 @@ pub mod Agreed
 pub mod OwnLines
 pub mod OtherDecks
 pub mod PlacesApart
+pub mod Origins
+pub mod Left
+pub mod CardsTold
 pub mod Folded

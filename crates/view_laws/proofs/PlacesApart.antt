@@ -1,6 +1,6 @@
 -- The places of a deck from which different players and the board get their cards differ.
 use Rattle.std.proofs.Common.{◌≡◌, ◌≢◌, ◌∙◌, refl, sym, ap, subst, ℕ, zero, suc, ◌+◌, ◌*◌, ◌-◌, ◌<◌, ◌≤◌, Bool, true, false, cond, List, [], ◌∷◌, arith}
-use Rattle.std.specs.Prelude.{◌==◌, Some, Contains}
+use Rattle.std.specs.Prelude.{◌==◌, nat_lt, Some, Contains}
 use Rattle.std.specs.List.{AllByRecursion}
 use Rattle.std.proofs.lemmas.Bool.{eqb-true}
 use Rattle.std.proofs.lemmas.List.Elements.{All-from_recursion, All-contains}
@@ -8,8 +8,12 @@ use Rattle.rulebook.specs.Seats.{clockwise_after}
 use Rattle.rulebook.proofs.Among.{is_among, among-filter}
 use Rattle.rulebook.proofs.OccupiedSeats.{among-clockwise}
 use Rattle.button_blinds.specs.SeatSets.{AreSeatsOf, has_seat, seat_count}
-use Rattle.deal_order.specs.DealOrder.{board_card_place, count_up, dealt_in_order, hole_card_place, index_in}
+use Rattle.button_blinds.proofs.SeatSetLaws.{seat_count-most}
+use Rattle.card_set.specs.declared.game.Game.{Game}
+use Rattle.card_set.specs.declared.game.Game.TheVariants.{Holdem, Omaha, Hilo}
+use Rattle.deal_order.specs.DealOrder.{board_card_place, burned_before, count_up, dealt_in_order, hole_card_place, index_in}
 use Rattle.deal_order.proofs.Apart.{index-dealt}
+use Rattle.deal_order.proofs.Deals.{forty}
 use Rattle.table_engine.specs.declared.start.HandStart.{HandStart}
 use Rattle.table_engine.specs.declared.start.StartSeat.{StartSeat}
 use Rattle.table_engine.specs.Deals.{dealt_seats, hole_count}
@@ -17,8 +21,8 @@ use Rattle.table_engine.specs.Hands.{player_of}
 use Rattle.table_engine.specs.Starts.{IsLawfulStart}
 use Rattle.table_engine.proofs.BySeat.{along-at, found-within}
 use Rattle.table_engine.proofs.Tabled.{dealt-table, listed-dealt}
-use Rattle.view_rules.specs.Shown.{BoardStreet, hole_places, street_places, cards_of_street}
-use Rattle.view_laws.proofs.Members.{hold_made, always_hold, weaker}
+use Rattle.view_rules.specs.Shown.{BoardStreet, Flop, Turn, River, hole_places, street_places, cards_of_street}
+use Rattle.view_laws.proofs.Members.{hold_made, weaker}
 
 -- A place is that of a hole card of the player in a seat.
 pub record IsHoleOf (start : HandStart) (seat place : ℕ) : Type 0 where
@@ -29,6 +33,7 @@ pub record IsHoleOf (start : HandStart) (seat place : ℕ) : Type 0 where
 -- A place is that of a card of the board.
 pub record IsOfBoard (start : HandStart) (place : ℕ) : Type 0 where
   pub card : ℕ
+  pub below : card < 5
   pub is : place ≡ board_card_place (seat_count (dealt_seats start)) (hole_count start.game) card
 
 -- Numbers that count up are below the one after the last.
@@ -57,6 +62,12 @@ hole-his start seat place has =
     All-contains (IsHoleOf start seat) (hole_places start seat) place
     (All-from_recursion (IsHoleOf start seat) (hole_places start seat) (holes-his start seat)) has
 
+-- A street brings cards of the five of the board.
+street-below : (street : BoardStreet) → AllByRecursion (λ card. card < 5) (cards_of_street street)
+street-below Flop = (omega arith, (omega arith, (omega arith, tt)))
+street-below Turn = (omega arith, tt)
+street-below River = (omega arith, tt)
+
 -- The places of a street's cards are of the board.
 pub street-board : (start : HandStart) (street : BoardStreet)
     → AllByRecursion (IsOfBoard start) (street_places start street)
@@ -64,9 +75,9 @@ unfolding street_places
 street-board start street =
     hold_made (IsOfBoard start) (board_card_place (seat_count (dealt_seats start)) (hole_count start.game))
     (cards_of_street street)
-    (always_hold
+    (weaker (λ card. card < 5)
     (λ card. IsOfBoard start (board_card_place (seat_count (dealt_seats start)) (hole_count start.game) card))
-    (cards_of_street street) (λ card. record { card = card; is = refl }))
+    (cards_of_street street) (λ card below. record { card = card; below = below; is = refl }) (street-below street))
 
 -- One round more is one card of each more.
 next-round : (round n : ℕ) → suc round * n ≡ round * n + n
@@ -158,3 +169,46 @@ board-apart start seat place lawful sits his board =
     in
     let same = sym his.is ∙ board.is in
     omega (arith, before, same)
+
+-- No more are dealt in than there are seats, and no player is dealt more than four cards.
+holes-few : (start : HandStart) → IsLawfulStart start
+    → hole_count start.game * seat_count (dealt_seats start) ≤ 40
+holes-few start lawful =
+    let most = lawful.most_seats in
+    let players = seat_count-most (dealt_seats start) start.seat_count (dealt-table start lawful) in
+    forty (hole_count start.game) (seat_count (dealt_seats start)) (by_game start.game) (omega (arith, most, players))
+  where
+    by_game : (game : Game) → hole_count game ≤ 4
+    by_game Holdem = omega arith
+    by_game Omaha = omega arith
+    by_game Hilo = omega arith
+
+-- The place of a hole card is one of the deck's 52.
+pub hole-below : (start : HandStart) (seat place : ℕ) → IsLawfulStart start → has_seat (dealt_seats start) seat ≡ true
+    → IsHoleOf start seat place → place < 52
+hole-below start seat place lawful sits his =
+    let few = holes-few start lawful in
+    let order = dealt_in_order (dealt_seats start) start.marks.button start.seat_count in
+    let before = round-before (seat_count (dealt_seats start)) his.card (hole_count start.game) (index_in seat order)
+    his.below (index-dealt (dealt_seats start) start.marks.button start.seat_count seat (dealt-table start lawful)
+    lawful.marks.button.1 sits) in
+    let is = his.is in
+    omega (arith, few, before, is)
+
+-- At most three cards are burned.
+burned-few : (card : ℕ) → burned_before card ≤ 3
+burned-few card = by_tests (nat_lt card 3) (nat_lt card 4)
+  where
+    by_tests : (flop turn : Bool) → cond {A = ℕ} flop 1 (cond {A = ℕ} turn 2 3) ≤ 3
+    by_tests true turn = omega arith
+    by_tests false true = omega arith
+    by_tests false false = omega arith
+
+-- So is the place of a card of the board.
+pub board-below : (start : HandStart) (place : ℕ) → IsLawfulStart start → IsOfBoard start place → place < 52
+board-below start place lawful board =
+    let few = holes-few start lawful in
+    let burned = burned-few board.card in
+    let below = board.below in
+    let is = board.is in
+    omega (arith, few, burned, below, is)

@@ -1,3 +1,4 @@
 pub mod OwnLines
 pub mod OtherDecks
 pub mod Folded
+pub mod CardsTold

@@ -2,18 +2,22 @@
 
 ghost use Rattle.std.specs.Prelude.{◌≡◌, ℕ, List, ◌∷◌, ◌++◌, filter, Contains, None};
 ghost use Rattle.std.specs.Option.{ForSome};
+ghost use Rattle.card_set.specs.declared.card.Card.{Card};
 ghost use Rattle.card_set.specs.declared.card.CardRow.{CardRow};
 ghost use Rattle.table_engine.specs.declared.start.StartSeat.{StartSeat};
 ghost use Rattle.table_engine.specs.Hands.{HandTerms};
 ghost use Rattle.table_engine.specs.Starts.{IsLawfulStart};
 ghost use Rattle.floor_events.specs.declared.event.Event.{Event};
 ghost use Rattle.floor_events.specs.declared.event.Event.TheVariants.{Begin};
-ghost use Rattle.tournament_rules.specs.States.{first_state, answers, run};
+ghost use Rattle.tournament_rules.specs.States.{first_state, answers, state_after, run};
 ghost use Rattle.tournament_rules.specs.Report.{report_of};
 ghost use Rattle.view_rules.specs.Shown.{Viewer, hole_places, places_shown};
+ghost use Rattle.view_rules.specs.Seen.{cards_at};
 ghost use Rattle.view_rules.specs.Agreeing.{AgreeFor, hand_left, places_shown_in};
-ghost use Rattle.view_rules.specs.Views.{lines_seen_by};
+ghost use Rattle.view_rules.specs.Lines.{lines_of_event};
+ghost use Rattle.view_rules.specs.Views.{told_of, lines_seen_by};
 ghost use Rattle.view_laws.specs.OwnLines.{is_for_all};
+ghost use Rattle.view_laws.specs.CardsTold.{cards_told, cards_shown_at};
 ghost use Rattle.view_laws.specs.OtherDecks.{CouldBe};
 ghost use Rattle.view_laws.specs.Folded.{HasFolded};
 
@@ -43,6 +47,14 @@ pub fn a_player_is_told_what_all_are_told()
         → filter is_for_all (lines_seen_by who events) ≡ lines_seen_by None events }
 {}
 
+/// Says that the lines of an event tell no card but those that are shown: each card that they tell of a table is shown
+/// to whoever is told, of the hand that is played there after the event.
+pub fn lines_tell_cards_that_are_shown()
+    ensures { (who : Viewer) (before : List Event) (event : Event) (table : ℕ) (card : Card)
+        → Contains (cards_told table (told_of lines_of_event who (run first_state before) event)) card
+        → Contains (cards_shown_at who (state_after (run first_state before) event) table) card }
+{}
+
 /// Says that a card that is not shown to a player could have been any other, as far as he can tell: with another deck
 /// that has the same cards at all places that come to be shown to him of a hand, each event is answered as it was, and
 /// he is told the same.
@@ -62,7 +74,8 @@ pub fn a_card_that_is_not_shown_could_be_any_other()
 {}
 
 /// Says that no card of a player who has folded is shown to anybody else: no place of the deck from which he got a hole
-/// card is among those that his hand shows to others, nor among those that a list of events comes to show of it.
+/// card is among those that his hand shows to others, nor among those that a list of events comes to show of it. So no
+/// line that tells others of an event of a hand in which he folds tells one of his cards.
 pub fn who_folds_shows_no_card()
     ensures hand { (who : Viewer) (hand : HandTerms) (player : StartSeat) (place : ℕ) → IsLawfulStart hand.start
         → HasFolded who hand player → Contains (hole_places hand.start player.seat) place
@@ -71,4 +84,8 @@ pub fn who_folds_shows_no_card()
         → ForSome (hand_left (run first_state before) table events) (λ hand. (player : StartSeat)
         → HasFolded who hand player → Contains (hole_places hand.start player.seat) place
         → Contains (places_shown who hand) place → ⊥) }
+    ensures lines { (who : Viewer) (before : List Event) (event : Event) (behind : List Event) (table : ℕ) (card : Card)
+        → ForSome (hand_left (state_after (run first_state before) event) table behind) (λ hand. (player : StartSeat)
+        → HasFolded who hand player → Contains (cards_at hand.start (hole_places hand.start player.seat)) card
+        → Contains (cards_told table (told_of lines_of_event who (run first_state before) event)) card → ⊥) }
 {}

@@ -8,5 +8,6 @@ mod laws;
 
 pub use laws::{
     a_card_that_is_not_shown_could_be_any_other, a_player_is_told_what_all_are_told,
-    agreeing_lists_are_told_alike, what_is_shown_stays_shown, who_folds_shows_no_card,
+    agreeing_lists_are_told_alike, lines_tell_cards_that_are_shown, what_is_shown_stays_shown,
+    who_folds_shows_no_card,
 };
