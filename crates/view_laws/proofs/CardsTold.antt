@@ -1,10 +1,10 @@
 -- The cards that lines tell are shown.
 use Rattle.std.proofs.Common.{◌≡◌, subst, ℕ, zero, suc, Bool, true, false, List, [], ◌∷◌, ◌++◌, length, map}
-use Rattle.std.specs.Prelude.{drop, filter, Option, Some, None, option_map, Contains, if◌then◌else◌}
+use Rattle.std.specs.Prelude.{drop, filter, Option, Some, None, option_map, All, Contains, if◌then◌else◌}
 use Rattle.std.specs.List.{flat_map, AllByRecursion}
 use Rattle.std.specs.Option.{option_map_or}
 use Rattle.std.proofs.lemmas.Bool.{eqb-true}
-use Rattle.std.proofs.lemmas.List.Elements.{All-from_recursion, recursion_from_All, All-contains, All-contains_itself}
+use Rattle.std.proofs.lemmas.List.Elements.{All-from_recursion, recursion_from_All, All-contains_itself}
 use Rattle.card_set.specs.declared.card.Card.{Card}
 use Rattle.table_engine.specs.declared.start.HandStart.{HandStart}
 use Rattle.table_engine.specs.declared.start.StartSeat.{StartSeat}
@@ -216,16 +216,16 @@ event-shown who before event after table =
     (tables-shown who before event after table)
 
 -- Each card that the lines of an event tell of a table is shown of the hand there after it.
-pub told-shown : (who : Viewer) (state : State) (event : Event) (table : ℕ) (card : Card)
-    → Contains (cards_told table (told_of lines_of_event who state event)) card
-    → Contains (cards_shown_at who (state_after state event) table) card
-told-shown who state event table card has =
+pub told-shown : (who : Viewer) (state : State) (event : Event) (table : ℕ)
+    → All (Contains (cards_shown_at who (state_after state event) table))
+    (cards_told table (told_of lines_of_event who state event))
+told-shown who state event table =
     let Known = Contains (cards_shown_at who (state_after state event) table) in
     let lines = told_of lines_of_event who state event in
     let all = all_given Known cards_of_line (filter (may_tell_of table) lines)
     (hold_kept (λ line. AllByRecursion Known (cards_of_line line)) (may_tell_of table) lines
     (by_answer (is_accepted (answer_to state event)))) in
-    All-contains Known (cards_told table lines) card (All-from_recursion Known (cards_told table lines) all) has
+    All-from_recursion Known (cards_told table lines) all
   where
     by_answer : (taken : Bool)
         → AllByRecursion (AreShown (Contains (cards_shown_at who (state_after state event) table)) table)

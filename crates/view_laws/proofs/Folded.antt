@@ -1,15 +1,14 @@
 -- No place of the hole cards of a player who has folded is shown to anybody else, and no line tells one of them.
 use Rattle.std.proofs.Common.{◌≡◌, ◌≢◌, ◌∙◌, refl, sym, ap, subst, ℕ, ◌<◌, true, false, List, [], map, inl, inr, arith}
-use Rattle.std.specs.Prelude.{◌⊎◌, slice_index_or, Option, Some, None, Contains}
+use Rattle.std.specs.Prelude.{◌⊎◌, Option, Some, None, Contains}
 use Rattle.std.specs.List.{AllByRecursion}
 use Rattle.std.specs.Option.{option_map_or, ForSome}
-use Rattle.std.proofs.lemmas.Bool.{cases_eq, cases_lt}
+use Rattle.std.proofs.lemmas.Bool.{cases_eq}
 use Rattle.std.proofs.lemmas.Option.{same_Some}
 use Rattle.std.proofs.lemmas.List.Elements.{All-from_recursion, recursion_from_All, All-contains, All-contains_itself}
 use Rattle.betting_round.specs.declared.bettor.Player.{Player}
 use Rattle.betting_round.specs.WhoIsDue.{player_in}
 use Rattle.card_set.specs.declared.card.Card.{Card}
-use Rattle.card_set.specs.Decks.{IsDeck}
 use Rattle.table_engine.specs.declared.start.HandStart.{HandStart}
 use Rattle.table_engine.specs.declared.start.StartSeat.{StartSeat}
 use Rattle.table_engine.specs.Deals.{card_at, two_of_clubs}
@@ -21,22 +20,22 @@ use Rattle.tournament_rules.specs.Valid.{IsValidState}
 use Rattle.tournament_rules.proofs.Steps.{valid_state_after, valid_events}
 use Rattle.view_rules.specs.Shown.{Viewer, hole_places, places_shown}
 use Rattle.view_rules.specs.Seen.{cards_at, hand_in}
-use Rattle.view_rules.specs.Lines.{lines_of_event}
-use Rattle.view_rules.specs.Views.{told_of}
 use Rattle.view_rules.specs.Agreeing.{hand_left, places_shown_in}
-use Rattle.view_laws.specs.CardsTold.{cards_told, cards_shown}
+use Rattle.view_laws.specs.Apart.{AreApart}
+use Rattle.view_laws.specs.CardsTold.{cards_told, cards_shown, cards_shown_at, lines_after}
 use Rattle.view_laws.specs.Folded.{HasFolded}
 use Rattle.view_laws.proofs.Members.{hold_made, weaker}
 use Rattle.view_laws.proofs.Growing.{shown_of, shown-now}
 use Rattle.view_laws.proofs.Left.{left-lawful, left-start}
 use Rattle.view_laws.proofs.CardsTold.{told-shown}
+use Rattle.view_laws.proofs.Decks.{same-place}
 use Rattle.view_laws.proofs.PlacesApart.{hole-his, found-dealt, holes-apart, board-apart, hole-below, board-below}
 use Rattle.view_laws.proofs.Origins.{IsFoundAt, IsHis, Origin, Own, Board, Live, each-found, shown-origin}
 
 -- A player of a hand is found at his seat.
-dealt-found : (who : Viewer) (hand : HandTerms) (player : StartSeat) → IsLawfulStart hand.start
-    → HasFolded who hand player → IsFoundAt hand.start player
-dealt-found who hand player lawful has =
+dealt-found : (hand : HandTerms) (player : StartSeat) → IsLawfulStart hand.start → HasFolded hand player
+    → IsFoundAt hand.start player
+dealt-found hand player lawful has =
     All-contains (IsFoundAt hand.start) hand.start.seats player
     (All-from_recursion (IsFoundAt hand.start) hand.start.seats (each-found hand.start lawful)) has.dealt
 
@@ -52,41 +51,42 @@ others-not hand one other place lawful his hers = by_seats (cases_eq one.seat ot
         (found-dealt hand.start other.seat other lawful hers.found) apart his.hole hers.hole)
 
 -- No place of his hole cards is shown to others.
-pub folded-hidden : (who : Viewer) (hand : HandTerms) (player : StartSeat) (place : ℕ) → IsLawfulStart hand.start
-    → HasFolded who hand player → Contains (hole_places hand.start player.seat) place
-    → Contains (places_shown who hand) place → ⊥
-folded-hidden who hand player place lawful has hole shown = by_origin (shown-origin who hand place lawful shown)
+pub folded-hidden : (who : Viewer) (hand : HandTerms) (player : StartSeat) → IsLawfulStart hand.start
+    → HasFolded hand player → who ≢ Some player.name
+    → AreApart (hole_places hand.start player.seat) (places_shown who hand)
+folded-hidden who hand player lawful has other = λ place hole shown.
+    by_origin place hole (shown-origin who hand place lawful shown)
   where
     found : IsFoundAt hand.start player
-    found = dealt-found who hand player lawful has
+    found = dealt-found hand player lawful has
 
-    his : IsHis hand.start player place
-    his = record { found = found; hole = hole-his hand.start player.seat place hole }
+    his : (place : ℕ) → Contains (hole_places hand.start player.seat) place → IsHis hand.start player place
+    his place hole = record { found = found; hole = hole-his hand.start player.seat place hole }
 
-    by_origin : Origin who hand place → ⊥
-    by_origin (Own own told hers) =
-        let seats = others-not hand own player place lawful hers his in
+    by_origin : (place : ℕ) → Contains (hole_places hand.start player.seat) place → Origin who hand place → ⊥
+    by_origin place hole (Own own told hers) =
+        let seats = others-not hand own player place lawful hers (his place hole) in
         let same : own ≡ player =
         same_Some own player (sym hers.found ∙ (ap (player_of hand.start) seats ∙ found)) in
-        has.other (told ∙ ap (λ (player : StartSeat). Some player.name) same)
-    by_origin (Board board) =
+        other (told ∙ ap (λ (player : StartSeat). Some player.name) same)
+    by_origin place hole (Board board) =
         board-apart hand.start player.seat place lawful (found-dealt hand.start player.seat player lawful found)
-        his.hole board
-    by_origin (Live other live hers) =
-        let seats = others-not hand other player place lawful hers his in
+        (hole-his hand.start player.seat place hole) board
+    by_origin place hole (Live own live hers) =
+        let seats = others-not hand own player place lawful hers (his place hole) in
         let alike = ap (λ (seat : ℕ). option_map_or (λ (now : Player). now.bettor.live)
         (player_in (street_of hand).players seat) false) seats in
         let never : true ≡ false = sym live ∙ (alike ∙ has.folded) in
         cc
 
 -- What a list of events shows of a hand has no place of the hole cards of who has folded in it.
-pub folded-left : (who : Viewer) (before events : List Event) (table place : ℕ)
+pub folded-left : (who : Viewer) (before events : List Event) (table : ℕ)
     → ForSome (hand_left (run first_state before) table events) (λ hand. (player : StartSeat)
-    → HasFolded who hand player → Contains (hole_places hand.start player.seat) place
-    → Contains (places_shown who hand) place → ⊥)
-folded-left who before events table place = λ hand is player has his shown.
-    folded-hidden who hand player place
-    (left-lawful events (run first_state before) table (valid_events before) hand is) has his shown
+    → HasFolded hand player → who ≢ Some player.name
+    → AreApart (hole_places hand.start player.seat) (places_shown who hand))
+folded-left who before events table = λ hand is player has other.
+    folded-hidden who hand player
+    (left-lawful events (run first_state before) table (valid_events before) hand is) has other
 
 -- An item of which another is made.
 record IsMade {A B : Type 0} (f : A → B) (items : List A) (made : B) : Type 0 where
@@ -120,19 +120,6 @@ shown-below who hand place lawful shown = by_origin (shown-origin who hand place
     by_origin (Board board) = board-below hand.start place lawful board
     by_origin (Live player live his) = of_hole player his
 
--- Two places of a deck with the same card are one.
-same-place : (deck : List Card) (one other : ℕ) → IsDeck deck → one < 52 → other < 52
-    → slice_index_or deck one two_of_clubs ≡ slice_index_or deck other two_of_clubs → one ≡ other
-same-place deck one other is within within_too same =
-    let whole = is.whole in
-    elim (cases_lt one other) [
-      | inl before ↦ absurd (is.distinct one other two_of_clubs before (omega (arith, whole)) same)
-      | inr later ↦ elim (cases_lt other one) [
-        | inl before ↦ absurd (is.distinct other one two_of_clubs before (omega (arith, whole)) (sym same))
-        | inr not_later ↦ omega arith
-      ]
-    ]
-
 -- What is shown now of a hand is shown as a list of events leaves it.
 left-shown : (who : Viewer) (events : List Event) (state : State) (table place : ℕ) (hand left : HandTerms)
     → IsValidState state → hand_in state table ≡ Some hand → hand_left state table events ≡ Some left
@@ -145,38 +132,42 @@ left-shown who events state table place hand left valid now is shown =
     subst (λ (hand : Option HandTerms). Contains (shown_of who hand) place) is
     (All-contains P (places_shown who hand) place (All-from_recursion P (places_shown who hand) all) shown)
 
--- Of a hand in which a player folds, the lines of no event tell one of his hole cards.
-pub folded-told : (who : Viewer) (before : List Event) (event : Event) (behind : List Event) (table : ℕ) (card : Card)
+-- Of a hand in which a player folds, the lines of no event tell others one of his hole cards.
+pub folded-told : (who : Viewer) (before : List Event) (event : Event) (behind : List Event) (table : ℕ)
     → ForSome (hand_left (state_after (run first_state before) event) table behind) (λ hand. (player : StartSeat)
-    → HasFolded who hand player → Contains (cards_at hand.start (hole_places hand.start player.seat)) card
-    → Contains (cards_told table (told_of lines_of_event who (run first_state before) event)) card → ⊥)
-folded-told who before event behind table card = λ left is player has his told.
-    by_hand left is player has his (hand_in (state_after (run first_state before) event) table) refl
-    (told-shown who (run first_state before) event table card told)
+    → HasFolded hand player → who ≢ Some player.name
+    → AreApart (cards_at hand.start (hole_places hand.start player.seat))
+    (cards_told table (lines_after who before event)))
+folded-told who before event behind table = λ left is player has other card his told.
+    let state = state_after (run first_state before) event in
+    let lines = lines_after who before event in
+    by_hand left is player has other card his (hand_in state table) refl
+    (All-contains (Contains (cards_shown_at who state table)) (cards_told table lines) card
+    (told-shown who (run first_state before) event table) told)
   where
     valid : IsValidState (state_after (run first_state before) event)
     valid = valid_state_after (run first_state before) event (valid_events before)
 
     by_hand : (left : HandTerms)
         → hand_left (state_after (run first_state before) event) table behind ≡ Some left
-        → (player : StartSeat) → HasFolded who left player
+        → (player : StartSeat) → HasFolded left player → who ≢ Some player.name → (card : Card)
         → Contains (cards_at left.start (hole_places left.start player.seat)) card
         → (found : Option HandTerms) → hand_in (state_after (run first_state before) event) table ≡ found
         → Contains (option_map_or (cards_shown who) found []) card → ⊥
-    by_hand left is player has his None now shown = let none = shown.1 in omega (arith, none)
-    by_hand left is player has his (Some hand) now shown =
+    by_hand left is player has other card his None now shown = let none = shown.1 in omega (arith, none)
+    by_hand left is player has other card his (Some hand) now shown =
         let state = state_after (run first_state before) event in
         let lawful = left-lawful behind state table valid left is in
         let start = left-start behind state table hand left valid now is in
         let place = made-from (card_at hand.start) (places_shown who hand) card shown in
         let hole = made-from (card_at left.start) (hole_places left.start player.seat) card his in
         let later = left-shown who behind state table place.from hand left valid now is place.has in
-        let found = dealt-found who left player lawful has in
+        let found = dealt-found left player lawful has in
         let cards = ap (λ (start : HandStart). card_at start place.from) start ∙ (place.is ∙ sym hole.is) in
-        let same = same-place left.start.deck place.from hole.from lawful.deck
+        let same = same-place left.start.deck place.from hole.from two_of_clubs lawful.deck
         (shown-below who left place.from lawful later)
         (hole-below left.start player.seat hole.from lawful
         (found-dealt left.start player.seat player lawful found)
         (hole-his left.start player.seat hole.from hole.has)) cards in
-        folded-hidden who left player hole.from lawful has hole.has
+        folded-hidden who left player lawful has other hole.from hole.has
         (subst (λ (place : ℕ). Contains (places_shown who left) place) same later)

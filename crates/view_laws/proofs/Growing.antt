@@ -1,9 +1,9 @@
 -- What is shown of a hand stays shown: with one act more, and along a list of events.
 use Rattle.std.proofs.Common.{◌≡◌, ◌∙◌, refl, sym, ap, subst, ℕ, zero, suc, Bool, true, false, cond, List, [], ◌∷◌, ◌++◌}
-use Rattle.std.specs.Prelude.{◌&&◌, not, filter, is_none, is_some, Option, Some, None, Contains}
+use Rattle.std.specs.Prelude.{◌&&◌, not, filter, is_none, is_some, Option, Some, None, All, Contains}
 use Rattle.std.specs.List.{flat_map, AllByRecursion}
 use Rattle.std.specs.Option.{option_map_or}
-use Rattle.std.proofs.lemmas.List.Elements.{All-from_recursion, recursion_from_All, All-contains, All-contains_itself}
+use Rattle.std.proofs.lemmas.List.Elements.{All-from_recursion, recursion_from_All, All-contains_itself}
 use Rattle.floor_text.specs.declared.refusal.Refusal.TheVariants.{NotDealt}
 use Rattle.betting_round.specs.StreetActs.{SeatAct}
 use Rattle.betting_round.proofs.Turns.{accepted-due}
@@ -191,13 +191,13 @@ shown-more who P (event ∷ events) more state table valid all =
     by_some false all later = all
 
 -- After any list of events each place that is shown stays shown.
-pub stays-shown : (who : Viewer) (before events more : List Event) (table place : ℕ)
-    → Contains (places_shown_in who (run first_state before) table events) place
-    → Contains (places_shown_in who (run first_state before) table (events ++ more)) place
-stays-shown who before events more table place shown =
+pub stays-shown : (who : Viewer) (before events more : List Event) (table : ℕ)
+    → All (Contains (places_shown_in who (run first_state before) table (events ++ more)))
+    (places_shown_in who (run first_state before) table events)
+stays-shown who before events more table =
     let state = run first_state before in
     let later = places_shown_in who state table (events ++ more) in
     let now = places_shown_in who state table events in
-    let all = shown-more who (Contains later) events more state table (valid_events before)
-    (recursion_from_All (Contains later) later (All-contains_itself later)) in
-    All-contains (Contains later) now place (All-from_recursion (Contains later) now all) shown
+    All-from_recursion (Contains later) now
+    (shown-more who (Contains later) events more state table (valid_events before)
+    (recursion_from_All (Contains later) later (All-contains_itself later)))

@@ -12,6 +12,7 @@ pub mod Alike
 pub mod Agreed
 pub mod OwnLines
 pub mod OtherDecks
+pub mod Decks
 pub mod PlacesApart
 pub mod Origins
 pub mod Left

@@ -1,3 +1,4 @@
+pub mod Apart
 pub mod OwnLines
 pub mod OtherDecks
 pub mod Folded
