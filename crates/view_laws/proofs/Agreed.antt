@@ -53,10 +53,6 @@ promised-now who one other events valid promised table =
     (shown_of who (hand_in one table))
     (λ P. shown-now who P events one table valid) (promised table)
 
--- the hand that is played at a table, without its deck
-abbrev undealt_in : State → ℕ → Option HandTerms
-undealt_in state table = option_map undealt (hand_in state table)
-
 -- In states that are the same but for decks the same hands are played but for decks.
 hands-undealt : (one other : Option PlayState) (table : ℕ)
     → option_map undealt_play one ≡ option_map undealt_play other

@@ -131,6 +131,12 @@ shown-known who hand =
 abbrev AreShown : (Card → Type 0) → ℕ → ViewLine → Type 0
 AreShown Known table line = may_tell_of table line ≡ true → AllByRecursion Known (cards_of_line line)
 
+-- The lines of stacks tell no card.
+stacks-known : (Known : Card → Type 0) (table : ℕ) (stacks : List StackLine)
+    → AllByRecursion (AreShown Known table) (map Floor (map StackIs stacks))
+stacks-known Known table [] = tt
+stacks-known Known table (stack ∷ stacks) = (λ tells. tt, stacks-known Known table stacks)
+
 -- The lines of the floor tell no card.
 floor-known : (Known : Card → Type 0) (table : ℕ) (event : Event) (serial : ℕ) (stacks : List StackLine)
     → AllByRecursion (AreShown Known table) (map Floor (floor_lines event serial stacks))
@@ -138,18 +144,8 @@ unfolding floor_lines
 floor-known Known table (events.Begin at row) serial stacks = (λ tells. tt, tt)
 floor-known Known table (events.Act at name act) serial stacks = tt
 floor-known Known table (events.Time at) serial stacks = tt
-floor-known Known table (events.Settle at) serial stacks =
-    (λ tells. tt, stacks-known stacks)
-  where
-    stacks-known : (stacks : List StackLine) → AllByRecursion (AreShown Known table) (map Floor (map StackIs stacks))
-    stacks-known [] = tt
-    stacks-known (stack ∷ stacks) = (λ tells. tt, stacks-known stacks)
-floor-known Known table (events.Race at row) serial stacks =
-    (λ tells. tt, stacks-known stacks)
-  where
-    stacks-known : (stacks : List StackLine) → AllByRecursion (AreShown Known table) (map Floor (map StackIs stacks))
-    stacks-known [] = tt
-    stacks-known (stack ∷ stacks) = (λ tells. tt, stacks-known stacks)
+floor-known Known table (events.Settle at) serial stacks = (λ tells. tt, stacks-known Known table stacks)
+floor-known Known table (events.Race at row) serial stacks = (λ tells. tt, stacks-known Known table stacks)
 floor-known Known table _ serial stacks = (λ tells. tt, tt)
 
 -- What lines of a table tell is shown there where all that they tell is.

@@ -113,7 +113,7 @@ none-tabled hand open_ =
     ap (λ (down : Bool). cond down (filter (is_live hand) (players_clockwise hand.start)) []) open_
 
 -- What is shown stays shown with one act more.
-pub shown-acted : (who : Viewer) (P : ℕ → Type 0) (hand : HandTerms) (act : ActOf)
+shown-acted : (who : Viewer) (P : ℕ → Type 0) (hand : HandTerms) (act : ActOf)
     → refusal_of_act hand act.name act.act ≡ None → AllByRecursion P (places_shown who (with_act act hand))
     → AllByRecursion P (places_shown who hand)
 shown-acted who P hand act free all =
@@ -172,7 +172,7 @@ shown-now who P (event ∷ events) state table valid all =
     by_some false is all later = all
 
 -- What a list of events shows, the list with more events behind it shows too.
-pub shown-more : (who : Viewer) (P : ℕ → Type 0) (events more : List Event) (state : State) (table : ℕ)
+shown-more : (who : Viewer) (P : ℕ → Type 0) (events more : List Event) (state : State) (table : ℕ)
     → IsValidState state → AllByRecursion P (places_shown_in who state table (events ++ more))
     → AllByRecursion P (places_shown_in who state table events)
 shown-more who P [] more state table valid all = shown-now who P more state table valid all

@@ -38,7 +38,7 @@ unfolding open_streets
 open-deck hand deck = ap open_by (streets-deck hand deck)
 
 -- The hand is shown down with another deck where it is.
-pub down-deck : (hand : HandTerms) (deck : List Card) → is_shown_down (redealt hand deck) ≡ is_shown_down hand
+down-deck : (hand : HandTerms) (deck : List Card) → is_shown_down (redealt hand deck) ≡ is_shown_down hand
 down-deck hand deck = λ i. over-deck hand deck i && not (won-deck hand deck i)
 
 -- The same players' hands are tabled with another deck.
@@ -124,7 +124,7 @@ lives-alike hand deck (seat ∷ seats) same =
         (found_holds (λ player. is_live hand player ≡ true → HaveSameAt (hole_places hand.start player.seat)
         hand.start.deck deck) (λ player. player.seat == seat) hand.start.seats player is same)
 
--- A hand that is shown down shows these.
+-- A hand that is shown down shows the own cards, the whole board and the hands of all who are live.
 places-down : (who : Viewer) (hand : HandTerms) → is_shown_down hand ≡ true
     → places_shown who hand
     ≡ (own_places who hand.start ++ flat_map (street_places hand.start) (Flop ∷ Turn ∷ River ∷ []))

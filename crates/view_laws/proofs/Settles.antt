@@ -1,5 +1,5 @@
 -- What a settle makes of a book does not depend on cards that the hand does not show.
-use Rattle.std.proofs.Common.{◌≡◌, ◌∙◌, refl, sym, ap, ℕ, ◌+◌, true, List, ◌++◌, map}
+use Rattle.std.proofs.Common.{◌≡◌, ◌∙◌, sym, ap, ℕ, ◌+◌, true, List, ◌++◌, map}
 use Rattle.std.specs.Prelude.{◌==◌, Option, None, option_map, filter}
 use Rattle.std.proofs.lemmas.List.{map-set}
 use Rattle.table_engine.specs.declared.start.HandStart.{HandStart}
@@ -31,10 +31,7 @@ settled_with book start stack =
       accepted = book.accepted + 1;
     }
 
-settled-read : (book : BookState) (hand : HandTerms)
-    → settled book hand ≡ settled_with book hand.start (stack_after_hand hand)
-settled-read book hand = refl
-
+-- Such a book without decks.
 settled_with-undealt : (book : BookState) (start : HandStart) (stack : StartSeat → ℕ)
     → undealt_book (settled_with book start stack) ≡ settled_with (undealt_book book) (without_deck start) stack
 settled_with-undealt book start stack =
