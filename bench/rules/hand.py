@@ -203,17 +203,28 @@ class Hand:
         """The dealt seats clockwise from the seat after the button."""
         return [seat for seat in seats_clockwise(self.marks.button, self.seats) if seat in self.stacks]
 
-    def hole_cards(self):
-        """One card at a time goes round the dealt seats."""
+    def hole_count(self):
+        return 2 if self.game == "holdem" else 4
+
+    def hole_places(self):
+        """One card at a time goes round the dealt seats; the places of each seat's cards in the deck, in this order."""
         dealt = self.dealt_from_left()
-        cards = 2 if self.game == "holdem" else 4
-        return {seat: [self.deck[turn * len(dealt) + place] for turn in range(cards)]
+        return {seat: [turn * len(dealt) + place for turn in range(self.hole_count())]
                 for place, seat in enumerate(dealt)}
 
-    def board(self):
+    def board_places(self):
         """A card is burned before the flop, the turn and the river."""
-        burned = len(self.stacks) * (2 if self.game == "holdem" else 4)
-        return [self.deck[burned + place] for place in (1, 2, 3, 5, 7)]
+        burned = len(self.stacks) * self.hole_count()
+        return [burned + place for place in (1, 2, 3, 5, 7)]
+
+    def cards_at(self, places):
+        return [self.deck[place] for place in places]
+
+    def hole_cards(self):
+        return {seat: self.cards_at(places) for seat, places in self.hole_places().items()}
+
+    def board(self):
+        return self.cards_at(self.board_places())
 
     def awards(self):
         """Where one player is live he gets everything, and else all live hands are shown."""
