@@ -14,18 +14,13 @@ The program is the one of `./floor`; with --unproved it is built from the source
 import sys
 from collections import Counter
 
+import lists
 import runs
 from rules.lines import lines_of
-from rules.maker import Maker
 from rules.step import replayed
 from rules.tournament import Tournament
 
 MOVES = ("enter", "balance", "break", "level", "race", "hands", "round")
-
-
-def modelled(text):
-    answers, report = replayed(text)
-    return "".join(line + "\n" for line in answers + report)
 
 
 def with_its_report(text):
@@ -38,38 +33,10 @@ def with_its_report(text):
     lines = [line for line, answer in zip(lines_of(text), answers) if answer == "ok"]
     if not book.stopped:
         lines.append(b"stop")
-    _, report = replayed(joined(lines))
-    kept = joined(lines + [line.encode() for line in report])
+    _, report = replayed(lists.joined(lines))
+    kept = lists.joined(lines + [line.encode() for line in report])
     assert replayed(kept) == (["ok"] * len(lines_of(kept)), report), kept
     return kept
-
-
-def joined(lines):
-    return b"".join(line + b"\n" for line in lines)
-
-
-def ran(program, text):
-    return runs.ran(program, ["replay"], text)
-
-
-def differs(program, text):
-    return ran(program, text) != modelled(text)
-
-
-def shortest(program, text):
-    """Leaves lines out, many at once and then one by one, while the two still differ."""
-    lines = lines_of(text)
-    step = max(1, len(lines) // 2)
-    while step:
-        place = 0
-        while place < len(lines):
-            fewer = lines[:place] + lines[place + step:]
-            if differs(program, joined(fewer)):
-                lines = fewer
-            else:
-                place += step
-        step //= 2
-    return joined(lines)
 
 
 def accepted_words(text, given):
@@ -114,31 +81,13 @@ def count(texts):
         print(f"{answers[answer]:9} {answer}")
 
 
-def compare(program, texts):
-    """Prints each list that tells the two apart, at most ten of them, as short as it can be."""
-    found = 0
-    for text in texts:
-        if differs(program, text):
-            found += 1
-            if found <= 10:
-                short = shortest(program, text)
-                print(f"---- a list on which they differ\n{short.decode('utf-8', 'replace')}---- the program\n"
-                      f"{ran(program, short)}---- the model\n{modelled(short)}")
-    return found
-
-
 def main():
     words = runs.options(lists=1000, seed=1)
-    texts = [Maker(words.seed * 1_000_000 + number).make() for number in range(words.lists)]
+    texts = lists.made(words)
     count(texts)
     kept = list(filter(None, map(with_its_report, texts)))
     print(f"{len(kept)} of them are played again as what is accepted of them, with their reports behind it")
-    texts += kept
-    if words.unproved:
-        found = runs.tried([runs.Case(["replay"], text, modelled(text)) for text in texts])
-    else:
-        runs.build(words.program)
-        found = compare(words.program, texts)
+    found = runs.apart(words, [lists.case_of(["replay"], text) for text in texts + kept], lists.shortest)
     print(f"lists that tell the program and the model apart: {found}")
     return int(found > 0)
 

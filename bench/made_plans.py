@@ -64,7 +64,7 @@ def case_of(item, data):
         assert wrong.item == item, (wrong.item, item, data)
         return runs.Case(words, data, "", 6, f"plan {wrong.item}\n")
     assert item is None, (item, data)
-    return runs.Case(words, data, "".join(line + "\n" for line in Simulation(1, lines).told()))
+    return runs.case_of(words, data, Simulation(1, lines).told())
 
 
 def main():
@@ -75,11 +75,7 @@ def main():
     print(f"{len(plans)} plans, {items.pop(None)} of them right;",
           ", ".join(f"{item} wrong in {items[item]}" for item in ORDER))
     cases = [case_of(item, data) for item, data in plans]
-    if words.unproved:
-        found = runs.tried(cases)
-    else:
-        runs.build(words.program)
-        found = runs.compared(words.program, cases)
+    found = runs.apart(words, cases)
     print(f"plans that tell the program and the model apart: {found}")
     return int(found > 0)
 

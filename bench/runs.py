@@ -23,6 +23,11 @@ class Case:
     err: str = ""
 
 
+def case_of(words, data, lines):
+    """A run that writes lines."""
+    return Case(words, data, "".join(line + "\n" for line in lines))
+
+
 def options(**numbers):
     """The words that a script is run with: numbers with their defaults, and which program is meant."""
     words = argparse.ArgumentParser()
@@ -56,15 +61,23 @@ def print_case(case, given):
           f"---- the model\n{ended(case.out, case.status, case.err)}")
 
 
-def compared(program, cases):
-    """Runs the program in each case. Prints the first cases that differ, and counts all of them."""
+def differs(program, case):
+    return ran(program, case.words, case.data) != ended(case.out, case.status, case.err)
+
+
+def as_it_is(program, case):
+    return case
+
+
+def compared(program, cases, shortest):
+    """Runs the program in each case. Prints the first cases that differ, as short as they can be made, and counts all
+    of them."""
     found = 0
-    for case in cases:
-        given = ran(program, case.words, case.data)
-        if given != ended(case.out, case.status, case.err):
-            found += 1
-            if found <= MOST_PRINTED:
-                print_case(case, given)
+    for case in filter(lambda case: differs(program, case), cases):
+        found += 1
+        if found <= MOST_PRINTED:
+            short = shortest(program, case)
+            print_case(short, ran(program, short.words, short.data))
     return found
 
 
@@ -101,3 +114,11 @@ def tried(cases):
     if different:
         print(run.stderr[-3000:])
     return len(different)
+
+
+def apart(words, cases, shortest=as_it_is):
+    """How many cases tell the program that is meant and the model apart."""
+    if words.unproved:
+        return tried(cases)
+    build(words.program)
+    return compared(words.program, cases, shortest)

@@ -62,15 +62,12 @@ def numbers_and_plans(count, seed):
         yield GREATEST_NUMBER - number if number % 20 == 19 else number, plan.encode()
 
 
-def joined(lines):
-    return "".join(line + "\n" for line in lines)
-
-
 def cases_of(number, data, simulation):
     """A run of `simulate`, and one of `replay` over the model's events."""
-    events, oks = joined(simulation.lines).encode(), len(simulation.lines) * ["ok"]
-    return [runs.Case(["simulate", str(number)], data, joined(simulation.told())),
-            runs.Case(["replay"], events, joined(oks + simulation.book.report()))]
+    events = "".join(line + "\n" for line in simulation.lines).encode()
+    oks = len(simulation.lines) * ["ok"]
+    return [runs.case_of(["simulate", str(number)], data, simulation.told()),
+            runs.case_of(["replay"], events, oks + simulation.book.report())]
 
 
 def main():
@@ -84,11 +81,7 @@ def main():
     print(f"{words.numbers} simulations, {events.total()} events:",
           ", ".join(f"{word} {events[word]}" for word in KINDS))
     print("hands:", ", ".join(f"{game} {games[game]}" for game in GAMES))
-    if words.unproved:
-        found = runs.tried(cases)
-    else:
-        runs.build(words.program)
-        found = runs.compared(words.program, cases)
+    found = runs.apart(words, cases)
     print(f"runs that tell the program and the model apart: {found}")
     return int(found > 0)
 
