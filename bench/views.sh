@@ -1,0 +1,46 @@
+#!/usr/bin/env bash
+# How long `view` takes for a million lines of hands, as a ratio to `replay` over the same file in the same run, and how
+# much memory both take at their peak: hands of folds (`folds.py`), told to a player who is dealt in to each of them and
+# to a name that never entered, and to that player hands of all acts (`acts.py`) and with showdowns in each game
+# (`showdowns.py`). The goal is a ratio of at most 2 over hands of folds. Fails where `replay` does not answer each line
+# `ok`, where not each settled hand is told, or where the lines told of the first 2,000 are not those of the model.
+# Builds the program where it is not there yet. Needs python3.
+set -euo pipefail
+cd "$(dirname "$0")/.."
+. bench/timing.sh
+
+view() { "$program" view "$1" < "$2" > "$work/told"; }
+
+# A row of the table: what a player is told of the lines in `hands`, with the name of the input.
+view_row() {
+    local ours= theirs= lines
+    for _ in 1 2 3 4 5; do
+        ours=$(lesser "$(took view "$2" "$work/hands")" $ours)
+        theirs=$(lesser "$(took replay "$work/hands")" $theirs)
+    done
+    lines=$(wc -l < "$work/hands")
+    [ "$lines" = "$(head -n "$lines" "$work/out" | grep -cx ok)" ]
+    [ "$(grep -c "^settle " "$work/hands")" = "$(grep -c "^# settle " "$work/told")" ]
+    head -n 2000 "$work/hands" | python3 bench/model.py view "$2" > "$work/front"
+    cmp -n "$(stat -c %s "$work/front")" "$work/front" "$work/told"
+    python3 - "$1" "$2" "$lines" "$(wc -l < "$work/told")" "$ours" "$theirs" "$(peak "$work/hands" view "$2")" \
+        "$(peak "$work/hands")" <<'ROW'
+import sys
+name, player = sys.argv[1:3]
+lines, told, ours, theirs, *peaks = map(float, sys.argv[3:])
+print(f"| {name} | {player} | {lines:,.0f} | {told:,.0f} | {ours:.2f} s | {theirs:.2f} s | {ours / theirs:.2f} "
+      f"| {', '.join(f'{peak / 1024:.1f} MiB' for peak in peaks)} |")
+ROW
+}
+
+echo "| input | player | lines | lines told | view | replay | ratio | memory of view, of replay |"
+echo "|---|---|---|---|---|---|---|---|"
+python3 bench/folds.py "$work" shuffled
+view_row "hands of folds" p1
+view_row "hands of folds" zed
+python3 bench/acts.py "$work"
+view_row "all acts" p1
+for game in holdem omaha hilo; do
+    python3 bench/showdowns.py "$game" "$work"
+    view_row "showdowns, $game" p1
+done
