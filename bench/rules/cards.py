@@ -1,5 +1,6 @@
 """Cards, the values of hands, pots and awards by the rules, written apart from the code of the crates."""
 from collections import Counter
+from functools import lru_cache
 from itertools import combinations
 
 RANKS = "23456789TJQKA"
@@ -62,6 +63,12 @@ def choices_of_five(game, hole, board):
 
 
 def best_high(game, hole, board):
+    return greatest_value(game, tuple(hole), tuple(board))
+
+
+@lru_cache(maxsize=4096)
+def greatest_value(game, hole, board):
+    """The greatest value over all choices, kept for who asks again: a hand that is tabled is told and then settled."""
     return max(five_card_value(list(five)) for five in choices_of_five(game, hole, board))
 
 
