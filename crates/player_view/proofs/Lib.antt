@@ -1,0 +1,10 @@
+pub mod Behind
+pub mod Cards
+pub mod FloorTexts
+pub mod Halves
+pub mod HandTexts
+pub mod Left
+pub mod OpenStreets
+pub mod Taking
+pub mod Telling
+pub mod Texts

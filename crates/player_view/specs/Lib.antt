@@ -1,0 +1,4 @@
+pub mod OpenBy
+pub mod Each
+pub mod Tellers
+pub mod Inside

@@ -1,0 +1,19 @@
+//! A player's lines: what the floor and the tables tell a player, or nobody, entry by entry.
+//!
+//! It stands on view_rules, whose definitions say which lines each entry has and how they are spelled. `floor_lines`
+//! writes those of an entry of the floor. A `TableTeller` tells of one table, entry by entry, with a hand of its own;
+//! who has the hand at hand writes the same lines by `push_opening` and `push_act`.
+#![tactic(auto)]
+
+mod floor;
+mod hand_lines;
+mod line;
+mod teller;
+
+pub use floor::{floor_lines, push_floor_lines};
+pub use hand_lines::{push_act, push_opening};
+pub use teller::TableTeller;
+pub use view_rules::{JournalEntry, StackLine, TableEntry};
+
+#[cfg(test)]
+mod tests;
