@@ -1,0 +1,4 @@
+pub mod Told
+pub mod Kinds
+pub mod Turns
+pub mod Stacks
