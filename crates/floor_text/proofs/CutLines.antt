@@ -1,5 +1,5 @@
 -- Where the lines of a stream are cut.
-use Rattle.std.proofs.Common.{◌≡◌, ◌≢◌, ◌⊎◌, ℕ, ◌+◌, ◌<◌, Bool, true, false, List, [], ◌∷◌, ◌++◌, length, map, Option, None, refl, sym, ap, ◌∙◌, inl, inr, arith, append_assoc, length-append}
+use Rattle.std.proofs.Common.{◌≡◌, ◌≢◌, ◌⊎◌, ℕ, zero, suc, ◌+◌, ◌<◌, ◌≤◌, Bool, true, false, List, [], ◌∷◌, ◌++◌, length, map, Option, None, refl, sym, ap, ◌∙◌, inl, inr, arith, subst, append_assoc, length-append}
 use Rattle.std.specs.Prelude.{◌||◌}
 use Rattle.std.specs.List.{list_any, slice_split, onto_first}
 use Rattle.std.proofs.lemmas.Bool.{cases_eq}
@@ -7,7 +7,7 @@ use Rattle.std.proofs.lemmas.Bool.Decides.{nat_tests}
 use Rattle.std.proofs.lemmas.List.{nil_from_length}
 use Rattle.std.proofs.lemmas.List.Folds.{list_any-append}
 use Rattle.std.proofs.lemmas.List.Splits.{slice_split-cons_yes, slice_split-cons_no}
-use Rattle.floor_text.specs.Lines.{is_line_feed, HasNoFeed, cut_line, without_empty_last, lines_of_bytes}
+use Rattle.floor_text.specs.Lines.{is_line_feed, HasNoFeed, cut_line, without_empty_last, lines_of_bytes, all_but_last, ended_lines}
 
 -- two lists without a line feed, one behind the other, have none
 pub HasNoFeed-append : (xs ys : List ℕ) → HasNoFeed xs → HasNoFeed ys → HasNoFeed (xs ++ ys)
@@ -161,3 +161,96 @@ handed_at_feed line rest new byte handed feed none is empty =
 pub handed_at_end : (line : List ℕ) (handed : List (Option (List ℕ))) → HasNoFeed line → 0 < length line
     → handed ≡ cut_line line ∷ [] → lines_of_bytes line ≡ handed
 handed_at_end line handed none some is = lines_of_bytes-last line none some ∙ sym is
+
+-- Where no line feed is, no line is ended.
+pub ended_lines-none : (bytes : List ℕ) → HasNoFeed bytes → ended_lines bytes ≡ []
+unfolding ended_lines
+ended_lines-none bytes none =
+    ap (λ (parts : List (List ℕ)). map cut_line (all_but_last parts)) (slice_split-none bytes none)
+
+-- The bytes before the first line feed are the first line that is ended, and those of what follows it come next.
+pub ended_lines-line : (line rest : List ℕ) → HasNoFeed line
+    → ended_lines (line ++ 10 ∷ rest) ≡ cut_line line ∷ ended_lines rest
+unfolding ended_lines
+ended_lines-line line rest none =
+    let parts = slice_split-some rest in
+    let split : slice_split is_line_feed (line ++ 10 ∷ rest) ≡ line ∷ parts.0 ∷ parts.1 =
+    slice_split-feed line rest none ∙ ap (λ (ps : List (List ℕ)). line ∷ ps) parts.2 in
+    ap (λ (ps : List (List ℕ)). map cut_line (all_but_last ps)) split
+    ∙ ap (λ (ps : List (List ℕ)). cut_line line ∷ map cut_line (all_but_last ps)) (sym parts.2)
+
+one_line : (begun : List ℕ) (byte : ℕ) → HasNoFeed begun
+    → (line : Option (List ℕ)) × (lines_of_bytes (begun ++ byte ∷ []) ≡ line ∷ [])
+one_line begun byte none =
+    elim (cases_eq byte 10) [
+      | inl feed ↦ (
+        cut_line begun,
+        ap (λ (b : ℕ). lines_of_bytes (begun ++ b ∷ [])) feed ∙ lines_of_bytes-line begun [] none
+            ∙ ap (λ (lines : List (Option (List ℕ))). cut_line begun ∷ lines) lines_of_bytes-nil,
+      )
+      | inr other ↦
+          let all : length (begun ++ byte ∷ []) ≡ length begun + 1 = length-append begun (byte ∷ []) in (
+            cut_line (begun ++ byte ∷ []),
+            lines_of_bytes-last (begun ++ byte ∷ [])
+                (HasNoFeed-append begun (byte ∷ []) none (HasNoFeed-cons byte [] other refl)) (omega arith),
+          )
+    ]
+
+-- a front of a stream and one byte more: the lines that are ended in the front, and one more
+abbrev IsOneMore : List ℕ → ℕ → Type 0
+IsOneMore front byte =
+    (line : Option (List ℕ)) × (lines_of_bytes (front ++ byte ∷ []) ≡ ended_lines front ++ line ∷ [])
+
+more_of_none : (front : List ℕ) (byte : ℕ) → HasNoFeed front → IsOneMore front byte
+more_of_none front byte none =
+    let one = one_line front byte none in (
+      one.0,
+      one.1 ∙ sym (ap (λ (lines : List (Option (List ℕ))). lines ++ one.0 ∷ []) (ended_lines-none front none)),
+    )
+
+more_of_line : (line behind : List ℕ) (byte : ℕ) → HasNoFeed line → IsOneMore behind byte
+    → IsOneMore (line ++ 10 ∷ behind) byte
+more_of_line line behind byte none more = (
+  more.0,
+  ap lines_of_bytes (append_assoc line (10 ∷ behind) (byte ∷ []))
+      ∙ lines_of_bytes-line line (behind ++ byte ∷ []) none
+      ∙ ap (λ (lines : List (Option (List ℕ))). cut_line line ∷ lines) more.1
+      ∙ sym (ap (λ (lines : List (Option (List ℕ))). lines ++ more.0 ∷ []) (ended_lines-line line behind none)),
+)
+
+more_of : (n : ℕ) (front : List ℕ) (byte : ℕ) → length front ≤ n → IsOneMore front byte
+more_of zero front byte size =
+    more_of_none front byte (ap (list_any is_line_feed) (nil_from_length front (omega arith)))
+more_of (suc n) front byte size =
+    elim (first_feed front) [
+      | inl none ↦ more_of_none front byte none
+      | inr cut ↦
+          let all : length front ≡ length cut.0 + length (10 ∷ cut.1) = ap length cut.2
+          ∙ length-append cut.0 (10 ∷ cut.1) in
+          subst (λ (xs : List ℕ). IsOneMore xs byte) (sym cut.2)
+          (more_of_line cut.0 cut.1 byte cut.3 (more_of n cut.1 byte (omega arith)))
+    ]
+
+all_but_last-append : {X : Type 0} (xs : List X) (x : X) → all_but_last (xs ++ x ∷ []) ≡ xs
+all_but_last-append [] x = refl
+all_but_last-append (y ∷ []) x = refl
+all_but_last-append (y ∷ next ∷ ys) x = ap (λ zs. y ∷ zs) (all_but_last-append (next ∷ ys) x)
+
+-- What was handed out of bytes and one more, where what is held is one line at most, is the lines that are ended in the
+-- bytes.
+pub handed_are_ended : (front begun : List ℕ) (byte last : ℕ) (handed : List (Option (List ℕ))) → HasNoFeed begun
+    → lines_of_bytes (front ++ byte ∷ []) ≡ handed ++ lines_of_bytes (begun ++ last ∷ [])
+    → handed ≡ ended_lines front
+handed_are_ended front begun byte last handed none same =
+    let one = one_line begun last none in
+    let more = more_of (length front) front byte (omega arith) in
+    let both : ended_lines front ++ more.0 ∷ [] ≡ handed ++ one.0 ∷ [] =
+    sym more.1 ∙ same ∙ ap (λ (lines : List (Option (List ℕ))). handed ++ lines) one.1 in
+    sym (all_but_last-append handed one.0) ∙ ap all_but_last (sym both)
+    ∙ all_but_last-append (ended_lines front) more.0
+
+-- What was handed out of bytes, where no line feed is held, whatever comes behind, is the lines that are ended in them.
+pub handed_so_far : (bytes held : List ℕ) (handed : List (Option (List ℕ))) → HasNoFeed held
+    → ((more : List ℕ) → lines_of_bytes (bytes ++ more) ≡ handed ++ lines_of_bytes (held ++ more))
+    → handed ≡ ended_lines bytes
+handed_so_far bytes held handed none same = handed_are_ended bytes held 10 10 handed none (same (10 ∷ []))

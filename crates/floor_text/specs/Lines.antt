@@ -26,3 +26,13 @@ without_empty_last (part ∷ next ∷ parts) = part ∷ without_empty_last (next
 -- the lines of a stream: its bytes are cut at the line feeds, and a last line without one counts where it has a byte
 unfoldable pub lines_of_bytes : List ℕ → List (Option (List ℕ))
 lines_of_bytes bytes = map cut_line (without_empty_last (slice_split is_line_feed bytes))
+
+-- all but the last of a list
+abbrev pub all_but_last : {X : Type 0} → List X → List X
+all_but_last [] = []
+all_but_last (x ∷ []) = []
+all_but_last (x ∷ next ∷ xs) = x ∷ all_but_last (next ∷ xs)
+
+-- the lines of a stream that a line feed ends: what follows the last line feed is none of them
+unfoldable pub ended_lines : List ℕ → List (Option (List ℕ))
+ended_lines bytes = map cut_line (all_but_last (slice_split is_line_feed bytes))

@@ -1,6 +1,6 @@
 //! Lines read from a source, block by block.
 
-ghost use Rattle.std.specs.Prelude.{◌≡◌, ◌≢◌, ◌≤◌, ◌<◌, ◌-◌, ◌+◌, ◌↔◌, ℕ, List, [], ◌∷◌, ◌++◌, length, take, drop, Some, Ok, Err, MatchOption, is_some, IfOk, IfErr, IfSome, IfNone, OnErr, true};
+ghost use Rattle.std.specs.Prelude.{◌≡◌, ◌≢◌, ◌≤◌, ◌<◌, ◌-◌, ◌+◌, ◌↔◌, ℕ, List, [], ◌∷◌, ◌++◌, length, take, drop, Some, Ok, Err, MatchOption, is_some, IfOk, IfErr, IfSome, IfNone, OnErr, true, false};
 ghost use Rattle.floor_text.specs.HeldBytes.{IsFirstFeed};
 ghost use Rattle.std.specs.List.{list_any};
 ghost use Rattle.floor_text.specs.Lines.{HasNoFeed, is_line_feed, cut_line, lines_of_bytes};
@@ -35,13 +35,14 @@ pub enum ReadEnd {
 
 /// Reads lines from a source that gives at most a limit of bytes. Contracts see it as the bytes that it
 /// took and did not hand out, of a line that is too long the first 401 at least, as the line that it
-/// handed out last, as the number of bytes taken and as the limit.
+/// handed out last, as the number of bytes taken, as the limit and as whether it came to the end.
 #[derive(Drop)]
 pub struct LineReader {
     bytes: HeldBytes,
     limit: u64,
     within: u64,
     over: bool,
+    ended: bool,
 }
 
 impl Model for LineReader {
@@ -55,24 +56,27 @@ impl Model for LineReader {
       line = r.bytes.line;
       taken = r.limit - r.within + (if r.over then 1 else 0);
       limit = r.limit;
+      ended = r.ended;
     } };
 
-    ghost invariant = { λ r. IsReading r.bytes.held r.limit r.within r.over };
+    ghost invariant = { λ r. IsReading r.bytes.held r.limit r.within r.over r.ended };
 }
 
 impl LineReader {
-    ghost use Rattle.floor_text.specs.LineReader.{Reads, lines_of_next};
+    ghost use Rattle.floor_text.specs.LineReader.{Reads, GoesOn, lines_of_next};
 
     /// Makes a reader that took nothing yet, and will take at most one byte more than the limit. It takes the
     /// room that it needs.
     pub fn new(alloc: Global, limit: u64) -> Result<LineReader, AllocError>
-        ensures { IfOk result (λ reader. reader ≡ record { held = []; line = []; taken = 0; limit = limit }) }
+        ensures { IfOk result (λ reader. reader
+            ≡ record { held = []; line = []; taken = 0; limit = limit; ended = false }) }
     {
         Ok(LineReader {
             bytes: HeldBytes::new(alloc)?,
             limit,
             within: limit,
             over: false,
+            ended: false,
         })
     }
 
@@ -80,12 +84,13 @@ impl LineReader {
     pub fn next_held(&mut self) -> Option<Next>
         ensures held { is_some result ≡ list_any is_line_feed (take (held_within self.old) self.old.held) }
         ensures reads { IfSome result (λ next. (bytes : List ℕ)
-            → Reads self.old self.new bytes (Some bytes) (lines_of_next (Ok next) self.new.line)) }
+            → GoesOn self.old self.new bytes (Some bytes) (lines_of_next (Ok next) self.new.line)) }
         ensures taken { self.new.taken ≡ self.old.taken }
         ensures limit { self.new.limit ≡ self.old.limit }
         ensures line { IfSome result (λ next. next ≢ Next.End) }
         ensures shorter { IfSome result (λ _. bytes_ahead self.new < bytes_ahead self.old) }
         ensures within_limit { IfSome result (λ _. self.new.limit < self.new.taken → 0 < length self.new.held) }
+        ensures ended { IfSome result (λ _. self.new.ended ≡ false) }
         ensures none { IfNone result (self.new ≡ self.old) }
     {
         let at = self.feed_from(0)?;
@@ -98,22 +103,25 @@ impl LineReader {
     pub fn next_line<S: Source>(&mut self, source: &mut S) -> Result<Next, ReadEnd>
         ensures reads { IfSome (S.left source.old)
             (λ bytes. Reads self.old self.new bytes (S.left source.new) (lines_of_next result self.new.line)) }
+        ensures goes_on { self.new.ended ≡ false → IfSome (S.left source.old)
+            (λ bytes. GoesOn self.old self.new bytes (S.left source.new) (lines_of_next result self.new.line)) }
         ensures taken { (self.old.taken ≤ self.new.taken) × (self.new.taken ≤ self.new.limit + 1) }
         ensures untouched { list_any is_line_feed (take (held_within self.old) self.old.held) ≡ true
             → source.new ≡ source.old }
         ensures limit { self.new.limit ≡ self.old.limit }
         ensures shorter { IfOk result (λ next. next ≢ Next.End → bytes_ahead self.new < bytes_ahead self.old) }
 
-        // At the end nothing is left, here and in a source that tells.
-        ensures end { result ≡ Ok Next.End → self.new.held ≡ [] }
-        ensures source_end { result ≡ Ok Next.End → IfSome (S.left source.old) (λ _. S.left source.new ≡ Some []) }
+        // Where the source came to its end, nothing is left, here and in a source that tells.
+        ensures end { result ≡ Ok Next.End → self.new.ended ≡ true }
+        ensures ended { self.new.ended ≡ true → self.new.held ≡ [] }
+        ensures source_end { self.new.ended ≡ true → IfSome (S.left source.old) (λ _. S.left source.new ≡ Some []) }
 
         // The byte past the limit is never handed out, and it is the cause of `InputTooLong`.
-        ensures within_limit { IfOk result (λ _. self.new.limit < self.new.taken → 0 < length self.new.held) }
+        ensures within_limit { self.new.limit < self.new.taken → 0 < length self.new.held }
         ensures input_too_long { IfErr result
             (λ end. (end ≡ ReadEnd.InputTooLong) ↔ (self.new.limit < self.new.taken)) }
-        ensures none_left { result ≡ Err ReadEnd.InputTooLong
-            → HasNoFeed (take (length self.new.held - 1) self.new.held) }
+        ensures no_line { IfErr result (λ _. HasNoFeed (take (held_within self.new) self.new.held)) }
+        ensures not_ended { IfErr result (λ _. self.new.ended ≡ false) }
 
         ensures faults { S.faults source.old ≤ S.faults source.new }
         ensures read_fault { result ≡ Err ReadEnd.ReadFault → Rose (S.faults source.old) (S.faults source.new) }
@@ -138,6 +146,13 @@ impl LineReader {
         self.bytes.line()
     }
 
+    /// Tells whether the source had come to its end when the last line was handed out.
+    pub fn ended(&self) -> bool
+        ensures { result ≡ self.now.ended }
+    {
+        self.ended
+    }
+
     fn len(&self) -> usize
         ensures { result ≡ length self.now.held }
     {
@@ -150,6 +165,7 @@ impl LineReader {
         requires before { HasNoFeed (take searched self.now.held) }
         ensures found { MatchOption result (HasNoFeed (take (held_within self.now) self.now.held))
             (λ at. (at < held_within self.now) × IsFirstFeed self.now.held at) }
+        ensures ended { IfSome result (λ _. self.now.ended ≡ false) }
         ensures most { self.now.taken ≤ self.now.limit + 1 }
     {
         let mut to = self.bytes.len();
@@ -167,6 +183,7 @@ impl LineReader {
         ensures held { self.new.held ≡ drop (line + ending) self.old.held }
         ensures taken { self.new.taken ≡ self.old.taken }
         ensures limit { self.new.limit ≡ self.old.limit }
+        ensures ended { self.new.ended ≡ self.old.ended }
         ensures line_or_long { result ≢ Next.End }
     {
         self.bytes.hand_out(line, ending);
@@ -184,33 +201,40 @@ impl LineReader {
         ensures held { self.new.held ≡ [] }
         ensures taken { self.new.taken ≡ self.old.taken }
         ensures limit { self.new.limit ≡ self.old.limit }
+        ensures ended { self.new.ended ≡ true }
         ensures some { result ≢ Next.End → 0 < length self.old.held }
     {
         let line = self.bytes.len();
         if line == 0 {
+            self.ended = true;
             return Next::End;
         }
-        self.hand_out(line, 0)
+        let next = self.hand_out(line, 0);
+        self.ended = true;
+        next
     }
 
     /// Takes the next block, and answers how many bytes came.
     fn take_more<S: Source>(&mut self, source: &mut S) -> Result<usize, ReadEnd>
         requires { HasNoFeed (take (held_within self.old) self.old.held) }
-        ensures reads { IfSome (S.left source.old) (λ bytes. Reads self.old self.new bytes (S.left source.new) []) }
+        ensures reads { IfSome (S.left source.old) (λ bytes. GoesOn self.old self.new bytes (S.left source.new) []) }
         ensures limit { self.new.limit ≡ self.old.limit }
         ensures ahead { bytes_ahead self.new ≤ bytes_ahead self.old }
         ensures count { IfOk result (λ n. (self.new.taken ≡ self.old.taken + n) × (n ≤ length self.new.held)) }
         ensures taken { self.new.taken ≤ self.new.limit + 1 }
+        ensures within_limit { self.new.limit < self.new.taken → 0 < length self.new.held }
         ensures searched { IfOk result (λ n. HasNoFeed (take (length self.new.held - n) self.new.held)) }
         ensures within { IfOk result (λ n. self.old.taken ≤ self.old.limit) }
         ensures source_end { result ≡ Ok 0 → IfSome (S.left source.old) (λ _. S.left source.new ≡ Some []) }
         ensures same { OnErr result (self.new.taken ≡ self.old.taken) }
         ensures input_too_long { IfErr result
             (λ end. (end ≡ ReadEnd.InputTooLong) ↔ (self.new.limit < self.new.taken)) }
-        ensures none_left { result ≡ Err ReadEnd.InputTooLong → self.new.held ≡ self.old.held }
+        ensures no_line { OnErr result (HasNoFeed (take (held_within self.new) self.new.held)) }
+        ensures ended { self.new.ended ≡ false }
         ensures faults { S.faults source.old ≤ S.faults source.new }
         ensures read_fault { result ≡ Err ReadEnd.ReadFault → Rose (S.faults source.old) (S.faults source.new) }
     {
+        self.ended = false;
         if self.over {
             return Err(ReadEnd::InputTooLong);
         }

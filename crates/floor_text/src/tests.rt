@@ -101,6 +101,17 @@ fn reader_stops_past_its_limit_and_goes_on_after_a_fault(rt: HostRuntime) -> Res
 }
 
 #[test]
+fn reader_tells_that_its_source_ended(rt: HostRuntime) -> Result<(), Fail> {
+    let alloc = rt.alloc();
+    let mut source = MemSource::new(b"ab\nc".to_vec(alloc)?, Vec::new(alloc));
+    let mut reader = LineReader::new(alloc, 4)?;
+    for (wanted, ended) in [(Next::Line, false), (Next::Line, true), (Next::End, true)] {
+        assert!(rt; reader.next_line(&mut source) == Ok(wanted) && reader.ended() == ended);
+    }
+    Ok(())
+}
+
+#[test]
 fn adapters_pass_bytes_on(rt: HostRuntime) -> Result<(), Fail> {
     let mut source = ReaderSource::new(b"ab".as_slice());
     let mut buffer = [0; 4];

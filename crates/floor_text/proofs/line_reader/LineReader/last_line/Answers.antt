@@ -1,5 +1,6 @@
-use Rattle.std.proofs.Common.{List, ℕ, [], ◌∷◌, length, sym, ap, ◌∙◌, arith}
+use Rattle.std.proofs.Common.{Ok, List, ℕ, [], ◌∷◌, length, sym, ap, ◌∙◌, arith}
 use Rattle.std.proofs.lemmas.List.{take_all}
+use Rattle.floor_text.specs.LineReader.{lines_of_next}
 use Rattle.floor_text.specs.Lines.{cut_line}
 use Rattle.floor_text.specs.Reading.{Reading}
 use Rattle.floor_text.proofs.CutLines.{handed_at_end, lines_of_none}
@@ -13,5 +14,7 @@ returns-then-line-eq0-clause-line c =
 pub returns-clause-line : goal.returns-clause-line
 returns-clause-line c =
     let held = ap (λ (r : Reading). length r.held) c.self.view_is in
-    sym (handed_at_end c.args.self.now.held _ c.requires.no_feed (omega arith) (c.hand_out.ensures.line
+    let line = ap (λ (r : Reading). r.line) c.self-2.view_is in
+    ap (lines_of_next (Ok c.hand_out-next.result)) line
+    ∙ sym (handed_at_end c.args.self.now.held _ c.requires.no_feed (omega arith) (c.hand_out-next.ensures.line
     ∙ ap (λ (xs : List ℕ). cut_line xs ∷ []) (take_all c.len-line.result c.args.self.now.held (omega arith))))

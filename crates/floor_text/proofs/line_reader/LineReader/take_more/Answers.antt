@@ -15,6 +15,14 @@ returns-in_default-clause-reads g c =
     (g.S.Source.left c.fill.new.source) c.in_default.ensures.left (grind arith)
     (whole_no_feed c.args.self.now within c.requires) (c.in_default.ensures.kept ∙ ap (take 401) held)
 
+pub returns-in_default-clause-no_line : goal.returns-in_default-clause-no_line
+returns-in_default-clause-no_line g c =
+    let within : c.args.self.now.taken ≤ c.args.self.now.limit = grind arith in
+    let held = ap (λ (r : Reading). r.held) c.self.view_is in
+    let none = subst HasNoFeed (sym held) (whole_no_feed c.args.self.now within c.requires) in
+    HasNoFeed-take _ c.fill.new.self.held
+    (subst HasNoFeed (sym c.in_default.ensures.kept) (HasNoFeed-take 401 c.self.inside.bytes.held none))
+
 pub returns-in_default-clause-ahead : goal.returns-in_default-clause-ahead
 returns-in_default-clause-ahead g c =
     let taken : c.args.self.now.taken ≡ c.self.inside.limit - c.self.inside.within = grind arith in
