@@ -1,8 +1,8 @@
 -- People in rising seat, clockwise from a seat: those from the first who sits behind it, and then those before him.
-use Rattle.std.proofs.Common.{◌≡◌, ◌∙◌, ℕ, suc, ◌+◌, Bool, true, false, List, [], ◌∷◌, ◌++◌, length, map, take, drop, refl, ap, sym, inl, inr, arith}
-use Rattle.std.specs.Prelude.{◌&&◌, filter, nat_lt, not}
+use Rattle.std.proofs.Common.{◌≡◌, ℕ, suc, ◌+◌, Bool, true, List, [], ◌∷◌, ◌++◌, map, take, drop, refl, ap, sym, inl, inr, arith}
+use Rattle.std.specs.Prelude.{filter, nat_lt, not}
 use Rattle.std.specs.List.{list_all, position_or_len}
-use Rattle.std.proofs.lemmas.Bool.{and_from, and_parts, cases_Bool, not_from_true}
+use Rattle.std.proofs.lemmas.Bool.{and_from, and_parts, cases_Bool}
 use Rattle.std.proofs.lemmas.Bool.Decides.{nat_tests}
 use Rattle.rulebook.specs.Pairs.{are_rising}
 use Rattle.rulebook.specs.Seats.{people_clockwise_after}

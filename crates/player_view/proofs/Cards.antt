@@ -1,5 +1,5 @@
 -- The cards that a line of a hand shows.
-use Rattle.std.proofs.Common.{◌≡◌, ℕ, Bool, List, [], ◌∷◌, ◌++◌, map, refl, ap, sym, inl, inr}
+use Rattle.std.proofs.Common.{◌≡◌, ℕ, List, [], ◌∷◌, map, refl, ap, sym, inl, inr}
 use Rattle.std.specs.Prelude.{◌⊎◌}
 use Rattle.deal_order.specs.DealOrder.{places_of_player}
 use Rattle.card_set.specs.declared.card.Card.{Card}

@@ -1,5 +1,5 @@
 -- The text of the lines of the floor.
-use Rattle.std.proofs.Common.{◌≡◌, ℕ, ◌+◌, ◌-◌, List, [], ◌∷◌, ◌++◌, map, refl, ap, sym, append-nil}
+use Rattle.std.proofs.Common.{◌≡◌, ℕ, List, [], ◌∷◌, ◌++◌, map, refl, ap, sym, append-nil}
 use Rattle.std.specs.List.{flat_map}
 use Rattle.betting_round.specs.declared.act.Act.{Act}
 use Rattle.card_set.specs.declared.card.CardRow.{CardRow}

@@ -1,6 +1,6 @@
 -- The players of a hand, clockwise from the seat after the button, as two parts of the list of its players.
-use Rattle.std.proofs.Common.{◌≡◌, ◌∙◌, ℕ, ◌-◌, Bool, true, false, List, ◌++◌, ◌<◌, ◌≤◌, length, take, drop, refl, ap, inl, inr, arith}
-use Rattle.std.specs.Prelude.{filter, nat_lt, not, unwrap_or}
+use Rattle.std.proofs.Common.{◌≡◌, ◌∙◌, ℕ, ◌-◌, Bool, true, false, List, ◌++◌, length, take, drop, refl, ap, inl, inr, arith}
+use Rattle.std.specs.Prelude.{nat_lt, not, unwrap_or}
 use Rattle.std.specs.List.{list_all, position, position_or_len}
 use Rattle.std.proofs.lemmas.Bool.{cases_lt, le-ltb, lt-ltb}
 use Rattle.std.proofs.lemmas.List.{take_rest}

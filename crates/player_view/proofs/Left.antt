@@ -1,12 +1,12 @@
 -- How many streets of a hand may still begin.
-use Rattle.std.proofs.Common.{◌≡◌, ◌∙◌, ℕ, zero, suc, ◌+◌, ◌-◌, ◌≤◌, List, [], ◌∷◌, ◌++◌, length, map, ap, sym, inl, inr, subst, arith}
+use Rattle.std.proofs.Common.{◌≡◌, ◌∙◌, ℕ, zero, suc, ◌+◌, ◌≤◌, List, [], ◌∷◌, ◌++◌, length, map, ap, sym, inl, inr, subst, arith}
 use Rattle.std.specs.Prelude.{reverse}
 use Rattle.std.proofs.lemmas.Bool.{cases_Bool}
 use Rattle.std.proofs.lemmas.List.{map-append, reverse-append}
 use Rattle.betting_round.specs.StreetActs.{SeatAct}
 use Rattle.table_engine.specs.declared.record.ActOf.{ActOf}
 use Rattle.table_engine.specs.declared.start.HandStart.{HandStart}
-use Rattle.table_engine.specs.Hands.{HandTerms, Streets, all_dealt_on, by_seat, dealt_on, first_streets, has_ended, street_now, streets_after, streets_of, with_act, with_next_street}
+use Rattle.table_engine.specs.Hands.{HandTerms, Streets, by_seat, dealt_on, first_streets, has_ended, street_now, streets_after, streets_of, with_act, with_next_street}
 
 -- Three streets may follow the first of a hand.
 record IsOfFour (streets : Streets) : Type 0 where

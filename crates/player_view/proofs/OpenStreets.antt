@@ -1,10 +1,9 @@
 -- The streets that are open are those that have begun: where somebody is due after a hand began, or it is won by folds,
 -- each of its streets began with somebody due.
-use Rattle.std.proofs.Common.{◌≡◌, ◌≢◌, ◌∙◌, ℕ, zero, suc, ◌+◌, ◌-◌, ◌≤◌, ◌<◌, Bool, true, false, cond, List, [], ◌∷◌, ◌++◌, length, map, take, Some, None, refl, ap, sym, subst, inl, inr, arith}
-use Rattle.std.specs.Prelude.{Option, ◌==◌, ◌&&◌, ◌||◌, ◌⊎◌, count_by, is_none, is_some, nat_lt, not, option_map, slice_index_or}
-use Rattle.std.specs.List.{list_all, list_any}
+use Rattle.std.proofs.Common.{◌≡◌, ◌∙◌, ℕ, suc, ◌-◌, ◌≤◌, Bool, true, false, cond, List, [], ◌∷◌, ◌++◌, length, map, take, Some, None, refl, ap, sym, inl, inr, arith}
+use Rattle.std.specs.Prelude.{Option, ◌==◌, ◌&&◌, ◌⊎◌, count_by, is_none, is_some, nat_lt, not, option_map, slice_index_or}
+use Rattle.std.specs.List.{list_any}
 use Rattle.std.proofs.lemmas.Bool.{and_from, and_parts, cases_Bool, not-true, or_cases, or_from, or_parts, or_right}
-use Rattle.std.proofs.lemmas.Bool.Decides.{nat_tests}
 use Rattle.rulebook.proofs.Found.{none-by_test}
 use Rattle.rulebook.proofs.Tests.{count_by-cons}
 use Rattle.betting_round.specs.declared.act.Act.{Act}
@@ -16,17 +15,16 @@ use Rattle.betting_round.specs.Limits.{Limits}
 use Rattle.betting_round.specs.StreetActs.{SeatAct, StreetStart, at_next_street, fresh, next_bettors, street_after}
 use Rattle.betting_round.specs.WhoIsDue.{can_act, due_seat, has_put_most, is_closed, is_live, is_one_live, is_only_one_to_act, is_there, may_be_due, player_at}
 use Rattle.betting_round.proofs.Steps.{map_at, street_start_is}
-use Rattle.betting_round.proofs.Turns.{accepted-due, due-can_act, due-high, due-low, slot-there}
+use Rattle.betting_round.proofs.Turns.{accepted-due, due-can_act, due-high, due-low}
 use Rattle.table_engine.specs.declared.start.HandStart.{HandStart}
 use Rattle.table_engine.specs.Acts.{limits_on}
 use Rattle.table_engine.specs.Hands.{HandTerms, StreetPlayed, Streets, first_streets, has_ended, is_over, later_street, street_now, streets_of, with_act, with_next_street}
 use Rattle.table_engine.specs.Plays.{IsLawfulPlay}
 use Rattle.table_engine.specs.Results.{is_won_by_folds}
 use Rattle.table_engine.specs.Starts.{IsLawfulStart}
-use Rattle.table_engine.proofs.Along.{IsKeptAlong, kept-play}
+use Rattle.table_engine.proofs.Along.{kept-play}
 use Rattle.table_engine.proofs.DueSeats.{nobody-may}
 use Rattle.table_engine.proofs.Rising.{over-whole}
-use Rattle.table_engine.proofs.Sound.{IsSound}
 use Rattle.view_rules.specs.Shown.{BoardStreet, Flop, Turn, River, due_streets, is_shown_down, open_streets, street_behind, was_due}
 use Rattle.player_view.specs.OpenBy.{open_by}
 use Rattle.player_view.proofs.Left.{three-behind}

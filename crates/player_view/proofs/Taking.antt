@@ -1,5 +1,5 @@
 -- Acts of a lawful play.
-use Rattle.std.proofs.Common.{◌≡◌, ◌∙◌, ℕ, ◌+◌, ◌<◌, true, List, [], ◌∷◌, ◌++◌, length, get_or, take, drop, Some, None, refl, sym, ap, subst, append_assoc}
+use Rattle.std.proofs.Common.{◌≡◌, ◌∙◌, ℕ, ◌+◌, ◌<◌, true, List, [], ◌∷◌, ◌++◌, length, get_or, take, drop, Some, None, refl, sym, ap}
 use Rattle.std.specs.Prelude.{IfErr, Option, Result, Ok, Err, is_none}
 use Rattle.std.proofs.lemmas.Bool.{and_from, and_parts}
 use Rattle.std.proofs.lemmas.List.{drop_more, take-append-drop}
@@ -11,7 +11,7 @@ use Rattle.table_engine.specs.declared.record.ActFault.{ActFault}
 use Rattle.table_engine.specs.declared.record.ActFault.TheVariants as faults
 use Rattle.table_engine.specs.declared.record.ActOf.{ActOf}
 use Rattle.table_engine.specs.declared.start.HandStart.{HandStart}
-use Rattle.table_engine.specs.Acts.{IsAnswer, limits_on, refusal_in_seat, refusal_of_act, refusal_of_time, time_act}
+use Rattle.table_engine.specs.Acts.{IsAnswer, limits_on, refusal_in_seat, refusal_of_act, refusal_of_time}
 use Rattle.table_engine.specs.Hands.{HandTerms, seat_of_name, street_of, streets_of}
 use Rattle.table_engine.specs.Plays.{AreTimedAfter, IsLawfulPlay, are_lawful_after}
 use Rattle.table_engine.proofs.DueNames.{time-free}

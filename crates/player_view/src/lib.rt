@@ -5,13 +5,21 @@
 //! who has the hand at hand writes the same lines by `push_opening` and `push_act`.
 #![tactic(auto)]
 
+mod act;
+mod clockwise;
 mod floor;
-mod hand_lines;
+mod following;
+mod hole_cards;
 mod line;
+mod opening;
+mod streets;
+mod tabled;
 mod teller;
+mod winners;
 
+pub use act::push_act;
 pub use floor::{floor_lines, push_floor_lines};
-pub use hand_lines::{push_act, push_opening};
+pub use opening::push_opening;
 pub use teller::TableTeller;
 pub use view_rules::{JournalEntry, StackLine, TableEntry};
 

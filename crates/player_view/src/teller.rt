@@ -10,7 +10,8 @@ ghost use Rattle.view_rules.specs.Shown.{Viewer};
 ghost use Rattle.view_rules.specs.Spelling.{lines_text};
 ghost use Rattle.player_view.specs.Tellers.{IsPlayable, IsTelling, hand_of, kept_hand, played, taken_back, without_last};
 
-use crate::hand_lines::{push_act, push_opening};
+use crate::act::push_act;
+use crate::opening::push_opening;
 use betting_round::Done;
 use floor_text::{List, Name};
 use std::alloc::{AllocError, Global};

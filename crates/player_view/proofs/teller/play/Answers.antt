@@ -1,4 +1,3 @@
-use Rattle.std.proofs.Common.{◌∙◌, ℕ, sym}
 use Rattle.player_view.proofs.Taking.{act-time, only-memory}
 use Rattle.player_view.proofs.teller.play.Goals as goal
 

@@ -1,5 +1,5 @@
 -- The players are dealt in lawfully: each test of their list computes.
-use Rattle.std.proofs.Common.{◌≡◌, ◌∙◌, ℕ, List, [], ◌∷◌, arith, lit≤}
+use Rattle.std.proofs.Common.{◌≡◌, ◌∙◌, List, [], ◌∷◌, arith, lit≤}
 use Rattle.std.specs.Prelude.{codes}
 use Rattle.table_engine.specs.declared.start.StartSeat.{StartSeat}
 use Rattle.player_view.proofs.tests.worked.Goals as goal

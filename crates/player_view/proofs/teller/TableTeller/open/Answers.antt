@@ -1,6 +1,5 @@
-use Rattle.std.proofs.Common.{◌∙◌, ◌++◌, [], ℕ, List, ap}
+use Rattle.std.proofs.Common.{◌∙◌, ◌++◌, ℕ, List, ap}
 use Rattle.table_engine.specs.declared.start.HandStart.{HandStart}
-use Rattle.table_engine.specs.Hands.{HandTerms}
 use Rattle.view_rules.specs.declared.entries.TableEntry.TheVariants.{Opened}
 use Rattle.view_rules.specs.Entries.{TableTold, begun, entry_lines}
 use Rattle.view_rules.specs.Spelling.{lines_text}

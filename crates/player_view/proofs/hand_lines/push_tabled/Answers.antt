@@ -1,9 +1,0 @@
-use Rattle.line_words.proofs.Growth.{Extends-append, Extends-before}
-use Rattle.player_view.proofs.hand_lines.push_tabled.Goals as goal
-
-pub returns-in_err-push_shown-clause-kept : goal.returns-in_err-push_shown-clause-kept
-returns-in_err-push_shown-clause-kept c =
-    Extends-before c.args.out.now.items c.loop-player.out.items _ _ c.loop-player.invariant c.in_err-push_shown.ensures.kept
-
-pub returns-clause-kept : goal.returns-clause-kept
-returns-clause-kept c = Extends-append c.args.out.now.items c.loop-player.out.items _ c.loop-player.invariant

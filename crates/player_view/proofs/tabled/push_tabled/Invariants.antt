@@ -1,0 +1,8 @@
+use Rattle.std.proofs.Common.{◌≡◌, ◌++◌, take}
+use Rattle.std.specs.List.{flat_map}
+use Rattle.player_view.specs.Each.{shown_lines, table_text}
+use Rattle.player_view.proofs.tabled.push_tabled.Given as goal
+
+abbrev pub invariant-loop-player : goal.invariant-loop-player
+invariant-loop-player l = l.out.items ≡ l.initial.out.items
+    ++ flat_map (λ player. table_text l.table (shown_lines l.hand player)) (take l.player-index l.players)
