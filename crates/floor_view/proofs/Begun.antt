@@ -15,7 +15,7 @@ use Rattle.view_rules.specs.Spelling.{ViewLine, Floor, Table, line_text, lines_t
 use Rattle.view_rules.specs.Lines.{floor_lines, opening_lines, lines_of_event}
 use Rattle.player_view.specs.Each.{table_text}
 use Rattle.player_view.proofs.Texts.{written-both}
-use Rattle.floor_view.specs.Kinds.{IsBeginAt, is_told_as_given}
+use Rattle.floor_view.specs.Kinds.{IsBeginAt, is_told_after}
 use Rattle.floor_view.specs.Told.{text_between}
 
 -- the lines of a begin, after which this hand is played, if one is
@@ -81,15 +81,17 @@ written-nothing who before after table event old new begin is written =
     ∙ ap (λ (event : Event). text_between who before event after) (sym begin.1)))
 
 -- The text of an event that is told as it was given.
-pub text-given : (who : Viewer) (before after : State) (event : Event) → is_told_as_given event ≡ true
+pub text-given : (who : Viewer) (before after : State) (event : Event) → is_told_after event ≡ true
+    → ((table : ℕ) (row : CardRow) → event ≡ events.Begin table row → ⊥)
+    → ((table : ℕ) (row : CardRow) → event ≡ events.Race table row → ⊥)
     → lines_text (map Floor (floor_lines event 0 [])) ≡ text_between who before event after
 unfolding text_between lines_of_event floor_lines
-text-given who before after (events.Begin table row) given = absurd cc
-text-given who before after (events.Act table name act) given = absurd cc
-text-given who before after (events.Time table) given = absurd cc
-text-given who before after (events.Settle table) given = absurd cc
-text-given who before after (events.Race table row) given = absurd cc
-text-given who before after event given = refl
+text-given who before after (events.Begin table row) told begin race = absurd (begin table row refl)
+text-given who before after (events.Act table name act) told begin race = absurd cc
+text-given who before after (events.Time table) told begin race = absurd cc
+text-given who before after (events.Settle table) told begin race = absurd cc
+text-given who before after (events.Race table row) told begin race = absurd (race table row refl)
+text-given who before after event told begin race = refl
 
 -- The same, as it is written from the start of the hand.
 pub written-opened : (who : Viewer) (before after : State) (table : ℕ) (event : Event) (hand : HandTerms)

@@ -5,3 +5,4 @@ pub mod Acted
 pub mod AtPlaces
 pub mod Settled
 pub mod Listed
+pub mod Looked

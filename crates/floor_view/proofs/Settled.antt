@@ -362,18 +362,18 @@ text-settled who before after table start hand is same =
     ∙ settle-lines who before after table))
 
 -- What was written of a settle that is accepted, from how its hand began, is what tells of it.
-pub written-settled : (who : Viewer) (state after : State) (table : ℕ) (event : Event) (start : Option HandStart)
-    (began : HandStart) (old new : List ℕ)
+pub written-settled : (who : Viewer) (state after : State) (table : ℕ) (event : Event) (began : HandStart)
+    (old new : List ℕ)
     → IsValidState state → event ≡ events.Settle table → is_accepted (answer_to state event) ≡ true
-    → after ≡ state_after state event → start ≡ option_map (λ hand. hand.start) (hand_in state table)
-    → start ≡ Some began → new ≡ old ++ settled_text event began after
+    → after ≡ state_after state event → option_map (λ hand. hand.start) (hand_in state table) ≡ Some began
+    → new ≡ old ++ settled_text event began after
     → new ≡ old ++ text_of who state event
-written-settled who state after table event start began old new valid settle taken is found some written =
+written-settled who state after table event began old new valid settle taken is found written =
     let accepted : is_accepted (answer_to state (events.Settle table)) ≡ true
     = ap (λ (event : Event). is_accepted (answer_to state event)) (sym settle) ∙ taken in
     let hand = settled-state state table valid accepted in
     let same : began ≡ hand.hand.start = same_Some began hand.hand.start
-    (sym some ∙ (found ∙ ap (option_map (λ (hand : HandTerms). hand.start)) hand.was)) in
+    (sym found ∙ ap (option_map (λ (hand : HandTerms). hand.start)) hand.was) in
     let now : after ≡ state_after state (events.Settle table)
     = is ∙ ap (λ (event : Event). state_after state event) settle in
     let text : settled_text event began after ≡ text_between who state event after

@@ -12,11 +12,9 @@ IsBeginAt event table = (row : CardRow) × (event ≡ events.Begin table row)
 abbrev pub IsRaceAt : Event → ℕ → Type 0
 IsRaceAt event table = (row : CardRow) × (event ≡ events.Race table row)
 
--- whether an event is told as it was given
-abbrev pub is_told_as_given : Event → Bool
-is_told_as_given (events.Begin table row) = false
-is_told_as_given (events.Act table name act) = false
-is_told_as_given (events.Time table) = false
-is_told_as_given (events.Settle table) = false
-is_told_as_given (events.Race table row) = false
-is_told_as_given event = true
+-- whether nothing that is found before an event is needed to tell of it
+abbrev pub is_told_after : Event → Bool
+is_told_after (events.Act table name act) = false
+is_told_after (events.Time table) = false
+is_told_after (events.Settle table) = false
+is_told_after event = true

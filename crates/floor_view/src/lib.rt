@@ -5,6 +5,7 @@
 //! the event and after it, and keeps nothing.
 #![tactic(auto)]
 
+mod before;
 mod event;
 mod hands;
 mod stacks;
