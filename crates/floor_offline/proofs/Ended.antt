@@ -1,13 +1,19 @@
 -- What the end of a command tells of its input.
-use Rattle.std.proofs.Common.{◌≡◌, ℕ, ◌≤◌, refl, sym, inl, inr, List, [], length, arith}
-use Rattle.std.specs.Prelude.{◌⊎◌, true, false, Option, Some, None, IfSome, Result, Ok, Err, IsOk, MatchResult}
+use Rattle.std.proofs.Common.{◌≡◌, ℕ, ◌≤◌, refl, sym, ap, ◌∙◌, inl, inr, List, [], length, take, arith}
+use Rattle.std.specs.Prelude.{◌⊎◌, ◌==◌, if◌then◌else◌, true, false, Option, Some, None, IfSome, Result, Ok, Err, IsOk, MatchResult}
 use Rattle.level_plan.specs.declared.line.PlanItem.{PlanItem}
 use Rattle.floor_offline.specs.declared.command.Command.{Command}
 use Rattle.floor_offline.specs.declared.fault.Fault.{Fault}
 use Rattle.floor_offline.specs.declared.fault.Fault.TheVariants as faults
-use Rattle.floor_offline.specs.Commands.{limit_of, text_of}
+use Rattle.floor_offline.specs.declared.command.Command.TheVariants.{Replay, View, Simulate}
+use Rattle.floor_offline.specs.Commands.{limit_of, telling_of, text_of}
 use Rattle.floor_offline.specs.Endings.{fault_status}
-use Rattle.floor_offline.specs.Promise.{GivesMore}
+use Rattle.floor_offline.specs.Promise.{GivesMore, IsToldOf, TakesAndPuts}
+use Rattle.floor_offline.proofs.AnswersTold.{stream_answered}
+use Rattle.floor_offline.proofs.Running.{both_from}
+use Rattle.floor_offline.proofs.ViewTold.{stream_seen}
+use Rattle.tournament_rules.specs.Replay.{replay_text}
+use Rattle.view_rules.specs.Views.{view_text}
 
 -- The fault of status 6 is an item of the plan.
 pub plan_of_status : (fault : Fault) → fault_status fault ≡ 6 → (item : PlanItem) × (fault ≡ faults.Plan item)
@@ -17,6 +23,27 @@ plan_of_status faults.Write is = absurd (omega arith)
 plan_of_status faults.NoMemory is = absurd (omega arith)
 plan_of_status (faults.Plan item) is = (item, refl)
 plan_of_status faults.InputTooLong is = absurd (omega arith)
+
+abbrev fault_at : ℕ → Fault
+fault_at status =
+    if status == 2 then faults.Usage else
+    (if status == 3 then faults.Read else
+    (if status == 4 then faults.Write else
+    (if status == 5 then faults.NoMemory else faults.InputTooLong)))
+
+fault_of_status : (fault : Fault) → (fault_status fault ≡ 6 → ⊥) → fault ≡ fault_at (fault_status fault)
+fault_of_status faults.Usage other = refl
+fault_of_status faults.Read other = refl
+fault_of_status faults.Write other = refl
+fault_of_status faults.NoMemory other = refl
+fault_of_status (faults.Plan item) other = absurd (other refl)
+fault_of_status faults.InputTooLong other = refl
+
+-- Two faults of one status, which is not that of a wrong plan, are one.
+pub same_fault : (fault other : Fault) → fault_status fault ≡ fault_status other → (fault_status other ≡ 6 → ⊥)
+    → fault ≡ other
+same_fault fault other same no_plan =
+    fault_of_status fault (λ six. no_plan (sym same ∙ six)) ∙ ap fault_at same ∙ sym (fault_of_status other no_plan)
 
 -- A status tells whether a command has a text: 0 that it has one, 6 that it has none, and 5 nothing.
 abbrev pub Tells : ℕ → Result (List ℕ) PlanItem → Type 0
@@ -73,3 +100,41 @@ ended_by command (faults.Plan item) left rest read write usage reads writes more
     planned command item left rest (plan item refl)
 ended_by command faults.InputTooLong left rest read write usage reads writes more plan no_read no_write =
     too_long command 8 left rest (more refl)
+
+-- A front of what a command tells of the lines of the bytes taken is a front of its text of them.
+pub front_of_text : (command : Command) (first left before now : Option (List ℕ))
+    → IfSome (telling_of command) (λ telling. TakesAndPuts (IsToldOf faults.Write telling) first left before now)
+    → IfSome (telling_of command) (λ _. TakesAndPuts
+    (λ taken text. (n : ℕ) × (whole : List ℕ) × (text_of command taken ≡ Ok whole) × (text ≡ take n whole))
+    first left before now)
+front_of_text Replay first left before now told =
+    both_from first before
+    (λ bytes text had. (
+      had.0,
+      had.1,
+      had.2,
+      had.3,
+      (
+        had.4.0,
+        replay_text (take had.0 bytes),
+        refl,
+        had.4.1 ∙ ap (take had.4.0) (stream_answered (take had.0 bytes)),
+      ),
+    ))
+    told
+front_of_text (View name) first left before now told =
+    both_from first before
+    (λ bytes text had. (
+      had.0,
+      had.1,
+      had.2,
+      had.3,
+      (
+        had.4.0,
+        view_text name (take had.0 bytes),
+        refl,
+        had.4.1 ∙ ap (take had.4.0) (stream_seen name (take had.0 bytes)),
+      ),
+    ))
+    told
+front_of_text (Simulate number) first left before now told = tt

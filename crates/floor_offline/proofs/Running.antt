@@ -1,9 +1,13 @@
 -- What holds of a run between two lines, what it comes to at the end, and that nothing of it is held back.
-use Rattle.std.proofs.Common.{◌≡◌, ℕ, ◌+◌, ◌<◌, ◌≤◌, refl, sym, ap, subst, ◌∙◌, inl, inr, List, [], ◌∷◌, ◌++◌, length, arith}
-use Rattle.std.specs.Prelude.{◌⊎◌, Option, Some, None, IfSome, IsSomeAnd, Result, Ok, Err, OnOk, IfOk, IsErrAnd, IfErr, Contains}
+use Rattle.std.proofs.Common.{◌≡◌, ℕ, ◌+◌, ◌-◌, ◌<◌, ◌≤◌, true, false, refl, sym, ap, subst, ◌∙◌, inl, inr, List, [], ◌∷◌, ◌++◌, length, take, drop, arith, length-drop}
+use Rattle.std.specs.Prelude.{◌⊎◌, Option, Some, None, IfSome, IsSomeAnd, Result, Ok, Err, OnOk, IfOk, IsErrAnd, IsErrOf, IfErr, Contains, MatchResult}
+use Rattle.std.proofs.Math.Seq.{take-nil}
+use Rattle.std.proofs.lemmas.Bool.{cases_lt}
+use Rattle.std.proofs.lemmas.List.{append-nil, take-append-drop}
+use Rattle.std.proofs.lemmas.Option.{MatchOption-at_some}
 use Rattle.floor_text.specs.Lines.{lines_of_bytes}
-use Rattle.floor_text.specs.Outside.{Rose}
-use Rattle.floor_text.specs.LineReader.{Reads}
+use Rattle.floor_text.specs.Outside.{Rose, Puts}
+use Rattle.floor_text.specs.LineReader.{Reads, lines_of_next}
 use Rattle.floor_text.specs.Reading.{Reading, bytes_ahead}
 use Rattle.floor_text.specs.declared.line_reader.Next.{Next}
 use Rattle.floor_text.specs.declared.line_reader.Next.TheVariants.{End}
@@ -13,77 +17,241 @@ use Rattle.floor_offline.specs.declared.fault.Fault.{Fault}
 use Rattle.floor_offline.specs.declared.fault.Fault.TheVariants as faults
 use Rattle.floor_offline.specs.Limits.{input_limit}
 use Rattle.floor_offline.specs.Endings.{fault_status, IsOfReading, IsOfWriting, LetsGo}
-use Rattle.tournament_rules.specs.Replay.{final_text, replay_text}
-use Rattle.floor_offline.specs.Promise.{whole_text, Keeps, Counts, GivesMore}
-use Rattle.floor_offline.proofs.Promises.{keeps_lines}
+use Rattle.tournament_rules.specs.Valid.{IsValidState}
+use Rattle.tournament_rules.proofs.Steps.{valid_first_state}
+use Rattle.floor_offline.specs.Promise.{Keeps, Counts, IsCounted, IsTelling, IsToldOf, TakesAndPuts, GivesMore}
+use Rattle.floor_offline.specs.Told.{Telling, lines_told, stream_told}
+use Rattle.floor_offline.proofs.Promises.{fail_end, front_of, not_both, stream_of_lines, told_all, told_front}
 
--- The whole text stays what it was, the bytes taken are counted, no count of faults has fallen, and each accepted event
--- took a byte. At the end nothing is held or left, and no more was taken than the limit allows.
-pub record IsRunning (first_whole whole first_left left : Option (List ℕ)) (next : Next) (held : List ℕ)
-    (taken limit first_input input first_out out accepted ahead : ℕ) : Type 0 where
-  pub keeps : Keeps first_whole whole
-  pub counts : Counts first_left left taken
-  pub at_limit : limit ≡ input_limit
+counts_none : (left : Option (List ℕ)) → Counts left left 0
+counts_none None = tt
+counts_none (Some bytes) = omega arith
+
+-- What was told of lines is told of all that were handed out but the pending one, and whoever tells is the same. The
+-- state is valid, the bytes taken are counted, no count of faults has fallen, and each accepted event took a byte.
+pub record IsRunning (first_telling telling : Telling) (first_left left first_written written : Option (List ℕ))
+    (next : Next) (reader : Reading) (first_input input first_out out : ℕ) (state : State) : Type 0 where
+  pub tells : IfSome first_left (λ bytes. IfSome first_written (λ before.
+      IsTelling first_telling bytes before state left written (lines_of_next (Ok next) reader.line) reader))
+  pub same : telling ≡ first_telling
+  pub valid : IsValidState state
+  pub counted : IsCounted first_left left reader
+  pub at_limit : reader.limit ≡ input_limit
   pub input_later : first_input ≤ input
   pub out_later : first_out ≤ out
-  pub few : accepted + ahead ≤ limit + 1
-  pub end : next ≡ End → held ≡ []
-  pub source_end : next ≡ End → IfSome first_left (λ _. left ≡ Some [])
-  pub within : next ≡ End → taken ≤ limit
+  pub few : state.accepted + (bytes_ahead reader + length (lines_of_next (Ok next) reader.line)) ≤ reader.limit + 1
+  pub end : next ≡ End → reader.ended ≡ true
 
-pub counts_first : (left : Option (List ℕ)) → Counts left left 0
-counts_first None = tt
-counts_first (Some bytes) = omega arith
+-- What follows of any bytes and any text follows of those that are told.
+pub both_from : (left written : Option (List ℕ)) {P Q : List ℕ → List ℕ → Type 0}
+    → ((bytes before : List ℕ) → P bytes before → Q bytes before)
+    → IfSome left (λ bytes. IfSome written (λ before. P bytes before))
+    → IfSome left (λ bytes. IfSome written (λ before. Q bytes before))
+both_from None written step holds = tt
+both_from (Some bytes) None step holds = tt
+both_from (Some bytes) (Some before) step holds = step bytes before holds
+
+-- a reader that took nothing
+abbrev pub IsFresh : Reading → Type 0
+IsFresh reader = reader ≡ record { held = []; line = []; taken = 0; limit = input_limit; ended = false }
+
+begun : (telling : Telling) (bytes before : List ℕ) (reader : Reading) → IsFresh reader
+    → IsTelling telling bytes before first_state (Some bytes) (Some before) [] reader
+begun telling bytes before reader fresh =
+    let P : Reading → Type 0 = λ now. IsTelling telling bytes before first_state (Some bytes) (Some before) [] now in
+    subst P (sym fresh) (record {
+      handled = [];
+      within = omega arith;
+      rest = refl;
+      told = ap Some (sym (append-nil before));
+      behind = refl;
+      lines = λ going more. refl;
+      all = λ ended. let never : false ≡ true = ended in absurd cc;
+      none_held = λ ended. refl;
+    })
+
+-- what follows of a run that told of nothing yet, with a reader that took nothing
+pub begins_so : (telling : Telling) (state : State) (reader : Reading) (left written : Option (List ℕ))
+    {Q : List ℕ → List ℕ → Type 0} → IsFresh reader → state ≡ first_state
+    → ((bytes before : List ℕ) → IsTelling telling bytes before state left written [] reader → Q bytes before)
+    → IfSome left (λ bytes. IfSome written (λ before. Q bytes before))
+begins_so telling state reader None written fresh first step = tt
+begins_so telling state reader (Some bytes) None fresh first step = tt
+begins_so telling state reader (Some bytes) (Some before) fresh first step =
+    let P : State → Type 0 = λ now. IsTelling telling bytes before now (Some bytes) (Some before) [] reader in
+    step bytes before (subst P (sym first) (begun telling bytes before reader fresh))
+
+-- A reader that took nothing counted nothing.
+pub counts_first : (left : Option (List ℕ)) (reader : Reading) → IsFresh reader → IsCounted left left reader
+counts_first left reader fresh =
+    let P : Reading → Type 0 = λ now. IsCounted left left now in
+    subst P (sym fresh) (record {
+      counts = counts_none left;
+      end = λ ended. let never : false ≡ true = ended in absurd cc;
+      within = λ ended. omega arith;
+    })
+
+counts_on : (first left rest : Option (List ℕ)) (old new : Reading) (handed : List (Option (List ℕ)))
+    → IfSome left (λ given. Reads old new given rest handed) → Counts first left old.taken → Counts first rest new.taken
+counts_on None left rest old new handed reads counts = tt
+counts_on (Some bytes) None rest old new handed reads counts = absurd counts
+counts_on (Some bytes) (Some given) rest old new handed reads counts =
+    let later : old.taken ≤ new.taken = reads.later in
+    let within : new.taken ≤ old.taken + length given = reads.within in
+    let all : old.taken + length given ≡ length bytes = counts in
+    let P : Option (List ℕ) → Type 0 = λ known. IsSomeAnd known (λ behind. new.taken + length behind ≡ length bytes) in
+    subst P (sym reads.rest) (omega (arith, length-drop (new.taken - old.taken) given))
+
+ends_on : (first left rest : Option (List ℕ)) (taken : ℕ) → Counts first left taken → IfSome left (λ _. rest ≡ Some [])
+    → IfSome first (λ _. rest ≡ Some [])
+ends_on None left rest taken counts end = tt
+ends_on (Some bytes) None rest taken counts end = absurd counts
+ends_on (Some bytes) (Some given) rest taken counts end = end
+
+-- what a reader takes is counted
+pub counted_on : (first left rest : Option (List ℕ)) (old new : Reading) (handed : List (Option (List ℕ)))
+    → IfSome left (λ given. Reads old new given rest handed)
+    → (new.ended ≡ true → new.held ≡ []) → (new.ended ≡ true → IfSome left (λ _. rest ≡ Some []))
+    → (new.limit < new.taken → 0 < length new.held) → IsCounted first left old → IsCounted first rest new
+counted_on first left rest old new handed reads held ends within counted =
+    record {
+      counts = counts_on first left rest old new handed reads counted.counts;
+      end = λ ended. ends_on first left rest old.taken counted.counts (ends ended);
+      within = λ ended.
+          let none : length new.held ≡ 0 = ap length (held ended) in
+          elim (cases_lt new.limit new.taken) [
+            | inl more ↦ let some : 0 < length new.held = within more in absurd (omega arith)
+            | inr most ↦ omega arith
+          ];
+    }
+
+-- a reader that took nothing more, and has not come to the end, counted what it had
+pub counted_still : (first left : Option (List ℕ)) (old new : Reading) → new.taken ≡ old.taken → new.ended ≡ false
+    → IsCounted first left old → IsCounted first left new
+counted_still first left old new taken going counted =
+    record {
+      counts = subst (λ n. Counts first left n) (sym taken) counted.counts;
+      end = not_both new.ended going;
+      within = not_both new.ended going;
+    }
 
 -- so it is once a reader that took nothing before has handed out the first line, in the first state
-pub starts : (state : State) (old new : Reading) (next : Next) (handed : List (Option (List ℕ)))
-    (left rest written : Option (List ℕ)) (first_input input out : ℕ)
-    → old ≡ record { held = []; line = []; taken = 0; limit = input_limit } → state ≡ first_state
-    → IfSome left (λ bytes. Reads old new bytes rest handed)
-    → bytes_ahead new + length handed ≤ bytes_ahead old → (next ≡ End → new.held ≡ [])
-    → (next ≡ End → IfSome left (λ _. rest ≡ Some [])) → (next ≡ End → new.taken ≤ new.limit)
-    → ((first : Option (List ℕ)) → Counts first left old.taken → Counts first rest new.taken)
-    → new.limit ≡ old.limit → first_input ≤ input
-    → IsRunning (whole_text first_state [] [] left written) (whole_text state handed new.held rest written) left rest
-    next new.held new.taken new.limit first_input input out out state.accepted (bytes_ahead new + length handed)
-starts state old new next handed left rest written first_input input out fresh first reads ahead end source_end within
-    counts limit later =
-    let held : old.held ≡ [] = ap (λ (reading : Reading). reading.held) fresh in
-    let taken : old.taken ≡ 0 = ap (λ (reading : Reading). reading.taken) fresh in
-    let limited : old.limit ≡ input_limit = ap (λ (reading : Reading). reading.limit) fresh in
-    let whole : Keeps (whole_text first_state [] [] left written) (whole_text first_state handed new.held rest written) =
-    subst
-    (λ bytes. Keeps (whole_text first_state [] bytes left written) (whole_text first_state handed new.held rest written))
-    held (keeps_lines first_state old new left rest written handed reads) in
-    rw first
-    (record {
-      keeps = whole;
-      counts = counts left (rw taken (counts_first left));
+pub starts : (telling : Telling) (state : State) (old new : Reading) (next : Next) (left rest written : Option (List ℕ))
+    (first_input input out : ℕ) → IsFresh old → state ≡ first_state
+    → ((bytes before : List ℕ) → IsTelling telling bytes before state left written [] old
+    → IsTelling telling bytes before state rest written (lines_of_next (Ok next) new.line) new)
+    → bytes_ahead new + length (lines_of_next (Ok next) new.line) ≤ bytes_ahead old
+    → ((first : Option (List ℕ)) → IsCounted first left old → IsCounted first rest new)
+    → new.limit ≡ old.limit → (next ≡ End → new.ended ≡ true) → first_input ≤ input
+    → IsRunning telling telling left rest written written next new first_input input out out state
+starts telling state old new next left rest written first_input input out fresh first told ahead counts limit end later =
+    let limited : old.limit ≡ input_limit = ap (λ (reader : Reading). reader.limit) fresh in
+    let most : bytes_ahead old ≡ input_limit + 1 = ap bytes_ahead fresh in
+    let none : state.accepted ≡ 0 = ap (λ (now : State). now.accepted) first in
+    record {
+      tells = begins_so telling state old left written fresh first told;
+      same = refl;
+      valid = subst IsValidState (sym first) valid_first_state;
+      counted = counts left (counts_first left old fresh);
       at_limit = limit ∙ limited;
       input_later = later;
       out_later = omega arith;
-      few = let most : bytes_ahead old ≡ input_limit + 1 = ap bytes_ahead fresh in omega (arith, most, limit, limited, ahead);
+      few = omega (arith, most, none, limit, limited, ahead);
       end = end;
-      source_end = source_end;
-      within = within;
-    })
+    }
+
+-- before anything was taken nothing is told
+pub untold : (telling : Telling) (left written : Option (List ℕ))
+    → TakesAndPuts (IsToldOf faults.NoMemory telling) left left written written
+untold telling None written = tt
+untold telling (Some bytes) None = tt
+untold telling (Some bytes) (Some before) = (0, [], refl, ap Some (sym (append-nil before)), (0, refl))
+
+-- at the end of all lines, what was put is what is told of the stream
+pub ends_well : (telling : Telling) (first left before written now : Option (List ℕ)) (state : State) (reader : Reading)
+    (ran : Result (Unit {0}) Fault) → reader.ended ≡ true → IfSome first (λ _. left ≡ Some [])
+    → IfSome first (λ bytes. IfSome before (λ text. IsTelling telling bytes text state left written [] reader))
+    → IfSome written (λ text. Puts text (telling.at_end state) now ran)
+    → OnOk ran (IfSome first (λ bytes. IfSome before (λ text. now ≡ Some (text ++ stream_told telling bytes))))
+ends_well telling None left before written now state reader (Ok value) ended last tells puts = tt
+ends_well telling (Some bytes) left None written now state reader (Ok value) ended last tells puts = tt
+ends_well telling (Some bytes) left (Some text) written now state reader (Ok value) ended last tells puts =
+    told_all telling bytes text state left written now reader ended last tells puts
+ends_well telling first left before written now state reader (Err fault) ended last tells puts = tt
+
+-- and where the end was not told whole, what was put is told of the bytes taken
+pub ends_in_fault : (telling : Telling) (first left before written now : Option (List ℕ)) (state : State)
+    (reader : Reading) (ran : Result (Unit {0}) Fault) → reader.ended ≡ true
+    → IfSome first (λ bytes. IfSome before (λ text. IsTelling telling bytes text state left written [] reader))
+    → IfSome written (λ text. Puts text (telling.at_end state) now ran)
+    → (IsErrOf ran faults.NoMemory → now ≡ written) → IfErr ran IsOfWriting
+    → IfErr ran (λ fault. TakesAndPuts (IsToldOf fault telling) first left before now)
+ends_in_fault telling first left before written now state reader (Ok value) ended tells puts memory others = tt
+ends_in_fault telling first left before written now state reader (Err faults.Usage) ended tells puts memory others =
+    absurd others
+ends_in_fault telling first left before written now state reader (Err faults.Read) ended tells puts memory others =
+    absurd others
+ends_in_fault telling first left before written now state reader (Err faults.Write) ended tells puts memory others =
+    both_from first before
+    (λ bytes text on. fail_end telling bytes text state left written now reader ended on puts) tells
+ends_in_fault telling first left before written now state reader (Err faults.NoMemory) ended tells puts memory others =
+    rw (memory refl)
+    (both_from first before (λ bytes text on. told_front telling bytes text state left written [] reader on) tells)
+ends_in_fault telling first left before written now state reader (Err (faults.Plan item)) ended tells puts memory others =
+    absurd others
+ends_in_fault telling first left before written now state reader (Err faults.InputTooLong) ended tells puts memory
+    others = absurd others
+
+-- what was told of whole lines is a front of what is told of the bytes
+front_told : (telling : Telling) (taken text : List ℕ) → IsToldOf faults.NoMemory telling taken text
+    → IsToldOf faults.Write telling taken text
+front_told telling taken text told =
+    let lines : List (Option (List ℕ)) = take told.0 (lines_of_bytes taken) in
+    let others : List (Option (List ℕ)) = drop told.0 (lines_of_bytes taken) in
+    let whole = stream_of_lines telling taken lines others (sym (take-append-drop told.0 (lines_of_bytes taken))) in
+    let front = front_of (lines_told telling lines) _ (stream_told telling taken) whole in
+    (front.0, told.1 ∙ front.1)
+
+-- where memory ran out, and the sink fails as it is to let go of what was told, that is a front still
+pub closed_front : (telling : Telling) (first left before written now : Option (List ℕ)) → Keeps written now
+    → TakesAndPuts (IsToldOf faults.NoMemory telling) first left before written
+    → TakesAndPuts (IsToldOf faults.Write telling) first left before now
+closed_front telling first left before written now keeps told =
+    both_from first before
+    (λ bytes text had. (
+      had.0,
+      had.1,
+      had.2,
+      MatchOption-at_some (Unit {0}) (λ all. now ≡ Some all) (text ++ had.1) had.3 keeps,
+      front_told telling (take had.0 bytes) had.1 had.4,
+    )) told
+
+-- A failed put of no bytes keeps what was written.
+pub none_put : (written now : Option (List ℕ))
+    → IfSome written (λ text. (n : ℕ) × (now ≡ Some (text ++ take n []))) → Keeps written now
+none_put None now put = tt
+none_put (Some text) now put =
+    put.1 ∙ ap (λ more. Some (text ++ more)) (take-nil put.0) ∙ ap Some (append-nil text)
+
+more_given : (first left : Option (List ℕ)) (taken : ℕ) → Counts first left taken → input_limit < taken
+    → GivesMore input_limit first left
+more_given None left taken counts more = tt
+more_given (Some bytes) None taken counts more = absurd counts
+more_given (Some bytes) (Some rest) taken counts more = omega (arith, counts, more)
 
 -- at the end as many bytes were taken as there were
-pub within_at_end : (first left : Option (List ℕ)) (taken limit : ℕ) → Counts first left taken
-    → IfSome first (λ _. left ≡ Some []) → limit ≡ input_limit → taken ≤ limit
-    → IfSome first (λ bytes. length bytes ≤ input_limit)
-within_at_end None left taken limit counts end at_limit within = tt
-within_at_end (Some bytes) left taken limit counts end at_limit within =
-    let P : Option (List ℕ) → Type 0 = λ known. IsSomeAnd known (λ rest. taken + length rest ≡ length bytes) in
-    let all : taken + 0 ≡ length bytes = subst P end counts in
-    omega (arith, all, at_limit, within)
+pub within_at_end : (first left : Option (List ℕ)) (reader : Reading) → IsCounted first left reader
+    → reader.ended ≡ true → reader.limit ≡ input_limit → IfSome first (λ bytes. length bytes ≤ input_limit)
+within_at_end None left reader counted ended at_limit = tt
+within_at_end (Some bytes) left reader counted ended at_limit =
+    let P : Option (List ℕ) → Type 0 = λ known. IsSomeAnd known (λ rest. reader.taken + length rest ≡ length bytes) in
+    let all : reader.taken + 0 ≡ length bytes = subst P (counted.end ended) counted.counts in
+    omega (arith, all, at_limit, counted.within ended)
 
 -- more bytes were taken than the limit
-pub gives_more : (first left : Option (List ℕ)) (taken limit : ℕ) → Counts first left taken → limit ≡ input_limit
-    → limit < taken → GivesMore input_limit first left
-gives_more None left taken limit counts at_limit more = tt
-gives_more (Some bytes) None taken limit counts at_limit more = absurd counts
-gives_more (Some bytes) (Some rest) taken limit counts at_limit more = omega (arith, counts, at_limit, more)
+pub gives_more : (first left : Option (List ℕ)) (reader : Reading) → IsCounted first left reader
+    → reader.limit ≡ input_limit → reader.limit < reader.taken → GivesMore input_limit first left
+gives_more first left reader counted at_limit more = more_given first left reader.taken counted.counts (omega arith)
 
 -- a count that rose since a later moment rose since an earlier one
 pub rose_since : (first before now : ℕ) → first ≤ before → Rose before now → Rose first now
@@ -101,22 +269,14 @@ pub closed_by : (ran closed : Result (Unit {0}) Fault) (fault : Fault) (late : T
 closed_by ran closed fault late (inl same) is = inl (sym same ∙ is)
 closed_by ran closed fault late (inr failed) is = inr failed.1
 
--- with nothing left, the whole text is what is written and then the report
-pub text_at_end : (state : State) (left written rest told all : Option (List ℕ))
-    → Keeps (whole_text first_state [] [] left written) (whole_text state [] [] rest told)
-    → IfSome left (λ _. rest ≡ Some [])
-    → IfSome told (λ text. all ≡ Some (text ++ final_text state))
-    → IfSome left (λ bytes. IfSome written (λ text. all ≡ Some (text ++ replay_text bytes)))
-unfolding whole_text lines_of_bytes
-text_at_end state None written rest told all keeps end report = tt
-text_at_end state (Some bytes) None rest told all keeps end report = tt
-text_at_end state (Some bytes) (Some before) rest None all keeps end report =
-    let P : Option (List ℕ) → Type 0 = λ known. whole_text state [] [] known None ≡ Some (before ++ replay_text bytes) in
-    let none = subst P end keeps in cc
-text_at_end state (Some bytes) (Some before) rest (Some text) all keeps end report =
-    let P : Option (List ℕ) → Type 0 = λ known. whole_text state [] [] known (Some text)
-    ≡ Some (before ++ replay_text bytes) in
-    report ∙ subst P end keeps
+-- what is told of each stream, in other words
+pub text_is : (telling : Telling) (text_of : List ℕ → List ℕ)
+    → ((bytes : List ℕ) → stream_told telling bytes ≡ text_of bytes) → (left written all : Option (List ℕ))
+    → IfSome left (λ bytes. IfSome written (λ text. all ≡ Some (text ++ stream_told telling bytes)))
+    → IfSome left (λ bytes. IfSome written (λ text. all ≡ Some (text ++ text_of bytes)))
+text_is telling text_of same None written all told = tt
+text_is telling text_of same (Some bytes) None all told = tt
+text_is telling text_of same (Some bytes) (Some text) all told = told ∙ ap (λ more. Some (text ++ more)) (same bytes)
 
 -- what holds anyway holds at `Ok`, and so does what follows from what holds there
 pub on_ok : {T E : Type 0} (result : Result T E) {P : Type 0} → P → OnOk result P
@@ -139,6 +299,12 @@ pub on_err : {T E : Type 0} (result : Result T E) (error : E) (P : E → Type 0)
     → IsErrAnd result (λ other. other ≡ error) → P error → IfErr result P
 on_err (Ok value) error P is holds = absurd is
 on_err (Err other) error P is holds = subst P (sym is) holds
+
+-- what holds of the error that a result is holds where it is matched
+pub err_so : {T E : Type 0} (result : Result T E) (error : E) (P : T → Type 0) (Q : E → Type 0)
+    → IsErrAnd result (λ other. other ≡ error) → Q error → MatchResult result P Q
+err_so (Ok value) error P Q is holds = absurd is
+err_so (Err other) error P Q is holds = subst Q (sym is) holds
 
 -- a fault's status is one of those told
 pub status_of_fault : (fault : Fault) → Contains (0 ∷ 2 ∷ 3 ∷ 4 ∷ 5 ∷ 6 ∷ 8 ∷ []) (fault_status fault)

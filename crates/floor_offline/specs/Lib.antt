@@ -1,5 +1,6 @@
 pub mod Endings
 pub mod Limits
 pub mod Handed
+pub mod Told
 pub mod Promise
 pub mod Commands

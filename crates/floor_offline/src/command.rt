@@ -3,13 +3,15 @@
 ghost use Rattle.std.specs.Prelude.{◌≡◌, map, string_bytes};
 ghost use Rattle.floor_offline.specs.Commands.{command_of};
 
-use floor_text::read_number;
+use floor_text::{Name, read_number};
 
 /// A written command of the offline program.
 #[derive(Clone, Copy, Debug, PartialEq, Eq)]
 pub enum Command {
     /// The lines of a tournament are answered, and its report comes behind the answers.
     Replay,
+    /// The player of this name is told of the lines of a tournament.
+    View(Name),
     /// A tournament of this number is simulated over the plan that the input is.
     Simulate(u64),
 }
@@ -21,6 +23,9 @@ impl Command {
     {
         match words {
             [word] if word.as_str() == "replay" => Some(Command::Replay),
+            [word, name] if word.as_str() == "view" => {
+                Some(Command::View(Name::read(name.as_bytes())?))
+            }
             [word, number] if word.as_str() == "simulate" => {
                 Some(Command::Simulate(read_number(number.as_bytes())?))
             }

@@ -4,13 +4,13 @@ use crate::round_transcripts::TWO_TWICE;
 use crate::transcripts::{PLAN, THREE, TWO, Transcript};
 
 /// The first lines of a plan of one table.
-const ONE_TABLE: &str = "game holdem
+pub const ONE_TABLE: &str = "game holdem
 tables 1
 seats 6
 ";
 
 /// The first lines of a plan of two tables of two.
-const TWO_TABLES: &str = "game holdem
+pub const TWO_TABLES: &str = "game holdem
 tables 2
 seats 2
 ";

@@ -41,7 +41,7 @@ go
 ";
 
 /// Hi-lo with stacks of five big blinds.
-const SHORT_HILO: &str = "game hilo
+pub const SHORT_HILO: &str = "game hilo
 tables 1
 seats 6
 stack 1000

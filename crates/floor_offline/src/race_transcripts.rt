@@ -3,7 +3,7 @@
 use crate::transcripts::{CLOSE, TWO, Transcript};
 
 /// Behind the seats of a plan: chips of 25 at the first level, and chips of 100 at the second.
-const TWO_UNITS: &str = "stack 1000
+pub const TWO_UNITS: &str = "stack 1000
 buyin 100
 late 1
 blinds 25 50 25

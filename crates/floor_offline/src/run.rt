@@ -1,18 +1,23 @@
 //! The top call.
 
 ghost use Rattle.std.specs.Prelude.{◌⊎◌, ◌≡◌, ◌≢◌, ◌↔◌, ◌≤◌, ◌∷◌, [], ◌++◌, ℕ, List, length, take, map, string_bytes, Some, None, Ok, Err, IfSome, IfErr, OnOk, IsOk, IsErrOf, Contains, MatchResult};
+ghost use Rattle.floor_text.specs.Lines.{lines_of_bytes};
 ghost use Rattle.floor_text.specs.Outside.{Rose};
 ghost use Rattle.level_plan.specs.declared.line.PlanItem.{PlanItem};
-ghost use Rattle.floor_offline.specs.Commands.{IsPut, command_of, limit_of, text_of};
+ghost use Rattle.floor_offline.specs.Commands.{IsPut, command_of, limit_of, telling_of, text_of};
 ghost use Rattle.floor_offline.specs.Endings.{LetsGo, PutsLine, fault_line, fault_status, status_line};
-ghost use Rattle.floor_offline.specs.Promise.{GivesMore};
+ghost use Rattle.floor_offline.specs.Limits.{input_limit};
+ghost use Rattle.floor_offline.specs.Promise.{TakesAndPuts, IsToldOf, GivesMore};
+ghost use Rattle.floor_offline.specs.Told.{ended_told, lines_told};
 ghost use Rattle.floor_offline.specs.declared.command.Command.{Command};
 ghost use Rattle.floor_offline.specs.declared.command.Command.TheVariants.{Simulate};
 
 use crate::command::Command;
 use crate::fault::Fault;
-use crate::replay::{close, replay};
+use crate::lines::close;
+use crate::replay::replay;
 use crate::simulate::simulate;
+use crate::view::view;
 use floor_text::{Sink, Source};
 use std::alloc::Global;
 
@@ -34,6 +39,10 @@ fn carry_out<I: Source, O: Sink>(
     ensures plan { (item : PlanItem) → result ≡ Err (Fault.Plan item) → IfSome (I.left input.old)
         (λ bytes. (text_of command bytes ≡ Err item) × (I.left input.new ≡ Some [])) }
 
+    // Where a command that tells of lines fails, what it put is told of the bytes that were taken.
+    ensures told { IfSome (telling_of command) (λ telling. IfErr result (λ fault. TakesAndPuts (IsToldOf fault telling)
+        (I.left input.old) (I.left input.new) (O.written out.old) (O.written out.new))) }
+
     // What a simulation puts out where it fails.
     ensures untouched { (number : ℕ) (fault : Fault) → command ≡ Simulate number → result ≡ Err fault
         → fault ≢ Fault.Write → out.new ≡ out.old }
@@ -50,6 +59,7 @@ fn carry_out<I: Source, O: Sink>(
 {
     match command {
         Command::Replay => close(replay(alloc, input, out), out),
+        Command::View(name) => close(view(alloc, name, input, out), out),
         Command::Simulate(number) => simulate(alloc, number, input, out),
     }
 }
@@ -69,8 +79,9 @@ fn tell<E: Sink>(fault: Fault, err: &mut E) -> u8
 ///
 /// `replay` answers each line of the input by a line on `out`, and at the end of the input puts the report there,
 /// each by one put. Answers may be held back by `out` while further lines are at hand. Where memory runs out in the
-/// midst, `out` lets go of them by a put of no bytes. `simulate N` reads a plan file from the input, plays the
-/// simulated tournament of the number over it, and puts what is told of it on `out` by one put.
+/// midst, `out` lets go of them by a put of no bytes. `view NAME` puts there in the same way the lines that tell the
+/// player of the name of each line of the input, and no report. `simulate N` reads a plan file from the input, plays
+/// the simulated tournament of the number over it, and puts what is told of it on `out` by one put.
 ///
 /// | status | comes | err |
 /// |---|---|---|
@@ -117,6 +128,29 @@ pub fn run_offline<I: Source, O: Sink, E: Sink>(
         (E.faults err.old) (E.faults err.new)))
         × ((command : Command) → command_of (map string_bytes words.now.items) ≡ Some command
         → IfSome (I.left input.old) (λ bytes. (text_of command bytes ≡ Err item) × (I.left input.new ≡ Some []))) }
+
+    // Where a command that tells of lines fails, what it put is told of the bytes that were taken. Status 3: of just
+    // all lines that a line feed ends there; 8: of those that one ends within the limit; 5: of a front of the lines,
+    // each of them whole; 4: a front of the command's text of the bytes.
+    ensures read_fault_told { result ≡ 3 → (command : Command)
+        → command_of (map string_bytes words.now.items) ≡ Some command
+        → IfSome (telling_of command) (λ telling. TakesAndPuts (λ taken text. text ≡ ended_told telling taken)
+        (I.left input.old) (I.left input.new) (O.written out.old) (O.written out.new)) }
+    ensures too_long_told { result ≡ 8 → (command : Command)
+        → command_of (map string_bytes words.now.items) ≡ Some command
+        → IfSome (telling_of command)
+        (λ telling. TakesAndPuts (λ taken text. text ≡ ended_told telling (take input_limit taken))
+        (I.left input.old) (I.left input.new) (O.written out.old) (O.written out.new)) }
+    ensures no_memory_told { result ≡ 5 → (command : Command)
+        → command_of (map string_bytes words.now.items) ≡ Some command
+        → IfSome (telling_of command) (λ telling. TakesAndPuts
+        (λ taken text. (n : ℕ) × (text ≡ lines_told telling (take n (lines_of_bytes taken))))
+        (I.left input.old) (I.left input.new) (O.written out.old) (O.written out.new)) }
+    ensures write_fault_told { result ≡ 4 → (command : Command)
+        → command_of (map string_bytes words.now.items) ≡ Some command
+        → IfSome (telling_of command) (λ _. TakesAndPuts
+        (λ taken text. (n : ℕ) × (whole : List ℕ) × (text_of command taken ≡ Ok whole) × (text ≡ take n whole))
+        (I.left input.old) (I.left input.new) (O.written out.old) (O.written out.new)) }
 
     // A simulation that fails has put nothing, but where out failed a front of its text.
     ensures simulated_nothing { (number : ℕ) → command_of (map string_bytes words.now.items) ≡ Some (Simulate number)

@@ -50,14 +50,14 @@ pub fn add_words(input: &mut Vec<u8>, line: &str) -> Result<(), AllocError> {
 }
 
 /// Adds a line.
-fn add_line(input: &mut Vec<u8>, line: &str) -> Result<(), AllocError> {
+pub fn add_line(input: &mut Vec<u8>, line: &str) -> Result<(), AllocError> {
     add_words(input, line)?;
     input.push(b'\n')?;
     Ok(())
 }
 
-/// Adds an answer, or a line of the report.
-fn add_answer(answers: &mut Vec<u8>, answer: &str) -> Result<(), AllocError> {
+/// Adds an answer, a line of the report, or one that a player is told.
+pub fn add_answer(answers: &mut Vec<u8>, answer: &str) -> Result<(), AllocError> {
     answers.extend_from_slice(answer.as_bytes())?;
     answers.push(b'\n')?;
     Ok(())
@@ -96,24 +96,29 @@ pub fn run(
     Ok(Ran { status, out, err })
 }
 
-/// Runs an input, and compares each line of what is written.
-fn compare(
+/// Runs words over an input, and compares each line of what is written.
+pub fn compare(
     rt: &impl Abort,
     alloc: Global,
+    words: &str,
     name: &str,
     input: Vec<u8>,
     answers: &[u8],
 ) -> Result<(), AllocError> {
-    let ran = run(alloc, "replay", input, &[], &[])?;
+    let ran = run(alloc, words, input, &[], &[])?;
     let found = str::from_utf8(ran.out.bytes()).unwrap_or("no text");
     let wanted = str::from_utf8(answers).unwrap_or("no text");
     let mut lines = found.lines();
     for (place, line) in wanted.lines().enumerate() {
-        assert_eq!(rt; lines.next(), Some(line), "{name}: after {place} lines");
+        assert_eq!(rt;
+            lines.next(),
+            Some(line),
+            "{words}, {name}: after {place} lines"
+        );
     }
     assert!(rt;
         ran.status == 0 && found == wanted && ran.err.bytes().is_empty(),
-        "{name}"
+        "{words}, {name}"
     );
     Ok(())
 }
@@ -129,7 +134,7 @@ pub fn play(rt: &impl Abort, alloc: Global, script: &Script) -> Result<(), Alloc
     for line in script.report {
         add_answer(&mut answers, line)?;
     }
-    compare(rt, alloc, script.name, input, &answers)
+    compare(rt, alloc, "replay", script.name, input, &answers)
 }
 
 #[test]
@@ -160,7 +165,7 @@ pub fn follow(rt: &impl Abort, alloc: Global, transcript: &Transcript) -> Result
             }
         }
     }
-    compare(rt, alloc, transcript.name, input, &answers)
+    compare(rt, alloc, "replay", transcript.name, input, &answers)
 }
 
 #[test]
@@ -181,7 +186,7 @@ const ANSWERS_TO_BYTES: &[u8] =
 #[test]
 fn lines_of_any_bytes_are_answered(rt: HostRuntime) -> Result<(), Fail> {
     let input = Vec::from_slice(rt.alloc(), BYTES)?;
-    compare(&rt, rt.alloc(), "bytes", input, ANSWERS_TO_BYTES)?;
+    compare(&rt, rt.alloc(), "replay", "bytes", input, ANSWERS_TO_BYTES)?;
     Ok(())
 }
 
@@ -193,6 +198,14 @@ fn a_run_ends_with_its_status(rt: HostRuntime) -> Result<(), Fail> {
         ("replay x", 0, 0, 2, 0, USAGE),
         ("--help", 0, 0, 2, 0, USAGE),
         ("view", 0, 0, 2, 0, USAGE),
+        ("view floor", 0, 0, 2, 0, USAGE),
+        ("view 1ann", 0, 0, 2, 0, USAGE),
+        ("view ann-", 0, 0, 2, 0, USAGE),
+        ("view abcdefghijklmnopq", 0, 0, 2, 0, USAGE),
+        ("view ann bob", 0, 0, 2, 0, USAGE),
+        ("View ann", 0, 0, 2, 0, USAGE),
+        ("view ann", 1, 0, 3, 0, "read fault\n"),
+        ("view ann", 0, 1, 4, 0, "write fault\n"),
         ("Replay", 0, 0, 2, 0, USAGE),
         ("replay", 1, 0, 3, 0, "read fault\n"),
         ("replay", 2, 0, 3, 27, "read fault\n"),

@@ -44,7 +44,7 @@ go
 ";
 
 /// A plan whose unit is half of the small blind.
-const FINE_PLAN: &str = "game holdem
+pub const FINE_PLAN: &str = "game holdem
 tables 1
 seats 6
 stack 1000

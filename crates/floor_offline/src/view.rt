@@ -1,0 +1,113 @@
+//! A player is told of the lines of the input.
+
+ghost use Rattle.std.specs.Prelude.{◌≡◌, ◌≤◌, ◌<◌, ◌^◌, ◌++◌, ℕ, length, [], Some, IfSome, OnOk, IfErr, IsErrOf};
+ghost use Rattle.floor_text.specs.Outside.{Rose};
+ghost use Rattle.level_plan.specs.declared.line.PlanItem.{PlanItem};
+ghost use Rattle.floor_events.specs.Grammar.{item_of_bytes};
+ghost use Rattle.tournament_rules.specs.Replay.{state_after_item};
+ghost use Rattle.tournament_rules.specs.Valid.{IsValidState};
+ghost use Rattle.view_rules.specs.Views.{view_text};
+ghost use Rattle.floor_offline.specs.Limits.{input_limit};
+ghost use Rattle.floor_offline.specs.Endings.{IsOfReading, LetsGo};
+ghost use Rattle.floor_offline.specs.Promise.{TakesAndPuts, IsToldOf, GivesMore};
+ghost use Rattle.floor_offline.specs.Told.{item_seen, lines_seen};
+
+use crate::fault::Fault;
+use crate::lines::tell_lines;
+use crate::teller::LineTeller;
+use floor_core::Tournament;
+use floor_events::{Item, read_item};
+use floor_text::{Name, Next, Sink, Source};
+use floor_view::tell_event;
+use std::alloc::{AllocError, Global};
+
+/// Has a tournament take a line of at most 400 bytes, and writes what tells the player of a name of it: of a note, and
+/// of a line that is none of the grammar, nothing.
+fn tell_line(
+    alloc: Global,
+    tournament: &mut Tournament,
+    name: Name,
+    line: &[u8],
+    text: &mut Vec<u8>,
+) -> Result<(), AllocError>
+    requires few { tournament.old.accepted < 2 ^ 60 }
+    requires valid { IsValidState tournament.old }
+    ensures told { OnOk result
+        (text.new.items ≡ text.old.items ++ item_seen name tournament.old (item_of_bytes line.now)) }
+    ensures state { OnOk result (tournament.new ≡ state_after_item tournament.old (item_of_bytes line.now)) }
+{
+    match read_item(alloc, line)? {
+        Some(Item::Event(event)) => tell_event(alloc, tournament, Some(name), &event, text),
+        Some(Item::Note) | None => Ok(()),
+    }
+}
+
+/// Tells the player of a name of each event, and nothing at the end.
+#[derive(Drop)]
+struct PlayerTeller {
+    name: Name,
+    text: Vec<u8>,
+}
+
+impl LineTeller for PlayerTeller {
+    ghost telling = { λ teller. lines_seen teller.name };
+
+    ghost due = { λ teller. teller.text.items };
+
+    fn take(
+        &mut self,
+        alloc: Global,
+        tournament: &mut Tournament,
+        handed: Next,
+        line: &[u8],
+    ) -> Result<(), AllocError> {
+        self.text.clear();
+        match handed {
+            Next::Line => tell_line(alloc, tournament, self.name, line, &mut self.text),
+            Next::TooLong | Next::End => Ok(()),
+        }
+    }
+
+    fn end(&mut self, _tournament: &Tournament) -> Result<(), AllocError> {
+        self.text.clear();
+        Ok(())
+    }
+
+    fn text(&self) -> &[u8] {
+        &self.text
+    }
+}
+
+/// Puts what tells the player of a name of each line of the input, and no report.
+pub fn view<I: Source, O: Sink>(
+    alloc: Global,
+    name: Name,
+    input: &mut I,
+    out: &mut O,
+) -> Result<(), Fault>
+    ensures end { OnOk result (IfSome (I.left input.old) (λ _. I.left input.new ≡ Some [])) }
+    ensures text { OnOk result (IfSome (I.left input.old)
+        (λ bytes. IfSome (O.written out.old) (λ before. O.written out.new ≡ Some (before ++ view_text name bytes)))) }
+    ensures within { OnOk result (IfSome (I.left input.old) (λ bytes. length bytes ≤ input_limit)) }
+
+    // Where it fails, what was put is told of the bytes that were taken.
+    ensures told { IfErr result (λ fault. TakesAndPuts (IsToldOf fault (lines_seen name))
+        (I.left input.old) (I.left input.new) (O.written out.old) (O.written out.new)) }
+
+    // Nothing is held back but where out failed or memory ran out.
+    ensures let_go { OnOk result (O.held out.new ≡ []) }
+    ensures read_let_go { IfErr result (λ fault. IsOfReading fault → LetsGo O.held out.old out.new) }
+
+    ensures too_long { IsErrOf result Fault.InputTooLong → GivesMore input_limit (I.left input.old) (I.left input.new) }
+    ensures read { IsErrOf result Fault.Read → Rose (I.faults input.old) (I.faults input.new) }
+    ensures out_later { O.faults out.old ≤ O.faults out.new }
+    ensures write { IsErrOf result Fault.Write → Rose (O.faults out.old) (O.faults out.new) }
+    ensures words { IsErrOf result Fault.Usage → ⊥ }
+    ensures plan { (item : PlanItem) → IsErrOf result (Fault.Plan item) → ⊥ }
+{
+    let mut teller = PlayerTeller {
+        name,
+        text: Vec::new(alloc),
+    };
+    tell_lines(alloc, &mut teller, input, out)
+}
