@@ -268,18 +268,18 @@ impl Sink for OwnSink {
     }
 }
 
+/// What three lines are answered, of which no line feed ends the last: behind it the source is asked no more.
+const ANSWERED: &str =
+    "no 2 NoPlan\n|ok\n|no 1 Syntax\n|* report\n* level 0\n* sold 0\n* removed 0\n* added 0\n* rest 0\n* play 0\n* end\n|";
+
 #[test]
 fn an_own_sink_gets_each_answer_by_one_put(rt: HostRuntime) -> Result<(), Fail> {
     let alloc = rt.alloc();
     for (taken, status, written, told) in [
-        (
-            0,
-            0,
-            "no 2 NoPlan\n|ok\n|no 1 Syntax\n|* report\n* level 0\n* sold 0\n* removed 0\n* added 0\n* rest 0\n* play 0\n* end\n|",
-            "",
-        ),
+        (0, 0, ANSWERED, ""),
         (1, 3, "", "read fault\n|"),
         (2, 3, "no 2 NoPlan\n|ok\n|", "read fault\n|"),
+        (3, 0, ANSWERED, ""),
     ] {
         let words = words_of(alloc, "replay")?;
         let input = b"stop\ngame holdem\nstop ".to_vec(alloc)?;
