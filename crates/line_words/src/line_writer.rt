@@ -32,11 +32,27 @@ pub enum Word<'a> {
     Names(&'a [Name]),
 }
 
-fn push_number(out: &mut Vec<u8>, number: u64) -> Result<(), AllocError>
+/// Writes a number in decimal digits.
+#[inline(never)]
+fn push_digits(out: &mut Vec<u8>, number: u64) -> Result<(), AllocError>
     ensures ok { OnOk result (out.new.items ≡ out.old.items ++ decimal number) }
     ensures err { OnErr result (out.new.items ≡ out.old.items) }
 {
     out.extend_from_slice(itoa::Buffer::new().format(number).as_bytes())
+}
+
+/// Writes a number in decimal digits: at once where it has one, as most seats and tables do.
+#[inline(always)]
+#[tactic(auto, using(std::proofs::lemmas::Fmt::decimal_digit))]
+fn push_number(out: &mut Vec<u8>, number: u64) -> Result<(), AllocError>
+    ensures ok { OnOk result (out.new.items ≡ out.old.items ++ decimal number) }
+    ensures err { OnErr result (out.new.items ≡ out.old.items) }
+{
+    if number >= 10 {
+        return push_digits(out, number);
+    }
+    out.push(b'0' + number as u8)?;
+    Ok(())
 }
 
 fn push_cards(out: &mut Vec<u8>, row: &CardRow) -> Result<(), AllocError>
@@ -78,6 +94,7 @@ impl WriteText for Name {
 impl WriteText for Word<'_> {
     ghost text = { word_text };
 
+    #[inline(always)]
     fn push_text(&self, out: &mut Vec<u8>) -> Result<(), AllocError> {
         match *self {
             Word::Text(text) => out.extend_from_slice(text),
