@@ -220,14 +220,6 @@ text-own table who start name seat is found =
     let lines = hole-line start seat ∙ ap (λ (shown : List ℕ). hole_lines (cards_at start shown)) (sym places) in
     sym (append-nil _) ∙ ap (table_text table) lines
 
--- The text of a line of a player's hole cards, where he is live.
-pub text-shown : (table : ℕ) (hand : HandTerms) (player : StartSeat) → is_live hand player ≡ true
-    → decimal table ++ (codes ": " ++ line_of_words
-    (codes "show" ∷ player.name ∷ cards_text (cards_at hand.start (hole_places hand.start player.seat)) ∷ []))
-    ≡ table_text table (shown_lines hand player)
-unfolding line_text
-text-shown table hand player live = rw live (sym (append-nil _))
-
 -- The text of a line of a street that has begun.
 pub text-street : (table : ℕ) (start : HandStart) (street : BoardStreet) (few left_before left : ℕ) (cards : List Card)
     → few ≤ left_before → left < few → cards ≡ cards_at start (street_places start street)

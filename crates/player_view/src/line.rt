@@ -7,7 +7,7 @@ ghost use Rattle.line_words.specs.Words.{line_of_words, Extends};
 ghost use Rattle.line_words.specs.Written.{word_text};
 
 use card_set::{Card, card_text};
-use line_words::{Word, push_line, push_words};
+use line_words::{Word, WriteText, push_line, push_words};
 use std::alloc::AllocError;
 
 /// Writes what lines of the floor begin with.
@@ -33,8 +33,10 @@ fn push_table(table: u8, out: &mut Vec<u8>) -> Result<(), AllocError>
     ensures ok { OnOk result (out.new.items ≡ out.old.items ++ (decimal table ++ codes ": ")) }
     ensures kept { Extends out.old.items out.new.items }
 {
-    push_words(out, &[Word::Number(u64::from(table))])?;
-    out.extend_from_slice(b": ")
+    u64::from(table).push_text(out)?;
+    out.push(b':')?;
+    out.push(b' ')?;
+    Ok(())
 }
 
 /// Writes a line of a table.
