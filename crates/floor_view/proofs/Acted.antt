@@ -220,15 +220,6 @@ written-told who state after table event turn told old new at written =
     (text-made who state after table event told.hand (with_act (act_made event told.hand) told.hand) at told.was
     told.now)
 
--- What was written of an act in the hand that is played is what was to be written of it.
-pub written-turn : (who : Viewer) (table number : ℕ) (before hand : HandTerms) (act : ActOf) (old new : List ℕ)
-    → number ≡ table → hand ≡ with_act act before
-    → new ≡ old ++ table_text number (act_lines (seen_hand who before) act (seen_hand who hand))
-    → new ≡ old ++ table_text table (act_lines (seen_hand who before) act (seen_hand who (with_act act before)))
-written-turn who table number before hand act old new here is written =
-    written
-    ∙ (λ i. old ++ table_text (here i) (act_lines (seen_hand who before) act (seen_hand who (is i))))
-
 -- What a call that went well gave holds what is so of what it gives.
 pub given-so : {A E : Type 0} (P : A → Type 0) (result : Result A E) (value : A) → result_ok result ≡ Some value
     → IfOk result P → P value

@@ -59,11 +59,6 @@ pub start-missed : (state : State) (table : ℕ) (found : Option HandStart) → 
 start-missed state table found valid is none =
     λ taken. absurd (some-settled state table (events.Settle table) found valid refl taken is none)
 
--- What was found is found of the event itself.
-pub found-of : (state : State) (event given : Event) (before : Before) → given ≡ event → IsFound state event before
-    → IsFound state given before
-found-of state event given before is found = subst (λ (event : Event). IsFound state event before) (sym is) found
-
 -- It is an act or a called time where that was found.
 pub found-turn : (state : State) (event : Event) (before : Before) (table : ℕ) (turn : Turn)
     → IsFound state event before → before ≡ befores.Turn table turn → IsTurnAt state event table turn

@@ -30,16 +30,6 @@ has-book None book found = absurd cc
 has-book (Some play) book found =
     record { now = play; is = refl; book_is = sym (same_Some book play.book found) }
 
--- Where there is no book, no hand is played.
-pub none-planned : (state : State) (table : ℕ) → None ≡ option_map (λ play. play.book) state.play
-    → hand_in state table ≡ None
-none-planned state table none = by_play state.play none
-  where
-    by_play : (play : Option PlayState) → None ≡ option_map (λ play. play.book) play
-        → option_and_then (λ play. hand_at play table) play ≡ None
-    by_play None none = refl
-    by_play (Some play) none = absurd cc
-
 -- No hand is played at a table above the last.
 pub none-played : (state : State) (book : BookState) (table : ℕ)
     → Some book ≡ option_map (λ play. play.book) state.play → IsValid book → book.seating.table_count < table

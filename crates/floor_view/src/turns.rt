@@ -4,7 +4,7 @@ ghost use Rattle.std.specs.Prelude.{◌≡◌, ◌≤◌, ◌++◌, Some, None, 
 ghost use Rattle.std.specs.Option.{ForSome};
 ghost use Rattle.line_words.specs.Words.{Extends};
 ghost use Rattle.table_engine.specs.declared.record.ActOf.{ActOf};
-ghost use Rattle.table_engine.specs.Acts.{refusal_of_act, refusal_of_time, time_act};
+ghost use Rattle.table_engine.specs.Acts.{done_of_act, refusal_of_act, refusal_of_time, time_act};
 ghost use Rattle.table_engine.specs.Hands.{HandTerms, streets_of};
 ghost use Rattle.view_rules.specs.Shown.{Viewer};
 ghost use Rattle.view_rules.specs.Seen.{hand_in, seen_hand};
@@ -32,12 +32,27 @@ pub(crate) struct Turn {
     pub left: u8,
 }
 
+/// Tells what an act comes to in a hand, where nothing refuses it there. Only of a call and of all-in is it looked up in
+/// the hand: each other act says it.
+#[tactic(auto, unfolding(table_engine::specs::Acts::done_of_act))]
+fn done_in_hand(hand: &Hand, name: Name, act: Act) -> Option<Done>
+    ensures { refusal_of_act hand.now name act ≡ None → result ≡ Some (done_of_act hand.now name act) }
+{
+    match act {
+        Act::Fold => Some(Done::Folded),
+        Act::Check => Some(Done::Checked),
+        Act::Bet(level) => Some(Done::BetTo(level)),
+        Act::Raise(level) => Some(Done::RaisedTo(level)),
+        Act::Call | Act::AllIn => hand.check(name, act).ok(),
+    }
+}
+
 /// Finds what an act comes to in a hand, where nothing refuses it there.
 fn turn_in_hand(hand: &Hand, name: Name, act: Act) -> Option<Turn>
     ensures { refusal_of_act hand.now name act ≡ None
         → IsTurnOf hand.now (record { name = name; act = act; by_time = false }) result }
 {
-    let done = hand.check(name, act).ok()?;
+    let done = done_in_hand(hand, name, act)?;
     Some(Turn {
         name,
         done,
