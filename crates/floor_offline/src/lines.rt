@@ -21,22 +21,6 @@ use std::alloc::{AllocError, Global};
 /// The most bytes that an input may have.
 pub const INPUT_LIMIT: u64 = 268_435_456;
 
-/// Puts a text, by one put. Where it may wait, `out` may hold it back.
-fn put_text<O: Sink>(text: &[u8], may_wait: bool, out: &mut O) -> Result<(), Fault>
-    ensures bytes { IfSome (O.written out.old) (λ before. Puts before text.now (O.written out.new) result) }
-    ensures let_go { may_wait ≡ false → OnOk result (O.held out.new ≡ []) }
-    ensures later { O.faults out.old ≤ O.faults out.new }
-    ensures write { OnErr result (Rose (O.faults out.old) (O.faults out.new)) }
-    ensures others { IfErr result (λ fault. fault ≡ Fault.Write) }
-{
-    if may_wait {
-        out.put_later(text)?;
-    } else {
-        out.put(text)?;
-    }
-    Ok(())
-}
-
 /// Puts what is told at the end, by one put. Nothing is held back behind it.
 fn tell_end<T: LineTeller, O: Sink>(
     teller: &mut T,
@@ -52,7 +36,7 @@ fn tell_end<T: LineTeller, O: Sink>(
     ensures others { IfErr result IsOfWriting }
 {
     teller.end(tournament)?;
-    put_text(teller.text(), false, out)
+    teller.put(false, out)
 }
 
 /// Hands out the next line of the input, which had not come to its end.
@@ -139,7 +123,7 @@ fn tell_next<T: LineTeller, I: Source, O: Sink>(
 {
     teller.take(alloc, tournament, line, reader.line())?;
     let at_hand = reader.next_held();
-    put_text(teller.text(), at_hand.is_some(), out)?;
+    teller.put(at_hand.is_some(), out)?;
     match at_hand {
         Some(next) => Ok(next),
         None if reader.ended() => Ok(Next::End),

@@ -14,7 +14,7 @@ ghost use Rattle.floor_offline.specs.Told.{answers_told};
 
 use crate::fault::Fault;
 use crate::lines::tell_lines;
-use crate::teller::LineTeller;
+use crate::teller::{LineTeller, put_text};
 use floor_core::Tournament;
 use floor_events::{Answer, Item, read_item, write_answer, write_report};
 use floor_text::{Next, Refusal, Sink, Source};
@@ -135,8 +135,12 @@ impl LineTeller for AnswerTeller {
         write_report(&tournament.report()?, &mut self.text)
     }
 
-    fn text(&self) -> &[u8] {
-        if self.accepted { b"ok\n" } else { &self.text }
+    fn put<O: Sink>(&self, may_wait: bool, out: &mut O) -> Result<(), Fault> {
+        if self.accepted {
+            put_text(b"ok\n", may_wait, out)
+        } else {
+            put_text(&self.text, may_wait, out)
+        }
     }
 }
 

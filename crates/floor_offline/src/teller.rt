@@ -1,13 +1,15 @@
 //! What a command tells of the lines of its input.
 
-ghost use Rattle.std.specs.Prelude.{◌≡◌, ◌<◌, ◌^◌, ℕ, List, OnOk};
+ghost use Rattle.std.specs.Prelude.{◌≡◌, ◌≤◌, ◌<◌, ◌^◌, ℕ, List, [], false, IfSome, OnOk, OnErr, IfErr};
+ghost use Rattle.floor_text.specs.Outside.{Rose, Puts};
 ghost use Rattle.tournament_rules.specs.Replay.{state_after_item};
 ghost use Rattle.tournament_rules.specs.Valid.{IsValidState};
 ghost use Rattle.floor_offline.specs.Handed.{item_of_next};
 ghost use Rattle.floor_offline.specs.Told.{Telling};
 
+use crate::fault::Fault;
 use floor_core::Tournament;
-use floor_text::Next;
+use floor_text::{Next, Sink};
 use std::alloc::{AllocError, Global};
 
 /// Takes the lines of an input into a tournament, and has a text due for each of them and for their end.
@@ -37,7 +39,28 @@ pub trait LineTeller {
     fn end(&mut self, tournament: &Tournament) -> Result<(), AllocError>
         ensures { OnOk result (due self.new ≡ (telling self.old).at_end tournament.now) };
 
-    /// Gives the text that is due.
-    fn text(&self) -> &[u8]
-        ensures { result.now ≡ due self.now };
+    /// Puts the text that is due, by one put. Where it may wait, `out` may hold it back.
+    fn put<O: Sink>(&self, may_wait: bool, out: &mut O) -> Result<(), Fault>
+        ensures bytes { IfSome (O.written out.old) (λ before. Puts before (due self.now) (O.written out.new) result) }
+        ensures let_go { may_wait ≡ false → OnOk result (O.held out.new ≡ []) }
+        ensures later { O.faults out.old ≤ O.faults out.new }
+        ensures write { OnErr result (Rose (O.faults out.old) (O.faults out.new)) }
+        ensures others { IfErr result (λ fault. fault ≡ Fault.Write) };
+}
+
+/// Puts a text, by one put. Where it may wait, `out` may hold it back.
+#[inline(always)]
+pub(crate) fn put_text<O: Sink>(text: &[u8], may_wait: bool, out: &mut O) -> Result<(), Fault>
+    ensures bytes { IfSome (O.written out.old) (λ before. Puts before text.now (O.written out.new) result) }
+    ensures let_go { may_wait ≡ false → OnOk result (O.held out.new ≡ []) }
+    ensures later { O.faults out.old ≤ O.faults out.new }
+    ensures write { OnErr result (Rose (O.faults out.old) (O.faults out.new)) }
+    ensures others { IfErr result (λ fault. fault ≡ Fault.Write) }
+{
+    if may_wait {
+        out.put_later(text)?;
+    } else {
+        out.put(text)?;
+    }
+    Ok(())
 }

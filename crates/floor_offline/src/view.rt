@@ -14,7 +14,7 @@ ghost use Rattle.floor_offline.specs.Told.{item_seen, lines_seen};
 
 use crate::fault::Fault;
 use crate::lines::tell_lines;
-use crate::teller::LineTeller;
+use crate::teller::{LineTeller, put_text};
 use floor_core::Tournament;
 use floor_events::{Item, read_item};
 use floor_text::{Name, Next, Sink, Source};
@@ -73,8 +73,8 @@ impl LineTeller for PlayerTeller {
         Ok(())
     }
 
-    fn text(&self) -> &[u8] {
-        &self.text
+    fn put<O: Sink>(&self, may_wait: bool, out: &mut O) -> Result<(), Fault> {
+        put_text(&self.text, may_wait, out)
     }
 }
 

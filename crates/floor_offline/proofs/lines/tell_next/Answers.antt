@@ -17,59 +17,59 @@ returns-in_err-take-clause-told g c = λ bytes before on.
     (g.I.Source.left c.args.input.now) (g.O.Sink.written c.args.out.now)
     (lines_of_next (Ok c.args.line) c.args.reader.now.line) c.args.reader.now on)
 
-pub returns-in_err-put_text-clause-told : goal.returns-in_err-put_text-clause-told
-returns-in_err-put_text-clause-told g c = λ bytes before on.
+pub returns-in_err-put-clause-told : goal.returns-in_err-put-clause-told
+returns-in_err-put-clause-told g c = λ bytes before on.
     let telling = g.T.LineTeller.telling c.args.teller.now in
-    let due = c.text.ensures ∙ c.in_ok-take.ensures.told
+    let due = c.in_ok-take.ensures.told
     ∙ ap (λ line. telling.of_item c.args.tournament.now (item_of_next c.args.line line)) c.line.ensures in
-    err_so c.from_residual-in_err-put_text.result faults.Write _ _
-    (rw c.in_err-put_text.ensures.others at c.from_residual-in_err-put_text.ensures.1)
+    err_so c.from_residual-in_err-put.result faults.Write _ _
+    (rw c.in_err-put.ensures.others at c.from_residual-in_err-put.ensures.1)
     (fail_line telling bytes before c.args.tournament.now (g.I.Source.left c.args.input.now)
-    (g.O.Sink.written c.args.out.now) (g.O.Sink.written c.put_text.new.out) c.args.line c.args.reader.now.line
-    c.args.reader.now c.requires.some on (rw due at c.in_err-put_text.ensures.bytes))
+    (g.O.Sink.written c.args.out.now) (g.O.Sink.written c.put.new.out) c.args.line c.args.reader.now.line
+    c.args.reader.now c.requires.some on (rw due at c.in_err-put.ensures.bytes))
 
 pub returns-in-Some-clause-told : goal.returns-in-Some-clause-told
 returns-in-Some-clause-told g c = λ bytes before on.
     let telling = g.T.LineTeller.telling c.args.teller.now in
-    let due = c.text.ensures ∙ c.in_ok-take.ensures.told
+    let due = c.in_ok-take.ensures.told
     ∙ ap (λ line. telling.of_item c.args.tournament.now (item_of_next c.args.line line)) c.line.ensures in
     let state = c.in_ok-take.ensures.state
     ∙ ap (λ line. state_after_item c.args.tournament.now (item_of_next c.args.line line)) c.line.ensures in
     let held = rw c.in-Some.is at c.next_held-at_hand.ensures.held in
     hold_line telling bytes before c.take.new.tournament (g.I.Source.left c.args.input.now)
-    (g.O.Sink.written c.put_text.new.out) _ c.args.reader.now c.next_held-at_hand.new.self
+    (g.O.Sink.written c.put.new.out) _ c.args.reader.now c.next_held-at_hand.new.self
     c.next_held-at_hand.ensures.taken (rw c.in-Some.is at c.next_held-at_hand.ensures.ended)
     (holds_a_line c.args.reader.now c.args.reader.now.ended refl on.none_held (sym held))
     (rw c.in-Some.is at c.next_held-at_hand.ensures.reads)
     (tell_line telling bytes before c.args.tournament.now c.take.new.tournament (g.I.Source.left c.args.input.now)
-    (g.O.Sink.written c.args.out.now) (g.O.Sink.written c.put_text.new.out) c.args.line c.args.reader.now.line
-    c.args.reader.now c.requires.some on state (rw due at c.in_ok-put_text.ensures.bytes))
+    (g.O.Sink.written c.args.out.now) (g.O.Sink.written c.put.new.out) c.args.line c.args.reader.now.line
+    c.args.reader.now c.requires.some on state (rw due at c.in_ok-put.ensures.bytes))
 
 pub returns-in-None-clause-told : goal.returns-in-None-clause-told
 returns-in-None-clause-told g c = λ bytes before on.
     let telling = g.T.LineTeller.telling c.args.teller.now in
-    let due = c.text.ensures ∙ c.in_ok-take.ensures.told
+    let due = c.in_ok-take.ensures.told
     ∙ ap (λ line. telling.of_item c.args.tournament.now (item_of_next c.args.line line)) c.line.ensures in
     let state = c.in_ok-take.ensures.state
     ∙ ap (λ line. state_after_item c.args.tournament.now (item_of_next c.args.line line)) c.line.ensures in
     let same : c.next_held-at_hand.new.self ≡ c.args.reader.now = rw c.in-None.is at c.next_held-at_hand.ensures.none in
     rw same
     (tell_line telling bytes before c.args.tournament.now c.take.new.tournament (g.I.Source.left c.args.input.now)
-    (g.O.Sink.written c.args.out.now) (g.O.Sink.written c.put_text.new.out) c.args.line c.args.reader.now.line
-    c.args.reader.now c.requires.some on state (rw due at c.in_ok-put_text.ensures.bytes))
+    (g.O.Sink.written c.args.out.now) (g.O.Sink.written c.put.new.out) c.args.line c.args.reader.now.line
+    c.args.reader.now c.requires.some on state (rw due at c.in_ok-put.ensures.bytes))
 
 pub returns-in-None-2-clause-told : goal.returns-in-None-2-clause-told
 returns-in-None-2-clause-told g c = λ bytes before on.
     let telling = g.T.LineTeller.telling c.args.teller.now in
-    let due = c.text.ensures ∙ c.in_ok-take.ensures.told
+    let due = c.in_ok-take.ensures.told
     ∙ ap (λ line. telling.of_item c.args.tournament.now (item_of_next c.args.line line)) c.line.ensures in
     let state = c.in_ok-take.ensures.state
     ∙ ap (λ line. state_after_item c.args.tournament.now (item_of_next c.args.line line)) c.line.ensures in
     let same : c.next_held-at_hand.new.self ≡ c.args.reader.now = rw c.in-None.is at c.next_held-at_hand.ensures.none in
     let told = tell_line telling bytes before c.args.tournament.now c.take.new.tournament
-    (g.I.Source.left c.args.input.now) (g.O.Sink.written c.args.out.now) (g.O.Sink.written c.put_text.new.out)
+    (g.I.Source.left c.args.input.now) (g.O.Sink.written c.args.out.now) (g.O.Sink.written c.put.new.out)
     c.args.line c.args.reader.now.line c.args.reader.now c.requires.some on state
-    (rw due at c.in_ok-put_text.ensures.bytes) in
-    c.next_line.ensures.told telling bytes before c.take.new.tournament (g.O.Sink.written c.put_text.new.out)
+    (rw due at c.in_ok-put.ensures.bytes) in
+    c.next_line.ensures.told telling bytes before c.take.new.tournament (g.O.Sink.written c.put.new.out)
     (subst (λ (reader : Reading). IsTelling telling bytes before c.take.new.tournament
-    (g.I.Source.left c.args.input.now) (g.O.Sink.written c.put_text.new.out) [] reader) (sym same) told)
+    (g.I.Source.left c.args.input.now) (g.O.Sink.written c.put.new.out) [] reader) (sym same) told)
