@@ -13,23 +13,24 @@ view() { "$program" view "$1" < "$2" > "$work/told"; }
 
 # A row of the table: what a player is told of the lines in `hands`, with the name of the input.
 view_row() {
-    local ours= theirs= lines
-    for _ in 1 2 3 4 5; do
-        ours=$(lesser "$(took view "$2" "$work/hands")" $ours)
-        theirs=$(lesser "$(took replay "$work/hands")" $theirs)
+    local ours=() theirs=() lines
+    for _ in {1..9}; do
+        ours+=("$(took view "$2" "$work/hands")")
+        theirs+=("$(took replay "$work/hands")")
     done
     lines=$(wc -l < "$work/hands")
     [ "$lines" = "$(head -n "$lines" "$work/out" | grep -cx ok)" ]
     [ "$(grep -c "^settle " "$work/hands")" = "$(grep -c "^# settle " "$work/told")" ]
     head -n 2000 "$work/hands" | python3 bench/model.py view "$2" > "$work/front"
     cmp -n "$(stat -c %s "$work/front")" "$work/front" "$work/told"
-    python3 - "$1" "$2" "$lines" "$(wc -l < "$work/told")" "$ours" "$theirs" "$(peak "$work/hands" view "$2")" \
+    python3 - "$1" "$2" "$lines" "$(wc -l < "$work/told")" "${ours[*]}" "${theirs[*]}" "$(peak "$work/hands" view "$2")" \
         "$(peak "$work/hands")" <<'ROW'
-import sys
-name, player = sys.argv[1:3]
-lines, told, ours, theirs, *peaks = map(float, sys.argv[3:])
-print(f"| {name} | {player} | {lines:,.0f} | {told:,.0f} | {ours:.2f} s | {theirs:.2f} s | {ours / theirs:.2f} "
-      f"| {', '.join(f'{peak / 1024:.1f} MiB' for peak in peaks)} |")
+import statistics, sys
+name, player, lines, told, ours, theirs, *peaks = sys.argv[1:]
+ours, theirs = ([float(time) for time in times.split()] for times in (ours, theirs))
+ratio = statistics.median(view / replay for view, replay in zip(ours, theirs))
+print(f"| {name} | {player} | {int(lines):,} | {int(told):,} | {min(ours):.2f} s | {min(theirs):.2f} s | {ratio:.2f} "
+      f"| {', '.join(f'{int(peak) / 1024:.1f} MiB' for peak in peaks)} |")
 ROW
 }
 
