@@ -1,0 +1,3 @@
+pub mod CalledTimes
+pub mod OwnEntries
+pub mod Between
