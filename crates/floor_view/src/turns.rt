@@ -32,8 +32,8 @@ pub(crate) struct Turn {
     pub left: u8,
 }
 
-/// Tells what an act comes to in a hand, where nothing refuses it there. Only of a call and of all-in is it looked up in
-/// the hand: each other act says it.
+/// Tells what an act comes to in a hand, where nothing refuses it there. It is looked up in the hand only for a call
+/// and for all-in: each other act says it.
 #[tactic(auto, unfolding(table_engine::specs::Acts::done_of_act))]
 fn done_in_hand(hand: &Hand, name: Name, act: Act) -> Option<Done>
     ensures { refusal_of_act hand.now name act ≡ None → result ≡ Some (done_of_act hand.now name act) }
