@@ -2,9 +2,10 @@
 # How long `view` takes for a million lines of hands, as a ratio to `replay` over the same file in the same run, and how
 # much memory both take at their peak: hands of folds (`folds.py`), told to a player who is dealt in to each of them and
 # to a name that never entered, and to that player hands of all acts (`acts.py`) and with showdowns in each game
-# (`showdowns.py`). The goal is a ratio of at most 2 over hands of folds. Fails where `replay` does not answer each line
-# `ok`, where not each settled hand is told, or where the lines told of the first 2,000 are not those of the model.
-# Builds the program where it is not there yet. Needs python3.
+# (`showdowns.py`). Times are the least of nine turns, and the ratio is the middle one of those of the turns, since a busy
+# machine slows a turn of either. The goal is a ratio of at most 2 over hands of folds. Fails where `replay` does not
+# answer each line `ok`, where not each settled hand is told, or where the lines told of the first 2,000 are not those of
+# the model. Builds the program where it is not there yet. Needs python3.
 set -euo pipefail
 cd "$(dirname "$0")/.."
 . bench/timing.sh
