@@ -1,0 +1,12 @@
+-- What contracts see of a book's dock. This project's own.
+use Rattle.std.specs.Prelude.{ℕ}
+use Rattle.history_lock.specs.Passes.{LockId, lock_id, pass_count}
+use Rattle.book_dock.specs.declared.dock.BookDock.{BookDock}
+
+-- the lock of a dock
+abbrev pub book_id : BookDock → LockId
+book_id dock = lock_id dock.lock
+
+-- how many passes a dock was made with
+abbrev pub book_passes : BookDock → ℕ
+book_passes dock = pass_count dock.lock

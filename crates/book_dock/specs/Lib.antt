@@ -1,0 +1,4 @@
+pub mod Asked
+pub mod Opening
+pub mod Ends
+pub mod Docks
