@@ -88,7 +88,7 @@ abbrev pub is_act_at : ℕ → Event → Bool
 is_act_at table event = option_map_or (λ other. other == table) (act_table event) false
 
 -- The law of the whole, where a journal and the histories match: it is a legal list, it holds every act of every table
--- once and in order, and it ends in the report of the journal. It is stated here, and not proved.
+-- once and in order, and it ends in the report of the journal. It is proved in whole_laws.
 pub record IsWhole (journal : List JournalEntry) (histories : ℕ → List TableEntry) : Type 0 where
   pub legal : is_legal_list (whole journal histories) ≡ true
   pub acts : (table : ℕ) → filter (is_act_at table) (whole journal histories)
