@@ -17,3 +17,10 @@ pub mod WholeActs
 pub mod TheWhole
 pub mod Unsettled
 pub mod Between
+pub mod InSlots
+pub mod StartSteps
+pub mod EntrySteps
+pub mod HandsOut
+pub mod NoneOut
+pub mod ChipsOut
+pub mod Stopping
