@@ -1,0 +1,16 @@
+pub mod Hands
+pub mod Splits
+pub mod Owed
+pub mod Others
+pub mod Ties
+pub mod Events
+pub mod Visiting
+pub mod Standing
+pub mod Refusing
+pub mod Turning
+pub mod Alone
+pub mod Played
+pub mod Matching
+pub mod AtStages
+pub mod OwnHands
+pub mod Invariant

@@ -1,0 +1,9 @@
+use Rattle.std.proofs.Common.{[], refl}
+use Rattle.history_lock.specs.Passes.{seen}
+use Rattle.table_worker.proofs.Visiting.{visit-none}
+use Rattle.table_worker.proofs.worker.Worker.give_up.Goals as goal
+
+pub returns-in-NoMemory-clause-dock : goal.returns-in-NoMemory-clause-dock
+returns-in-NoMemory-clause-dock g c =
+    let dock = c.args.self.dock in
+    record { at = seen dock; added = []; visit = visit-none dock; is = refl }
