@@ -20,6 +20,8 @@ mod returning;
 mod stage;
 #[cfg(test)]
 mod tests;
+#[cfg(test)]
+mod threads_tests;
 mod turn;
 mod waiting;
 mod watch;
