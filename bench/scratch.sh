@@ -13,7 +13,7 @@ scratch() {
         mkdir -p "$work/crates/$crate"
         cp -r "crates/$crate"/{src,specs,proofs} "$work/crates/$crate/"
         if [ -d "crates/$crate/out" ]; then cp -a "crates/$crate/out" "$work/crates/$crate/"; fi
-        grep "^$crate:" crates.txt >> "$work/crates.txt"
+        grep "^$crate[ :]" crates.txt >> "$work/crates.txt"
     done
     mkdir -p "$work/crates/$name/src"
     cp "bench/$name.txt" "$work/crates/$name/src/main.rt"
