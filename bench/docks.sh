@@ -2,7 +2,7 @@
 # How the docks do under threads, as LLVM builds them: hands a second at 1, 4 and 64 tables, whose players act at once from
 # as many threads as there are processors, beside `replay` of the same events by one thread in the same run; the processor
 # time of 64 workers whose hands lie while nobody acts, over ten seconds; and the time from the last act of a hand to its
-# settle in the journal, at one table and while all others of 64 play. Needs python3.
+# settle in the journal, at one table, and at one of 64 while the tables of the other threads play. Needs python3.
 # Usage: bench/docks.sh [HANDS [PLAYERS]].
 set -euo pipefail
 cd "$(dirname "$0")/.."
