@@ -134,7 +134,7 @@ impl<W: Write + Drop> Sink for BufferedSink<W> {
 }
 
 /// Counts a fault where the call failed, and hands on what it answered.
-fn count_fault<T>(faults: &mut u64, answer: Result<T, Failed>) -> Result<T, Failed>
+pub fn count_fault<T>(faults: &mut u64, answer: Result<T, Failed>) -> Result<T, Failed>
     ensures same { result ≡ answer }
     ensures cause { HasCause faults.old faults.new result }
 {
@@ -144,7 +144,9 @@ fn count_fault<T>(faults: &mut u64, answer: Result<T, Failed>) -> Result<T, Fail
     answer
 }
 
-fn write_whole<W: Write>(writer: &mut W, bytes: &[u8]) -> Result<(), Failed>
+/// Hands all the bytes to the writer. A write is made again where it was interrupted; one that takes none of the bytes
+/// is a fault, as any other error is.
+pub fn write_whole<W: Write>(writer: &mut W, bytes: &[u8]) -> Result<(), Failed>
     ensures { IfSome (W.contents writer.old) (λ before. Puts before bytes.now (W.contents writer.new) result) }
 {
     let mut rest = bytes;

@@ -4,10 +4,12 @@
 //! `Name` and `read_number` read exactly what the grammar has; `LineCutter` and `LineReader` cut a stream
 //! into the same lines; `Source` and `Sink` say what the outside tells of its bytes and that a failure has
 //! its cause there. `MemSource` and `MemSink` are the outside in memory, `ReaderSource`, `WriterSink` and
-//! `BufferedSink` the standard library's readers and writers.
+//! `BufferedSink` the standard library's readers and writers; `Calls`, `count_fault` and `write_whole` are what other
+//! forms of the outside are made with.
 #![tactic(auto)]
 
 mod adapters;
+mod calls;
 mod held_bytes;
 mod limits;
 mod line_cutter;
@@ -21,7 +23,8 @@ mod refusal;
 #[cfg(test)]
 mod tests;
 
-pub use adapters::{BufferedSink, ReaderSource, WriterSink};
+pub use adapters::{BufferedSink, ReaderSource, WriterSink, count_fault, write_whole};
+pub use calls::Calls;
 pub use limits::{GREATEST_NUMBER, LONGEST_LINE, LONGEST_NAME};
 pub use line_cutter::{Cut, LineCutter};
 pub use line_reader::{LineReader, Next, ReadEnd};

@@ -4,45 +4,10 @@ ghost use Rattle.std.specs.Prelude.{◌≡◌, ◌≤◌, ◌<◌, ◌+◌, ◌�
 ghost use Rattle.floor_text.specs.Memory.{count_up, next_fails};
 ghost use Rattle.floor_text.specs.Outside.{HasCause, Takes, Puts};
 
+use crate::calls::Calls;
 use crate::outside::{Failed, Sink, Source};
 use std::alloc::{AllocError, Global};
 use std::marker::Model;
-
-/// Calls, of which some fail.
-#[derive(Debug, Drop)]
-struct Calls {
-    failing: Vec<u64>,
-    made: u64,
-    faults: u64,
-}
-
-impl Calls {
-    fn new(failing: Vec<u64>) -> Calls
-        ensures { result ≡ record { failing = failing; made = 0; faults = 0 } }
-    {
-        Calls {
-            failing,
-            made: 0,
-            faults: 0,
-        }
-    }
-
-    /// Counts a call, and answers whether it fails.
-    fn next_fails(&mut self) -> bool
-        ensures fails { result ≡ next_fails self.old.failing.items self.old.made }
-        ensures counted { self.new ≡ record self.old { made = count_up self.old.made } }
-    {
-        self.made = self.made.saturating_add(1);
-        let number = self.made;
-        self.failing.contains(&number)
-    }
-
-    fn count_fault(&mut self)
-        ensures { self.new ≡ record self.old { faults = count_up self.old.faults } }
-    {
-        self.faults = self.faults.saturating_add(1);
-    }
-}
 
 /// A source over bytes in memory. Contracts see it as the bytes that it has left, the numbers of its
 /// calls that fail, and how many calls were made and failed.
