@@ -45,20 +45,20 @@ shares_apart k i (suc m) seen lt = ((λ e. omega arith), shares_apart k (i + 1) 
 abbrev pub giving : {E : Type 0} → ℕ → ℕ → List E → View E
 giving k m seen = view_of (shares_from k m seen)
 
-module _ {Val E : Type 0} (history : Val → List E) (caller_of : E → ℕ) (n : ℕ) where
+module _ {Val E : Type 0} (history : Val → List E) (caller_of : E → ℕ) (n : ℕ) (start : List E) where
   -- the first of the shares that are left is given
   pub gives_first : (id k m : ℕ) (seen : List E) (v : View E) → v ≡ giving k (suc m) seen
-      → Splits (IsKept history caller_of n) id v (record v { shares = further_shares v.shares })
+      → Splits (IsKept history caller_of n start) id v (record v { shares = further_shares v.shares })
       (view_of (only_first v.shares))
   gives_first id k m seen v is =
-      subst (λ (z : View E). Splits (IsKept history caller_of n) id z (record z { shares = further_shares z.shares })
+      subst (λ (z : View E). Splits (IsKept history caller_of n start) id z (record z { shares = further_shares z.shares })
       (view_of (only_first z.shares))) (sym is)
-      (splits history caller_of n id (giving k (suc m) seen) (record { number = k; seen = seen; own = [] })
+      (splits history caller_of n start id (giving k (suc m) seen) (record { number = k; seen = seen; own = [] })
       (shares_from (k + 1) m seen) refl (shares_apart k (k + 1) m seen (omega arith)) refl refl)
 
   -- where more than one is left
   pub gives : (id k m lim : ℕ) (seen : List E) (v : View E) → v ≡ giving k m seen → k + m ≡ lim → k < lim - 1
-      → Splits (IsKept history caller_of n) id v (record v { shares = further_shares v.shares })
+      → Splits (IsKept history caller_of n start) id v (record v { shares = further_shares v.shares })
       (view_of (only_first v.shares))
   gives id k zero lim seen v is sum lt = absurd (omega arith)
   gives id k (suc m) lim seen v is sum lt = gives_first id k m seen v is

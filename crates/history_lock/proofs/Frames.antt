@@ -7,7 +7,6 @@ use native.Mathlib.Decide.{ℕ_discrete}
 use Rattle.atomic_table.proofs.Lists.{set_here, set_else}
 use Rattle.history_lock.specs.declared.view.Share.{Share}
 use Rattle.history_lock.specs.declared.view.View.{View}
-use Rattle.history_lock.specs.Limits.{opener}
 use Rattle.history_lock.specs.Entries.{entries_by}
 use Rattle.history_lock.specs.Views.{Each, AtLeastOne, HasView, first_share, waiting, share_count}
 use Rattle.history_lock.specs.Rule.{TicketsAreInRange, NowIsLongest, IsKeptShare, NumbersAreKept, OneIsServed, IsSpent, SpentAreIdle}
@@ -134,9 +133,8 @@ module _ {E : Type 0} where
       → HasView views id v → v.shares ≡ x ∷ [] → w.shares ≡ y ∷ [] → y.number ≡ x.number
       → y.own ≡ entries_by caller_of x.number now'
       → ((k : ℕ) → x.number ≢ k → entries_by caller_of k now' ≡ entries_by caller_of k now)
-      → Each (λ (e : E). (caller_of e < n) ⊎ (caller_of e ≡ opener)) now'
       → NumbersAreKept caller_of n now keeper views → NumbersAreKept caller_of n now' keeper (set views id w)
-  numbers_stay caller_of n now now' keeper views id v w x y at has has' number own rest all r =
+  numbers_stay caller_of n now now' keeper views id v w x y at has has' number own rest r =
       let P : ℕ → Share E → Type 0 = IsKeptShare caller_of n now keeper in
       let Q : ℕ → Share E → Type 0 = IsKeptShare caller_of n now' keeper in
       let mine : P id x = (subst (Each (P id)) has (r.own id v at)).0 in record {
@@ -166,5 +164,4 @@ module _ {E : Type 0} where
             (λ z p. (p.0, p.1, p.2 ∙ sym (rest z.number (λ e. ne (sym p.1 ∙ (ap keeper (sym e) ∙ mine.1))))))
             (r.own j a h));
         once = omega (arith, share_count-set views id v w at, ap length has, ap length has', r.once);
-        others = all;
       }

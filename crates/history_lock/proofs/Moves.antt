@@ -1,5 +1,5 @@
 -- Each step of a pass keeps the rule.
-use Rattle.std.proofs.Common.{◌≡◌, ◌≢◌, ◌⊎◌, ◌==◌, ℕ, ◌+◌, ◌%◌, ◌^◌, ◌<◌, ◌≤◌, Bool, true, false, List, [], ◌∷◌, ◌++◌, length, drop, set, get_or, refl, sym, ap, ◌∙◌, subst, inl, inr, arith, Option, Some, None, MatchBool}
+use Rattle.std.proofs.Common.{◌≡◌, ◌≢◌, ◌==◌, ℕ, ◌+◌, ◌%◌, ◌^◌, ◌<◌, ◌≤◌, Bool, true, false, List, [], ◌∷◌, ◌++◌, length, drop, set, get_or, refl, sym, ap, ◌∙◌, subst, inl, inr, arith, Option, Some, None, MatchBool}
 use Rattle.std.proofs.lemmas.Bool.{false_from_ne_true}
 use Rattle.std.proofs.lemmas.Bool.Decides.{nat_tests}
 use mathlib.Core.Logic.{dite}
@@ -12,17 +12,16 @@ use Rattle.atomic_table.specs.Table.{State, Me, step, keeps, takes, gives, Allow
 use Rattle.atomic_table.proofs.Lists.{set_here, set_again}
 use Rattle.history_lock.specs.declared.view.Share.{Share}
 use Rattle.history_lock.specs.declared.view.View.{View}
-use Rattle.history_lock.specs.Limits.{opener}
-use Rattle.history_lock.specs.Entries.{entries_by}
+use Rattle.history_lock.specs.Entries.{entries_by, IsGrownByPasses}
 use Rattle.history_lock.specs.Views.{Each, HasView, first_share}
 use Rattle.history_lock.specs.Rule.{IsKept, IsKeptShare, SlotIsRight, OneIsServed}
 use Rattle.history_lock.specs.Steps.{drew, looked, IsFound, served_view, share_left, published, passed_on, counted}
-use Rattle.history_lock.proofs.Lists.{within, each_set, each_append, each_map}
-use Rattle.history_lock.proofs.Prefixes.{prefix_self, prefix_length, drop_append, entries_by_grown, entries_by_kept}
+use Rattle.history_lock.proofs.Lists.{within, each_set}
+use Rattle.history_lock.proofs.Prefixes.{prefix_self, prefix_length, drop_append, entries_by_grown, entries_by_kept, passes_grow}
 use Rattle.history_lock.proofs.Frames.{same_view, tickets_stay, served_stays, spent_stays, seen_grows, numbers_stay}
 use Rattle.history_lock.proofs.Tickets.{waiting_lt, tickets_drawn, tickets_spent, slot_stays}
 
-module _ {Val E : Type 0} (history : Val → List E) (caller_of : E → ℕ) (n : ℕ) where
+module _ {Val E : Type 0} (history : Val → List E) (caller_of : E → ℕ) (n : ℕ) (start : List E) where
   abbrev St : Type 0
   St = State (Option Val) (View E)
 
@@ -30,7 +29,7 @@ module _ {Val E : Type 0} (history : Val → List E) (caller_of : E → ℕ) (n 
   M = Me (Option Val) (View E)
 
   abbrev Rule : St → Type 0
-  Rule = IsKept history caller_of n
+  Rule = IsKept history caller_of n start
 
   -- the share of a pass, as the rule has it
   owned : (s : St) (r : Rule s) (id : ℕ) (v : View E) (x : Share E) → HasView s.views id v → v.shares ≡ x ∷ []
@@ -64,13 +63,14 @@ module _ {Val E : Type 0} (history : Val → List E) (caller_of : E → ℕ) (n 
           calls = r.calls;
           keeper = r.keeper;
           limit = r.limit;
+          grown = r.grown;
           words = ap (λ ws. set ws 0 ((found + 1) % 2 ^ 64)) r.words;
           tickets = tickets_drawn n r.ticket r.serving found s.views id v w at idle refl is r.limit
               (waiting_lt n r.now s.views id v x at has idle r.spent r.numbers.once) r.tickets;
           longest = seen_grows r.now r.now s.views id v w x x at has has (prefix_self r.now) r.longest.fits
               (begins s r id v x at has) (r.longest.known id v at) (inr (refl, refl)) r.longest;
           numbers = numbers_stay caller_of n r.now r.now r.keeper s.views id v w x x at has has refl mine.2
-              (λ k ne. refl) r.numbers.others r.numbers;
+              (λ k ne. refl) r.numbers;
           served = record {
             ticket = each_set (λ (j : ℕ) (a : View E). a.served ≡ true → a.ticket ≡ Some r.serving) s.views id w
                 (λ is'. absurd (cc (is', out))) (λ j a ne h. r.served.ticket j a h);
@@ -139,13 +139,14 @@ module _ {Val E : Type 0} (history : Val → List E) (caller_of : E → ℕ) (n 
           calls = r.calls;
           keeper = r.keeper;
           limit = r.limit;
+          grown = r.grown;
           words = set-get_or s.words 1 0 ∙ r.words;
           tickets = tickets_stay n r.ticket r.serving s.views id v w at refl r.tickets;
           longest = seen_grows r.now r.now s.views id v w x y at has refl (prefix_self r.now) r.longest.fits
               (subst (λ l. IsPrefix l r.now) (sym home.2) (prefix_self r.now)) (r.longest.known id v at)
               (inl home.2) r.longest;
           numbers = numbers_stay caller_of n r.now r.now r.keeper s.views id v w x y at has refl refl mine.2
-              (λ k ne. refl) r.numbers.others r.numbers;
+              (λ k ne. refl) r.numbers;
           served = record {
             ticket = each_set (λ (j : ℕ) (a : View E). a.served ≡ true → a.ticket ≡ Some r.serving) s.views id w
                 (λ _. here) (λ j a ne h. r.served.ticket j a h);
@@ -208,9 +209,8 @@ module _ {Val E : Type 0} (history : Val → List E) (caller_of : E → ℕ) (n 
       ∙ (sym (entries_by_grown caller_of x.number r.now added theirs)
       ∙ ap (entries_by caller_of x.number) (sym whole))) in
       let known : v.known ≤ length left = omega (arith, r.longest.known id v at, prefix_length r.now left longer) in
-      let Fits : E → Type 0 = λ e. (caller_of e < n) ⊎ (caller_of e ≡ opener) in
-      let all : Each Fits left = subst (Each Fits) (sym whole) (each_append Fits r.now added r.numbers.others
-      (each_map (λ e. caller_of e ≡ x.number) Fits added (λ e h. inl (subst (λ k. k < n) (sym h) mine.0)) theirs)) in (
+      let later : IsGrownByPasses caller_of n start left = subst (IsGrownByPasses caller_of n start) (sym whole)
+      (passes_grow caller_of n x.number start r.now added mine.0 r.grown theirs) in (
         w,
         keeps,
         tt,
@@ -221,13 +221,14 @@ module _ {Val E : Type 0} (history : Val → List E) (caller_of : E → ℕ) (n 
           calls = r.calls;
           keeper = r.keeper;
           limit = r.limit;
+          grown = later;
           words = ap (λ ws. set ws 2 count) r.words ∙ ap (λ k. r.ticket ∷ r.serving ∷ k ∷ r.calls ∷ []) is;
           tickets = tickets_stay n r.ticket r.serving s.views id v w at refl r.tickets;
           longest = seen_grows r.now left s.views id v w x y at has refl longer (omega arith) (prefix_self left) known
               (inl refl) r.longest;
           numbers = numbers_stay caller_of n r.now left r.keeper s.views id v w x y at has refl refl own
               (λ k ne. ap (entries_by caller_of k) whole ∙ entries_by_kept caller_of x.number k r.now added ne theirs)
-              all r.numbers;
+              r.numbers;
           served = served_stays r.serving s.views id v w at refl refl r.served;
           slot = record {
             home = λ nobody. absurd (cc (nobody id w (set_here s.views id w (within s.views id v at)), inside));
@@ -270,6 +271,7 @@ module _ {Val E : Type 0} (history : Val → List E) (caller_of : E → ℕ) (n 
           calls = r.calls;
           keeper = r.keeper;
           limit = r.limit;
+          grown = r.grown;
           words = ap (λ ws. set ws 1 ((found + 1) % 2 ^ 64)) r.words;
           tickets = let t = tickets_spent n r.ticket r.serving s.views id v w at (r.served.ticket id v at inside) refl
               (omega arith) r.tickets in
@@ -278,7 +280,7 @@ module _ {Val E : Type 0} (history : Val → List E) (caller_of : E → ℕ) (n 
           longest = seen_grows r.now r.now s.views id v w x x at has has (prefix_self r.now) r.longest.fits
               (begins s r id v x at has) (r.longest.known id v at) (inr (refl, refl)) r.longest;
           numbers = numbers_stay caller_of n r.now r.now r.keeper s.views id v w x x at has has refl mine.2
-              (λ k ne. refl) r.numbers.others r.numbers;
+              (λ k ne. refl) r.numbers;
           served = record {
             ticket = λ j a h is'. absurd (cc (is', quiet j a h));
             one = λ i j a b h k is' also. absurd (cc (is', quiet i a h));
@@ -315,12 +317,13 @@ module _ {Val E : Type 0} (history : Val → List E) (caller_of : E → ℕ) (n 
           calls = r.calls;
           keeper = r.keeper;
           limit = r.limit;
+          grown = r.grown;
           words = set-get_or s.words 2 0 ∙ r.words;
           tickets = tickets_stay n r.ticket r.serving s.views id v w at refl r.tickets;
           longest = seen_grows r.now r.now s.views id v w x x at has has (prefix_self r.now) r.longest.fits begin
               (omega arith) (inr (refl, refl)) r.longest;
           numbers = numbers_stay caller_of n r.now r.now r.keeper s.views id v w x x at has has refl mine.2
-              (λ k ne. refl) r.numbers.others r.numbers;
+              (λ k ne. refl) r.numbers;
           served = served_stays r.serving s.views id v w at refl refl r.served;
           slot = slot_stays history r.now s.homes s.views id v w at out out r.slot;
           spent = spent_stays r.now r.now s.views id w x has r.spent;

@@ -1,13 +1,13 @@
 -- Beginnings of one list, and the entries of one caller in a longer one.
-use Rattle.std.proofs.Common.{◌≡◌, ◌≢◌, ◌==◌, ℕ, ◌≤◌, true, false, List, [], ◌∷◌, ◌++◌, length, drop, refl, sym, ap, ◌∙◌, arith, append_assoc, length-append, All}
+use Rattle.std.proofs.Common.{◌≡◌, ◌≢◌, ◌==◌, ℕ, ◌<◌, ◌≤◌, true, false, List, [], ◌∷◌, ◌++◌, length, drop, refl, sym, ap, ◌∙◌, subst, arith, append_assoc, length-append, All}
 use Rattle.std.proofs.lemmas.List.{append-nil}
-use Rattle.std.proofs.lemmas.List.Elements.{filter-append}
+use Rattle.std.proofs.lemmas.List.Elements.{All-append, All-nil, filter-append}
 use Rattle.std.proofs.lemmas.Bool.Decides.{nat_tests}
 use mathlib.Core.List.{IsPrefix}
-use Rattle.history_lock.specs.Entries.{entries_by, IsGrownBy}
+use Rattle.history_lock.specs.Entries.{entries_by, IsGrownBy, IsGrownByPasses}
 use Rattle.history_lock.specs.Limits.{most_passes, opener}
 use Rattle.history_lock.specs.Views.{Each}
-use Rattle.history_lock.proofs.Lists.{each_of_all}
+use Rattle.history_lock.proofs.Lists.{all_of_each, each_of_all}
 
 module _ {A : Type 0} where
   -- each list begins with itself
@@ -62,6 +62,20 @@ module _ {E : Type 0} (caller_of : E → ℕ) where
       filter-append (λ e. caller_of e == i) log added
       ∙ (ap (λ w. entries_by caller_of i log ++ w) (entries_by_other k i added ne own)
       ∙ append-nil (entries_by caller_of i log))
+
+  -- a history has grown by callers below n alone before any entry is added
+  pub not_grown : (n : ℕ) (log : List E) → IsGrownByPasses caller_of n log log
+  not_grown n log = ([], sym (append-nil log), All-nil (λ e. caller_of e < n))
+
+  -- and where a caller below n adds to one that has
+  pub passes_grow : (n k : ℕ) (before log added : List E) → k < n → IsGrownByPasses caller_of n before log
+      → Each (λ e. caller_of e ≡ k) added → IsGrownByPasses caller_of n before (log ++ added)
+  passes_grow n k before log added below grown own = (
+    grown.0 ++ added,
+    ap (λ w. w ++ added) grown.1 ∙ append_assoc before grown.0 added,
+    All-append (λ e. caller_of e < n) grown.0 added grown.2
+        (λ j e at. subst (λ i. i < n) (sym (all_of_each (λ e. caller_of e ≡ k) added own j e at)) below),
+  )
 
   -- where a history has of caller k just these entries, a longer one to which only k added has those that were added
   -- too

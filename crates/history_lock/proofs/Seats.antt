@@ -1,5 +1,5 @@
 -- How passes are made, split off, taken in and counted keeps the rule.
-use Rattle.std.proofs.Common.{◌≡◌, ◌≢◌, ◌⊎◌, ℕ, zero, suc, ◌+◌, ◌%◌, ◌^◌, ◌<◌, ◌≤◌, false, List, [], ◌∷◌, ◌++◌, length, set, get_or, refl, sym, ap, ◌∙◌, subst, inl, inr, ⊎_elim, arith, Option, Some, None, length-append}
+use Rattle.std.proofs.Common.{◌≡◌, ◌≢◌, ℕ, zero, suc, ◌+◌, ◌%◌, ◌^◌, ◌<◌, ◌≤◌, false, List, [], ◌∷◌, ◌++◌, length, set, get_or, refl, sym, ap, ◌∙◌, subst, inl, inr, ⊎_elim, arith, Option, Some, None, length-append}
 use Rattle.std.proofs.lemmas.List.Sums.{sum_by_push, sum_by-cons}
 use mathlib.Core.Logic.{dite}
 use mathlib.Core.Option.{none, some-injective, some-ne-none}
@@ -15,7 +15,7 @@ use Rattle.history_lock.specs.Views.{Each, AtLeastOne, HasView, share_count, vie
 use Rattle.history_lock.specs.Rule.{IsKept, IsKeptShare, NowIsLongest, NumbersAreKept, IsSpent}
 use Rattle.history_lock.specs.Steps.{arrived}
 use Rattle.history_lock.proofs.Lists.{within, each_set, each_append, each_map, at_push, least_append_left, least_append_right, each_both, put, put_here, put_else, turn, turn_here, turn_else}
-use Rattle.history_lock.proofs.Prefixes.{prefix_self, entries_by_other}
+use Rattle.history_lock.proofs.Prefixes.{prefix_self, entries_by_other, not_grown}
 use Rattle.history_lock.proofs.Frames.{shares_of, same_view, tickets_stay, served_stays, share_count-set, is_spent}
 use Rattle.history_lock.proofs.Tickets.{tickets_push, served_push, spent_push, slot_push, slot_stays}
 
@@ -50,15 +50,14 @@ module _ {E : Type 0} where
             (at_push views spent_view a j h);
         once = sum_by_push shares_of views spent_view
             ∙ (let e : share_count views + 0 ≡ share_count views = omega arith in e ∙ r.once);
-        others = r.others;
       }
 
-module _ {Val E : Type 0} (history : Val → List E) (caller_of : E → ℕ) (n : ℕ) where
+module _ {Val E : Type 0} (history : Val → List E) (caller_of : E → ℕ) (n : ℕ) (start : List E) where
   abbrev St : Type 0
   St = State (Option Val) (View E)
 
   abbrev Rule : St → Type 0
-  Rule = IsKept history caller_of n
+  Rule = IsKept history caller_of n start
 
   -- a new seat may come at any time with a view that has no share, and the rule is kept
   pub arrives : (slots : ℕ) (v : View E)
@@ -72,6 +71,7 @@ module _ {Val E : Type 0} (history : Val → List E) (caller_of : E → ℕ) (n 
       calls = r.calls;
       keeper = r.keeper;
       limit = r.limit;
+      grown = r.grown;
       words = r.words;
       tickets = tickets_push n r.ticket r.serving s.views spent_view refl r.tickets;
       longest = seen_push r.now s.views spent_view tt (omega arith) r.longest;
@@ -100,6 +100,7 @@ module _ {Val E : Type 0} (history : Val → List E) (caller_of : E → ℕ) (n 
               calls = next;
               keeper = r.keeper;
               limit = r.limit;
+              grown = r.grown;
               words = ap (λ ws. set ws 3 next) r.words;
               tickets = r.tickets;
               longest = r.longest;
@@ -143,6 +144,7 @@ module _ {Val E : Type 0} (history : Val → List E) (caller_of : E → ℕ) (n 
         calls = r.calls;
         keeper = keeper';
         limit = r.limit;
+        grown = r.grown;
         words = r.words;
         tickets = tickets_push n r.ticket r.serving kept_views given refl
             (tickets_stay n r.ticket r.serving s.views id v left at refl r.tickets);
@@ -225,7 +227,6 @@ module _ {Val E : Type 0} (history : Val → List E) (caller_of : E → ℕ) (n 
                 has,
             r.numbers.once,
           );
-          others = r.numbers.others;
         };
         served = served_push r.serving kept_views given refl
             (served_stays r.serving s.views id v left at refl refl r.served);
@@ -261,6 +262,7 @@ module _ {Val E : Type 0} (history : Val → List E) (caller_of : E → ℕ) (n 
         calls = r.calls;
         keeper = keeper';
         limit = r.limit;
+        grown = r.grown;
         words = r.words;
         tickets = tickets_stay n r.ticket r.serving views' other w spent_view there idle'
             (tickets_stay n r.ticket r.serving s.views id v both at refl r.tickets);
@@ -340,7 +342,6 @@ module _ {Val E : Type 0} (history : Val → List E) (caller_of : E → ℕ) (n 
             length-append w.shares v.shares,
             r.numbers.once,
           );
-          others = r.numbers.others;
         };
         served = served_stays r.serving views' other w spent_view there idle' out'
             (served_stays r.serving s.views id v both at refl refl r.served);
@@ -354,17 +355,18 @@ module _ {Val E : Type 0} (history : Val → List E) (caller_of : E → ℕ) (n 
       }
 
   -- each share has its number, and all of them are those from k on
-  pub opens : (seen : List E) (count : ℕ) (val : Val) → 0 < n → n ≤ most_passes → history val ≡ seen
-      → count ≡ length seen
-      → count < 2 ^ 64 → Each (λ e. caller_of e ≡ opener) seen
-      → Rule (opening (0 ∷ 0 ∷ count ∷ 0 ∷ []) (Some val ∷ []) (opening_view n seen))
-  opens seen count val some_pass limit is counts fits theirs = record {
-    now = seen;
+  pub opens : (count : ℕ) (val : Val) → 0 < n → n ≤ most_passes → history val ≡ start
+      → count ≡ length start
+      → count < 2 ^ 64 → Each (λ e. caller_of e ≡ opener) start
+      → Rule (opening (0 ∷ 0 ∷ count ∷ 0 ∷ []) (Some val ∷ []) (opening_view n start))
+  opens count val some_pass limit is counts fits theirs = record {
+    now = start;
     ticket = 0;
     serving = 0;
     calls = 0;
     keeper = λ _. 0;
     limit = limit;
+    grown = not_grown caller_of n start;
     words = ap (λ k. 0 ∷ 0 ∷ k ∷ 0 ∷ []) counts;
     tickets = record {
       difference = refl;
@@ -374,18 +376,16 @@ module _ {Val E : Type 0} (history : Val → List E) (caller_of : E → ℕ) (n 
     };
     longest = record {
       fits = omega arith;
-      begin_it = λ j a h. subst (λ (z : View E). Each (λ (x : Share E). IsPrefix x.seen seen) z.shares) (only j a h).3
+      begin_it = λ j a h. subst (λ (z : View E). Each (λ (x : Share E). IsPrefix x.seen start) z.shares) (only j a h).3
           (all_begin n 0);
-      is_seen = (0, opening_view n seen, refl, some_seen n some_pass);
-      known = λ j a h. subst (λ (z : View E). z.known ≤ length seen) (only j a h).3 (omega arith);
+      is_seen = (0, opening_view n start, refl, some_seen n some_pass);
+      known = λ j a h. subst (λ (z : View E). z.known ≤ length start) (only j a h).3 (omega arith);
     };
     numbers = record {
-      kept = λ k l. (opening_view n seen, refl, has_number n 0 k (omega arith) (omega arith));
-      own = λ j a h. subst (λ (t : ℕ × View E). Each (Owned seen (λ _. 0) t.0) t.1.shares)
+      kept = λ k l. (opening_view n start, refl, has_number n 0 k (omega arith) (omega arith));
+      own = λ j a h. subst (λ (t : ℕ × View E). Each (Owned start (λ _. 0) t.0) t.1.shares)
           (λ i. (sym (only j a h).0 i, (only j a h).3 i)) (all_owned n 0 (omega arith));
       once = sum_by_one ∙ length-shares_from n 0;
-      others = each_map (λ e. caller_of e ≡ opener) (λ e. (caller_of e < n) ⊎ (caller_of e ≡ opener)) seen
-          (λ e h. inr h) theirs;
     };
     served = record {
       ticket = λ j a h is'. absurd (cc (is', (only j a h).2));
@@ -395,27 +395,27 @@ module _ {Val E : Type 0} (history : Val → List E) (caller_of : E → ℕ) (n 
       home = λ _. (val, refl, is);
       out = λ j a h is'. absurd (cc (is', (only j a h).2));
     };
-    spent = λ j a h none. is_spent seen a none (only j a h).1;
+    spent = λ j a h none. is_spent start a none (only j a h).1;
   }
     where
       first : View E
-      first = opening_view n seen
+      first = opening_view n start
 
-      only : (j : ℕ) (a : View E) → HasView (opening_view n seen ∷ []) j a
-          → (j ≡ 0) × (a.ticket ≡ None) × (a.served ≡ false) × (opening_view n seen ≡ a)
-      only zero a h = let e : opening_view n seen ≡ a = some-injective (opening_view n seen) a h in
+      only : (j : ℕ) (a : View E) → HasView (opening_view n start ∷ []) j a
+          → (j ≡ 0) × (a.ticket ≡ None) × (a.served ≡ false) × (opening_view n start ≡ a)
+      only zero a h = let e : opening_view n start ≡ a = some-injective (opening_view n start) a h in
           (refl, ap (λ (z : View E). z.ticket) (sym e), ap (λ (z : View E). z.served) (sym e), e)
       only (suc j) a h = absurd (some-ne-none a (sym h))
 
-      all_begin : (m k : ℕ) → Each (λ (x : Share E). IsPrefix x.seen seen) (shares_from k m seen)
+      all_begin : (m k : ℕ) → Each (λ (x : Share E). IsPrefix x.seen start) (shares_from k m start)
       all_begin zero k = tt
-      all_begin (suc m) k = (prefix_self seen, all_begin m (k + 1))
+      all_begin (suc m) k = (prefix_self start, all_begin m (k + 1))
 
-      some_seen : (m : ℕ) → 0 < m → AtLeastOne (λ (x : Share E). x.seen ≡ seen) (shares_from 0 m seen)
+      some_seen : (m : ℕ) → 0 < m → AtLeastOne (λ (x : Share E). x.seen ≡ start) (shares_from 0 m start)
       some_seen zero h = absurd (omega arith)
       some_seen (suc m) h = inl refl
 
-      has_number : (m k i : ℕ) → k ≤ i → i < k + m → AtLeastOne (λ (x : Share E). x.number ≡ i) (shares_from k m seen)
+      has_number : (m k i : ℕ) → k ≤ i → i < k + m → AtLeastOne (λ (x : Share E). x.number ≡ i) (shares_from k m start)
       has_number zero k i ge lt = absurd (omega arith)
       has_number (suc m) k i ge lt =
           dite (ℕ_discrete k i) (λ e. inl e) (λ ne. inr (has_number m (k + 1) i (omega arith) (omega arith)))
@@ -424,14 +424,14 @@ module _ {Val E : Type 0} (history : Val → List E) (caller_of : E → ℕ) (n 
           → [] ≡ entries_by caller_of k log
       no_entry k lt log all = sym (entries_by_other caller_of opener k log (λ e. omega arith) all)
 
-      all_owned : (m k : ℕ) → k + m ≤ n → Each (Owned seen (λ _. 0) 0) (shares_from k m seen)
+      all_owned : (m k : ℕ) → k + m ≤ n → Each (Owned start (λ _. 0) 0) (shares_from k m start)
       all_owned zero k le = tt
       all_owned (suc m) k le =
-          ((omega arith, refl, no_entry k (omega arith) seen theirs), all_owned m (k + 1) (omega arith))
+          ((omega arith, refl, no_entry k (omega arith) start theirs), all_owned m (k + 1) (omega arith))
 
-      length-shares_from : (m k : ℕ) → length (shares_from k m seen) ≡ m
+      length-shares_from : (m k : ℕ) → length (shares_from k m start) ≡ m
       length-shares_from zero k = refl
       length-shares_from (suc m) k = ap suc (length-shares_from m (k + 1))
 
-      sum_by_one : share_count (opening_view n seen ∷ []) ≡ length (shares_from 0 n seen)
-      sum_by_one = omega (arith, sum_by-cons shares_of (opening_view n seen) [])
+      sum_by_one : share_count (opening_view n start ∷ []) ≡ length (shares_from 0 n start)
+      sum_by_one = omega (arith, sum_by-cons shares_of (opening_view n start) [])

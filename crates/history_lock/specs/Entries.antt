@@ -1,5 +1,5 @@
 -- Histories: lists of entries, each with the number of its caller.
-use Rattle.std.specs.Prelude.{◌≡◌, ◌==◌, ℕ, List, [], ◌++◌, All, filter}
+use Rattle.std.specs.Prelude.{◌≡◌, ◌==◌, ℕ, ◌<◌, List, [], ◌++◌, All, filter}
 
 module _ {E : Type 0} (caller_of : E → ℕ) where
   -- The entries of caller k, in order.
@@ -9,6 +9,10 @@ module _ {E : Type 0} (caller_of : E → ℕ) where
   -- The later history is the earlier one with entries of caller k alone added to it.
   abbrev pub IsGrownBy : ℕ → List E → List E → Type 0
   IsGrownBy k before after = (added : List E) × (after ≡ before ++ added) × All (λ e. caller_of e ≡ k) added
+
+  -- The later history is the earlier one with entries of callers below n alone added to it.
+  abbrev pub IsGrownByPasses : ℕ → List E → List E → Type 0
+  IsGrownByPasses n before after = (added : List E) × (after ≡ before ++ added) × All (λ e. caller_of e < n) added
 
   -- The later history is the earlier one, to which callers other than k alone have added.
   abbrev pub IsGrownByOthers : ℕ → List E → List E → Type 0

@@ -21,6 +21,10 @@ module _ {Val E : Type 0} where
   abbrev pub pass_count : HistoryLock Val E → ℕ
   pass_count lock = lock.passes
 
+  -- The value as the lock was made round it.
+  abbrev pub opening_value : HistoryLock Val E → Val
+  opening_value lock = lock.table.shared.key.opening.value
+
 module _ {Val E : Type 0} {g : Ghosts Val E} where
   -- The lock whose pass it is.
   abbrev pub lock_of : Pass Val E g → LockId

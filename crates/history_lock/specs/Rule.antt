@@ -1,12 +1,12 @@
 -- The rule of the lock: what holds of its words, its slot and all views between any two steps.
-use Rattle.std.specs.Prelude.{◌≡◌, ◌⊎◌, ℕ, ◌+◌, ◌%◌, ◌^◌, ◌<◌, ◌≤◌, true, false, List, [], ◌∷◌, length, Option, Some, None}
+use Rattle.std.specs.Prelude.{◌≡◌, ℕ, ◌+◌, ◌%◌, ◌^◌, ◌<◌, ◌≤◌, true, false, List, [], ◌∷◌, length, Option, Some, None}
 use mathlib.Core.Option as maybe
 use mathlib.Core.List.{IsPrefix}
 use Rattle.atomic_table.specs.Table.{State}
 use Rattle.history_lock.specs.declared.view.Share.{Share}
 use Rattle.history_lock.specs.declared.view.View.{View}
-use Rattle.history_lock.specs.Limits.{most_passes, opener}
-use Rattle.history_lock.specs.Entries.{entries_by}
+use Rattle.history_lock.specs.Limits.{most_passes}
+use Rattle.history_lock.specs.Entries.{entries_by, IsGrownByPasses}
 use Rattle.history_lock.specs.Views.{Each, AtLeastOne, HasView, view_own, view_seen, waiting, share_count}
 
 -- The words are the next ticket, the ticket that is served, the count of entries, and how often a wake was called.
@@ -38,14 +38,13 @@ module _ {E : Type 0} where
   IsKeptShare caller_of n now keeper j share = (share.number < n) × (keeper share.number ≡ j)
       × (share.own ≡ entries_by caller_of share.number now)
 
-  -- Each of the n numbers has one share, in the view that keeps it. All other entries are the opener's.
+  -- Each of the n numbers has one share, in the view that keeps it.
   pub record NumbersAreKept (caller_of : E → ℕ) (n : ℕ) (now : List E) (keeper : ℕ → ℕ) (views : List (View E))
       : Type 0 where
     pub kept : (k : ℕ) → k < n → (v : View E) × HasView views (keeper k) v
         × AtLeastOne (λ (x : Share E). x.number ≡ k) v.shares
     pub own : (j : ℕ) (v : View E) → HasView views j v → Each (IsKeptShare caller_of n now keeper j) v.shares
     pub once : share_count views ≡ n
-    pub others : Each (λ (e : E). (caller_of e < n) ⊎ (caller_of e ≡ opener)) now
 
   -- At most one view is served, and its ticket is the one that is served.
   pub record OneIsServed (serving : ℕ) (views : List (View E)) : Type 0 where
@@ -72,8 +71,9 @@ module _ {E : Type 0} where
   abbrev pub SpentAreIdle : List E → List (View E) → Type 0
   SpentAreIdle now views = (j : ℕ) (v : View E) → HasView views j v → v.shares ≡ [] → IsSpent now v
 
-  -- The rule of a lock with n passes. `now` is the history, which `count` counts.
-  pub record IsKept {Val : Type 0} (history : Val → List E) (caller_of : E → ℕ) (n : ℕ)
+  -- The rule of a lock with n passes, made round a value with this opening. `now` is the history, which `count` counts.
+  -- Behind the opening all its entries are of the n numbers.
+  pub record IsKept {Val : Type 0} (history : Val → List E) (caller_of : E → ℕ) (n : ℕ) (opening : List E)
       (s : State (Option Val) (View E)) : Type 0 where
     pub now : List E
     pub ticket : ℕ
@@ -83,6 +83,7 @@ module _ {E : Type 0} where
     pub limit : n ≤ most_passes
     pub words : AreWords s.words ticket serving (length now) calls
     pub tickets : TicketsAreInRange n ticket serving s.views
+    pub grown : IsGrownByPasses caller_of n opening now
     pub longest : NowIsLongest now s.views
     pub numbers : NumbersAreKept caller_of n now keeper s.views
     pub served : OneIsServed serving s.views

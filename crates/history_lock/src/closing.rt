@@ -1,9 +1,8 @@
 //! How a lock is opened for good.
-ghost use Rattle.std.specs.Prelude.{◌≡◌, ◌⊎◌, ℕ, ◌<◌, ◌↔◌, [], All, Any, IfErr, IfOk, IsErr, None, false, map, vec_len};
+ghost use Rattle.std.specs.Prelude.{◌≡◌, ℕ, ◌<◌, ◌↔◌, [], All, Any, IfErr, IfOk, IsErr, None, false, map, vec_len};
 ghost use mathlib.Core.List.{IsPrefix};
-ghost use Rattle.history_lock.specs.Limits.{opener};
-ghost use Rattle.history_lock.specs.Entries.{entries_by};
-ghost use Rattle.history_lock.specs.Passes.{lock_id, lock_of, own, pass_count, pass_number, seen, share_of};
+ghost use Rattle.history_lock.specs.Entries.{entries_by, IsGrownByPasses};
+ghost use Rattle.history_lock.specs.Passes.{lock_id, lock_of, opening_value, own, pass_count, pass_number, seen, share_of};
 
 use crate::grows::Grows;
 use crate::lock::HistoryLock;
@@ -49,10 +48,10 @@ impl<V: Grows> HistoryLock<V> {
         ensures own { IfOk result (λ value. All
             (λ p. entries_by V.caller_of (pass_number p) (V.history value) ≡ own p) passes.items) }
 
-        // Each number below n is that of a pass that was given, and all other entries are the opener's.
+        // Each number below n is that of a pass that was given, and behind the opening all entries are theirs.
         ensures numbers { IfOk result (λ _. (k : ℕ) → k < pass_count self → Any (λ p. pass_number p ≡ k) passes.items) }
-        ensures others { IfOk result (λ value. All
-            (λ e. (V.caller_of e < pass_count self) ⊎ (V.caller_of e ≡ opener)) (V.history value)) }
+        ensures grown { IfOk result (λ value. IsGrownByPasses V.caller_of (pass_count self)
+            (V.history (opening_value self)) (V.history value)) }
     {
         if passes.len() < self.passes as usize {
             return Err(NotAll { lock: self, passes });

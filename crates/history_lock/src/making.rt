@@ -1,7 +1,7 @@
 //! How a lock is made, with its passes.
 ghost use Rattle.std.specs.Prelude.{◌≡◌, ◌<◌, ◌≤◌, [], ◌∷◌, All, IfErr, IfOk, Some, vec_capacity, vec_len};
 ghost use Rattle.history_lock.specs.Limits.{most_passes, opener};
-ghost use Rattle.history_lock.specs.Passes.{lock_id, pass_count, AreFresh};
+ghost use Rattle.history_lock.specs.Passes.{lock_id, opening_value, pass_count, AreFresh};
 ghost use Rattle.history_lock.specs.Views.{first_share, opening_view};
 
 use crate::grows::Grows;
@@ -57,6 +57,7 @@ pub fn make<V: Grows>(alloc: Global, value: V, n: u32) -> Result<(HistoryLock<V>
     requires passes { (0 < n) × (n ≤ most_passes) }
     requires opener { All (λ e. V.caller_of e ≡ opener) (V.history value) }
     ensures lock { IfOk result (λ r. pass_count r.0 ≡ n) }
+    ensures opening { IfOk result (λ r. opening_value r.0 ≡ value) }
 
     // The passes have the numbers from 0 on. Each has seen the history that the value brought, and has done nothing.
     ensures count { IfOk result (λ r. vec_len r.1 ≡ n) }

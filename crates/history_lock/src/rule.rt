@@ -22,7 +22,7 @@ impl<V: Grows> TableRule<Option<V>, View<V::Entry>, Terms<V>> for Law<V> {
     ghost use Rattle.history_lock.specs.Views.{opening_view};
     ghost use Rattle.history_lock.specs.Rule.{IsKept};
 
-    ghost holds = { λ terms. IsKept V.history V.caller_of terms.passes };
+    ghost holds = { λ terms. IsKept V.history V.caller_of terms.passes (V.history terms.opening.value) };
 
     ghost first = { λ terms. opening_view terms.passes (V.history terms.opening.value) };
 }

@@ -48,7 +48,8 @@ join_seat-requires g c =
       ap (λ s. s.table_id) seat ∙ its,
       ap (λ s. s.me.1) seat ∙ p.empty_handed,
       search rules,
-      joins g.V.Grows.history g.V.Grows.caller_of c.args.steps.now.key.passes c.loop-pass.seat.id
+      joins g.V.Grows.history g.V.Grows.caller_of c.args.steps.now.key.passes
+          (g.V.Grows.history c.args.steps.now.key.opening.value) c.loop-pass.seat.id
           c.loop-pass.seat.me.0 c.into_parts-other.result.2.id c.into_parts-other.result.2.me.0
           c.loop-pass.invariant.1.0 c.loop-pass.invariant.1.1
           (ap (λ s. s.me.0.ticket) seat ∙ ap (λ (v : View g.row.V-Entry.Denot). v.ticket) p.at_rest)

@@ -12,6 +12,7 @@ use Rattle.history_lock.proofs.entering.publish.Goals as goal
 pub store-requires : goal.store-requires
 store-requires g c =
     let H = g.V.Grows.history in let C = g.V.Grows.caller_of in let n : ℕ = c.args.steps.now.key.passes in
+    let start = H c.args.steps.now.key.opening.value in
     let slots : ℕ = c.args.steps.now.table_id.slots in let id : ℕ = c.args.seat.now.id in
     let M : Type 0 = Me (Option g.row.V.Denot) (View g.row.V-Entry.Denot) in
     let before : M = c.args.seat.now.me in
@@ -23,9 +24,9 @@ store-requires g c =
     let counted : c.args.count ≡ length left = c.requires.count ∙ ap length same in (
       search rules,
       search rules,
-      subst (λ (m : M). Allows (IsKept H C n) slots id m 2 (λ _. c.args.count)
+      subst (λ (m : M). Allows (IsKept H C n start) slots id m 2 (λ _. c.args.count)
           (λ _. published left (step slots 2 c.args.count 0 none) m c.args.count)) (sym is)
-          (publishes H C n slots id v (first_share before.0.shares) left grown.0 c.args.count refl refl (sym same
+          (publishes H C n start slots id v (first_share before.0.shares) left grown.0 c.args.count refl refl (sym same
           ∙ grown.1) (each_of_all (λ e. C e ≡ (first_share before.0.shares).number) grown.0 grown.2) counted
           (omega arith)),
     )

@@ -12,6 +12,7 @@ use Rattle.history_lock.proofs.entering.wait_turn.Goals as goal
 pub load-requires : goal.load-requires
 load-requires g c =
     let H = g.V.Grows.history in let C = g.V.Grows.caller_of in let n : ℕ = c.args.steps.now.key.passes in
+    let start = H c.args.steps.now.key.opening.value in
     let slots : ℕ = c.args.steps.now.table_id.slots in let id : ℕ = c.loop.seat.id in
     let M : Type 0 = Me (Option g.row.V.Denot) (View g.row.V-Entry.Denot) in
     let before : M = c.args.seat.now.me in
@@ -20,8 +21,8 @@ load-requires g c =
       search rules,
       search rules,
       subst
-          (λ (m : M). Allows (IsKept H C n) slots id m 1 (λ k. k) (looked H C (step slots 1 0 0 none) m)) (sym is)
-          (looks H C n slots id v (first_share before.0.shares) c.args.ticket refl refl refl),
+          (λ (m : M). Allows (IsKept H C n start) slots id m 1 (λ k. k) (looked H C (step slots 1 0 0 none) m)) (sym is)
+          (looks H C n start slots id v (first_share before.0.shares) c.args.ticket refl refl refl),
     )
 
 pub exchange-requires : goal.exchange-requires

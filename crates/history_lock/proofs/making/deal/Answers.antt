@@ -22,7 +22,8 @@ split_seat-given-requires g c =
     let left = c.loop-number.invariant.2 in (
       search rules,
       search rules,
-      gives g.V.Grows.history g.V.Grows.caller_of c.args.steps.now.key.passes c.loop-number.seat.id
+      gives g.V.Grows.history g.V.Grows.caller_of c.args.steps.now.key.passes
+          (g.V.Grows.history c.args.steps.now.key.opening.value) c.loop-number.seat.id
           c.loop-number.number left.0 c.args.n (first_share c.args.seat.me.0.shares).seen c.loop-number.seat.me.0
           left.2 left.1
           c.loop-number-test.true,

@@ -16,7 +16,7 @@ new-requires g c =
     let slots = c.in-Ok-one_slot.ensures.ok in let told = c.of.ensures in
     let start = opens H C c.args.n (H c.args.value) count c.args.value c.requires.passes.0 c.requires.passes.1 refl
     c.count-count.ensures (omega arith) (each_of_all (λ e. C e ≡ opener) (H c.args.value) c.requires.opener) in
-    subst (λ (t : List (Option g.row.V.Denot) × g.row.V.Denot). IsKept H C c.args.n
+    subst (λ (t : List (Option g.row.V.Denot) × g.row.V.Denot). IsKept H C c.args.n (H t.1)
     (opening (0 ∷ 0 ∷ count ∷ 0 ∷ []) t.0 (opening_view c.args.n (H t.1)))) (λ i. (sym slots i, sym told i)) start
 
 pub deal-passes-requires-clause-all : goal.deal-passes-requires-clause-all

@@ -15,6 +15,7 @@ use Rattle.history_lock.proofs.lock.HistoryLock.enter.Goals as goal
 pub fetch_add-ticket-requires : goal.fetch_add-ticket-requires
 fetch_add-ticket-requires g c =
     let H = g.V.Grows.history in let C = g.V.Grows.caller_of in let n : ℕ = c.args.self.now.table.shared.key.passes in
+    let start = H c.args.self.now.table.shared.key.opening.value in
     let slots : ℕ = c.args.self.now.table.shared.table_id.slots in let id : ℕ = c.into_parts-number.result.2.id in
     let M : Type 0 = Me (Option g.row.V.Denot) (View g.row.V-Entry.Denot) in
     let before : M = c.args.pass.seat.me in
@@ -25,8 +26,8 @@ fetch_add-ticket-requires g c =
       search rules,
       search rules,
       subst
-          (λ (m : M). Allows (IsKept H C n) slots id m 0 (λ k. (k + 1) % 2 ^ 64) (drew (step slots 0 1 0 none) m))
-          (sym is) (draws H C n slots id v [] share refl refl refl),
+          (λ (m : M). Allows (IsKept H C n start) slots id m 0 (λ k. (k + 1) % 2 ^ 64) (drew (step slots 0 1 0 none) m))
+          (sym is) (draws H C n start slots id v [] share refl refl refl),
     )
 
 pub returns : goal.returns

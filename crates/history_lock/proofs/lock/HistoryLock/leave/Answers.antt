@@ -14,6 +14,7 @@ use Rattle.history_lock.proofs.lock.HistoryLock.leave.Goals as goal
 pub fetch_add-requires : goal.fetch_add-requires
 fetch_add-requires g c =
     let H = g.V.Grows.history in let C = g.V.Grows.caller_of in let n : ℕ = c.args.self.now.table.shared.key.passes in
+    let start = H c.args.self.now.table.shared.key.opening.value in
     let slots : ℕ = c.args.self.now.table.shared.table_id.slots in let id : ℕ = c.exchange-taken.new.seat.id in
     let M : Type 0 = Me (Option g.row.V.Denot) (View g.row.V-Entry.Denot) in
     let before : M = c.args.inside.turn.seat.me in
@@ -27,9 +28,9 @@ fetch_add-requires g c =
     ∙ ap told c.of-left.ensures) in (
       search rules,
       search rules,
-      subst (λ (m : M). Allows (IsKept H C n) slots id m 1 (λ k. (k + 1) % 2 ^ 64)
+      subst (λ (m : M). Allows (IsKept H C n start) slots id m 1 (λ k. (k + 1) % 2 ^ 64)
           (passed_on (step slots 1 1 0 none) m)) (sym is)
-          (passes_on H C n slots id v share val refl
+          (passes_on H C n start slots id v share val refl
           (ap (λ (z : View g.row.V-Entry.Denot). z.served) c.args.inside.turn.let_in) refl),
     )
 

@@ -11,6 +11,7 @@ use Rattle.history_lock.proofs.lock.HistoryLock.news.Goals as goal
 pub load-count-requires : goal.load-count-requires
 load-count-requires g c =
     let H = g.V.Grows.history in let C = g.V.Grows.caller_of in let n : ℕ = c.args.self.now.table.shared.key.passes in
+    let start = H c.args.self.now.table.shared.key.opening.value in
     let slots : ℕ = c.args.self.now.table.shared.table_id.slots in let id : ℕ = c.args.pass.now.seat.id in
     let M : Type 0 = Me (Option g.row.V.Denot) (View g.row.V-Entry.Denot) in
     let before : M = c.args.pass.now.seat.me in
@@ -18,7 +19,7 @@ load-count-requires g c =
     let is : before ≡ (v, []) = λ i. (c.args.pass.now.at_rest i, c.args.pass.now.empty_handed i) in (
       search rules,
       search rules,
-      subst (λ (m : M). Allows (IsKept H C n) slots id m 2 (λ k. k) (counted (step slots 2 0 0 none) m)) (sym is)
-          (counts H C n slots id v [] (record (first_share before.0.shares) { number = c.args.pass.now.number }) refl
+      subst (λ (m : M). Allows (IsKept H C n start) slots id m 2 (λ k. k) (counted (step slots 2 0 0 none) m)) (sym is)
+          (counts H C n start slots id v [] (record (first_share before.0.shares) { number = c.args.pass.now.number }) refl
           refl),
     )

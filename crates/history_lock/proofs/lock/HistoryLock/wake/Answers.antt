@@ -7,8 +7,8 @@ pub load_new_seat-seat-requires : goal.load_new_seat-seat-requires
 load_new_seat-seat-requires g c =
     let t = c.args.self.now.table.shared in (
       search rules,
-      arrives g.V.Grows.history g.V.Grows.caller_of t.key.passes t.table_id.slots
-          (opening_view t.key.passes (g.V.Grows.history t.key.opening.value)),
+      arrives g.V.Grows.history g.V.Grows.caller_of t.key.passes (g.V.Grows.history t.key.opening.value)
+          t.table_id.slots (opening_view t.key.passes (g.V.Grows.history t.key.opening.value)),
     )
 
 pub fetch_add-requires : goal.fetch_add-requires
@@ -17,6 +17,6 @@ fetch_add-requires g c =
     let seat = c.load_new_seat-seat.result.1 in (
       search rules,
       search rules,
-      calls g.V.Grows.history g.V.Grows.caller_of t.key.passes t.table_id.slots seat.id
-          seat.me.0 seat.me.1,
+      calls g.V.Grows.history g.V.Grows.caller_of t.key.passes (g.V.Grows.history t.key.opening.value)
+          t.table_id.slots seat.id seat.me.0 seat.me.1,
     )
