@@ -1,19 +1,19 @@
 //! The dock: the book and its journal behind their lock.
 
-ghost use Rattle.std.specs.Prelude.{◌≡◌, ◌⊎◌, ℕ, ◌<◌, ◌≤◌, ◌^◌, ◌↔◌, ◌++◌, [], All, Any, drop, not, IfErr, IfOk, IfSome, IsErr, OnErr, OnOk, is_ok, length, vec_len};
+ghost use Rattle.std.specs.Prelude.{◌≡◌, ℕ, ◌<◌, ◌≤◌, ◌^◌, ◌↔◌, ◌++◌, [], All, Any, drop, not, IfErr, IfOk, IfSome, IsErr, OnErr, OnOk, is_ok, length, vec_len};
 ghost use mathlib.Core.List.{IsPrefix};
 ghost use Rattle.floor_events.specs.declared.event.Event.TheVariants as events;
 ghost use Rattle.table_engine.specs.Acts.{IsAnswer};
 ghost use Rattle.table_engine.specs.Plays.{IsCompletePlay};
 ghost use Rattle.tournament_rules.specs.Effects.{first_book};
-ghost use Rattle.history_lock.specs.Entries.{entries_by};
+ghost use Rattle.history_lock.specs.Entries.{entries_by, IsGrownByPasses};
 ghost use Rattle.history_lock.specs.Holds.{Stands};
-ghost use Rattle.history_lock.specs.Limits.{most_passes, opener};
+ghost use Rattle.history_lock.specs.Limits.{most_passes};
 ghost use Rattle.history_lock.specs.Passes.{AreFresh, IsSameButKnown, known, lock_of, own, pass_number, seen};
 ghost use Rattle.dock_rules.specs.Added.{only_if};
 ghost use Rattle.dock_rules.specs.Journals.{Has, IsLegalJournal, book_of, entry_told, journal_caller, tale_of};
 ghost use Rattle.dock_rules.specs.Points.{IsAskAnswer, ask_answer, event_done, hand_begun, is_done, journal_text, next_begin, place_of_name, refusal_at};
-ghost use Rattle.book_dock.specs.Docks.{book_id, book_passes};
+ghost use Rattle.book_dock.specs.Docks.{book_id, book_opening, book_passes};
 ghost use Rattle.book_dock.specs.Ends.{given_back, is_settled, journal_of};
 ghost use Rattle.book_dock.specs.Opening.{opening};
 
@@ -49,6 +49,7 @@ pub fn make_book(
 ) -> Result<(BookDock, Vec<BookPass>), AllocError>
     requires { (0 < passes) × (passes ≤ most_passes) }
     ensures passes { IfOk result (λ made. book_passes made.0 ≡ passes) }
+    ensures opening { IfOk result (λ made. book_opening made.0 ≡ opening seed plan) }
     ensures count { IfOk result (λ made. vec_len made.1 ≡ passes) }
 
     // Each pass has seen the lines of the plan and their end, which the opener brought. They are a legal journal of
@@ -169,9 +170,32 @@ impl BookDock {
         ensures legal { IsLegalJournal (seen result.0) }
         ensures few { length (seen result.0) < 2 ^ 60 }
     {
+        let (pass, _, count) = self.follow(rt, pass, from, out);
+        (pass, count)
+    }
+
+    /// Reads as `read_lines` does, and tells of the same journal whether the tournament was stopped.
+    pub fn follow<R: Wait>(
+        &self,
+        rt: &R,
+        pass: BookPass,
+        from: u64,
+        out: &mut Vec<u8>,
+    ) -> (BookPass, bool, Result<u64, AllocError>)
+        requires lock { lock_of pass ≡ book_id self.now }
+        requires from { from ≤ length (seen pass) }
+        ensures stands { Stands pass result.0 (λ at added. (result.1 ≡ (tale_of at).ended)
+            × IfOk result.2 (λ count. count ≡ length at) × (added ≡ [])) }
+        ensures lines { OnOk result.2 (out.new.items
+            ≡ out.old.items ++ journal_text (drop from (seen result.0))) }
+        ensures err { OnErr result.2 (out.new.items ≡ out.old.items) }
+        ensures legal { IsLegalJournal (seen result.0) }
+        ensures few { length (seen result.0) < 2 ^ 60 }
+    {
         let inside = self.lock.enter(rt, pass);
+        let stopped = inside.value().stopped();
         let count = inside.value().read_lines(from, out);
-        (self.lock.leave(inside), count)
+        (self.lock.leave(inside), stopped, count)
     }
 
     /// Tells whether the tournament was stopped: whether the journal ends with the stop. It takes no memory.
@@ -232,11 +256,11 @@ impl BookDock {
         ensures own { IfOk result
             (λ end. All (λ p. entries_by journal_caller (pass_number p) (journal_of end) ≡ own p) passes.items) }
 
-        // Each number of the dock's passes is that of a pass that was given, and every other entry is the opener's.
+        // Each number of the dock's passes is that of a pass that was given, and behind the opening they made all entries.
         ensures numbers { IfOk result
             (λ _. (k : ℕ) → k < book_passes self → Any (λ p. pass_number p ≡ k) passes.items) }
-        ensures others { IfOk result (λ end. All
-            (λ e. (journal_caller e < book_passes self) ⊎ (journal_caller e ≡ opener)) (journal_of end)) }
+        ensures grown { IfOk result
+            (λ end. IsGrownByPasses journal_caller (book_passes self) (book_opening self) (journal_of end)) }
 
         ensures legal { IfOk result (λ end. IsLegalJournal (journal_of end)) }
         ensures few { IfOk result (λ end. length (journal_of end) < 2 ^ 60) }

@@ -9,8 +9,8 @@
 //! | `make_book` | passes that have seen the plan's lines and their end |
 //! | `BookDock::begin`, `BookDock::order` | the answer and the entry that stand at the journal, with deck and draw |
 //! | `BookDock::settle` | the entry with the acts of the hand, or the record back once the tournament is stopped |
-//! | `BookDock::where_is`, `BookDock::stopped`, `BookDock::read_lines` | what is so at the journal, with no entry |
-//! | `BookDock::close`, `BookEnd::journal`, `BookEnd::report` | the journal, and how the tournament stands after it |
+//! | `BookDock::where_is`, `BookDock::stopped`, `BookDock::read_lines`, `BookDock::follow` | what is so at the journal, with no entry |
+//! | `BookDock::close`, `BookEnd::journal`, `BookEnd::report` | the journal, which is the opening with entries of the passes behind it, and how the tournament stands after it |
 //!
 //! What lies behind the lock is a `BookHold`: its journal is legal in every hold, its book is what the journal comes
 //! to, and there is room for what is owed to the hands that are out.

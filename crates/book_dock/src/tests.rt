@@ -298,6 +298,35 @@ fn read<R: Wait>(
     }
 }
 
+/// Follows the journal from its first entry on, and compares whether it is told that the tournament was stopped, and
+/// the last line.
+fn check_follow<R: Wait + Abort>(
+    rt: &R,
+    alloc: Global,
+    dock: &BookDock,
+    pass: BookPass,
+    wanted: bool,
+    last: &[u8],
+) -> Result<BookPass, AllocError>
+    requires { lock_of pass ≡ book_id dock.now }
+    ensures { IfOk result (λ pass. lock_of pass ≡ book_id dock.now) }
+{
+    let mut lines = Vec::new(alloc);
+    let (pass, stopped, count) = dock.follow(rt, pass, 0, &mut lines);
+    count?;
+    assert!(rt; stopped == wanted && lines.as_slice().ends_with(last));
+    Ok(pass)
+}
+
+#[test]
+fn who_follows_learns_of_the_stop(rt: HostRuntime) -> Result<(), Fail> {
+    let (dock, pass) = open_alone(rt.alloc(), 1, 2)?;
+    let pass = check_follow(&rt, rt.alloc(), &dock, pass, false, b"# go\n")?;
+    let pass = ask_one(&rt, &dock, pass, &Ask::Stop, Done);
+    let _pass = check_follow(&rt, rt.alloc(), &dock, pass, true, b"# stop\n")?;
+    Ok(())
+}
+
 #[test]
 fn the_order_that_is_owed_is_drawn(rt: HostRuntime) -> Result<(), Fail> {
     let (dock, pass) = open_alone(rt.alloc(), 2, 3)?;

@@ -11,7 +11,7 @@
 //! | `HistoryLock::leave` | the pass has seen the history that it left, and its own list has grown by what it added |
 //! | `HistoryLock::news` | the count that it loaded is what the pass knows |
 //! | `HistoryLock::await_news` | what the pass knows is below neither what it knew nor what it has seen, and it is else unchanged |
-//! | `HistoryLock::close` | the value comes exactly where all passes are given, and its history fits each of them |
+//! | `HistoryLock::close` | the value comes exactly where all passes are given, its history fits each of them, and behind the opening it is theirs alone |
 //! | `Inside::value`, `Inside::value_mut` | the value inside, and what a write through it leaves |
 //!
 //! `opener_is_that_of_the_rules` says what number `OPENER` is.

@@ -1,16 +1,14 @@
 //! The dock: a table behind its lock.
 
-ghost use Rattle.std.specs.Prelude.{◌≡◌, ◌⊎◌, ℕ, ◌+◌, ◌<◌, ◌≤◌, ◌↔◌, [], All, Any, false, true, IfErr, IfOk, IfSome, IsErr, is_none, is_ok, is_some, length, take, vec_len, Some, if◌then◌else◌};
+ghost use Rattle.std.specs.Prelude.{◌≡◌, ℕ, ◌<◌, ◌≤◌, ◌↔◌, [], All, Any, false, true, IfErr, IfOk, IfSome, IsErr, is_none, is_ok, is_some, length, take, vec_len, Some, if◌then◌else◌};
 ghost use mathlib.Core.List.{IsPrefix};
 ghost use Rattle.history_lock.specs.Entries.{entries_by};
 ghost use Rattle.history_lock.specs.Holds.{Stands};
-ghost use Rattle.history_lock.specs.Limits.{most_passes, opener};
-ghost use Rattle.history_lock.specs.Passes.{AreFresh, IsSameButKnown, known, lock_of, own, pass_number, seen};
+ghost use Rattle.history_lock.specs.Passes.{IsSameButKnown, known, lock_of, opening_value, own, pass_number, seen};
 ghost use Rattle.table_engine.specs.Hands.{is_over};
 ghost use Rattle.view_rules.specs.declared.entries.TableEntry.TheVariants as entries;
 ghost use Rattle.dock_rules.specs.Added.{only_if};
 ghost use Rattle.dock_rules.specs.Tables.{ActStandsAt, AreOfTable, HasItsChips, IsLegalTableHistory, TimeStandsAt, called_entries, lies, lying_hand, table_caller};
-ghost use Rattle.table_dock.specs.Docks.{dock_id, dock_passes, table_of};
 ghost use Rattle.table_dock.specs.Telling.{IsRead};
 
 use crate::end::{TableEnd, Untold};
@@ -18,9 +16,8 @@ use crate::gate::Gate;
 use crate::hold::TableHold;
 use betting_round::{Act, Done};
 use floor_text::Name;
-use history_lock::{HistoryLock, NotAll, Pass, make};
+use history_lock::{HistoryLock, NotAll, Pass};
 use player_view::TableTeller;
-use std::alloc::{AllocError, Global};
 use std::sync::Wait;
 use table_engine::{ActFault, Hand};
 
@@ -32,27 +29,13 @@ pub type TablePass = Pass<TableHold>;
 pub struct TableDock {
     pub(crate) table: u8,
     pub(crate) lock: HistoryLock<TableHold>,
-}
-
-/// Makes a dock where no hand lies, with a pass for the worker, which is pass 0, and one for each desk.
-pub fn make_dock(
-    alloc: Global,
-    table: u8,
-    desks: u32,
-) -> Result<(TableDock, Vec<TablePass>), AllocError>
-    requires { desks < most_passes }
-    ensures table { IfOk result (λ made. table_of made.0 ≡ table) }
-    ensures passes { IfOk result (λ made. dock_passes made.0 ≡ desks + 1) }
-    ensures count { IfOk result (λ made. vec_len made.1 ≡ desks + 1) }
-    ensures fresh { IfOk result (λ made. AreFresh (dock_id made.0) [] made.1.items) }
-{
-    match make(alloc, TableHold::new(alloc), desks + 1) {
-        Ok((lock, passes)) => Ok((TableDock { table, lock }, passes)),
-        Err(_) => Err(AllocError),
-    }
+    /// It was made with no history.
+    ghost begun: { opening_value lock ≡ [] },
 }
 
 impl TableDock {
+    ghost use Rattle.table_dock.specs.Docks.{dock_id, dock_passes, table_of};
+
     /// Brings a hand before any act, where none lies. Want of memory hands it back.
     pub fn open_hand<R: Wait>(
         &self,
@@ -198,11 +181,10 @@ impl TableDock {
         ensures own { IfOk result
             (λ end. All (λ p. entries_by table_caller (pass_number p) end.entries ≡ own p) passes.items) }
 
-        // Each number of the dock's passes is that of a pass that was given, and no other pass made an entry.
+        // Each number of the dock's passes is that of a pass that was given, and they made all entries.
         ensures numbers { IfOk result
             (λ _. (k : ℕ) → k < dock_passes self → Any (λ p. pass_number p ≡ k) passes.items) }
-        ensures others { IfOk result (λ end. All
-            (λ e. (table_caller e < dock_passes self) ⊎ (table_caller e ≡ opener)) end.entries) }
+        ensures others { IfOk result (λ end. All (λ e. table_caller e < dock_passes self) end.entries) }
 
         ensures hand { IfOk result (λ end. end.hand ≡ lying_hand end.entries) }
         ensures legal { IfOk result (λ end. IsLegalTableHistory end.entries) }

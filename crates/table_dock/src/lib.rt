@@ -13,7 +13,7 @@
 //! | `TableDock::void_hand` | the hand, exactly where one lies there |
 //! | `TableDock::read_lines` | just the lines of the entries that are told |
 //! | `TableDock::news` | the count that it loaded is what the pass knows |
-//! | `TableDock::close` | the history and the hand that lies there, exactly where all passes are given |
+//! | `TableDock::close` | the history, which these passes alone made, and the hand that lies there, exactly where all passes are given |
 //!
 //! After every call the history that the pass has seen is legal, and the hand that lies there by it has its chips.
 //! `specs/Kept.antt` has what holds of what lies behind the lock.
@@ -24,10 +24,12 @@ mod dock;
 mod end;
 mod gate;
 mod hold;
+mod making;
 #[cfg(test)]
 mod tests;
 
-pub use dock::{TableDock, TablePass, make_dock};
+pub use dock::{TableDock, TablePass};
 pub use end::{TableEnd, Untold};
 pub use gate::Gate;
 pub use hold::TableHold;
+pub use making::make_dock;

@@ -1,4 +1,4 @@
-use Rattle.std.proofs.Common.{◌≡◌, ◌∙◌, ℕ, List, sym, subst}
+use Rattle.std.proofs.Common.{◌≡◌, ◌∙◌, ℕ, List, ap, sym, subst}
 use Rattle.std.specs.Prelude.{All}
 use Rattle.history_lock.specs.Limits.{opener}
 use Rattle.view_rules.specs.declared.entries.JournalEntry.{JournalEntry}
@@ -18,6 +18,10 @@ make-requires-clause-opener c =
 
 pub returns-in-Ok-clause-fresh : goal.returns-in-Ok-clause-fresh
 returns-in-Ok-clause-fresh c = rw c.in_ok-hold.ensures.items at c.in-Ok.ensures.fresh
+
+pub returns-in-Ok-clause-opening : goal.returns-in-Ok-clause-opening
+returns-in-Ok-clause-opening c =
+    ap (λ (hold : BookHold). hold.journal.items) c.in-Ok.ensures.opening ∙ c.in_ok-hold.ensures.items
 
 -- What is kept of the opened book, of the plan's journal.
 kept-opened : (hold : BookHold) (seed : List ℕ) (plan : PlanTerms) → hold.journal.items ≡ opening seed plan
