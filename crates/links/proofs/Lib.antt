@@ -1,0 +1,2 @@
+pub mod SearchedLines
+pub mod PassedOver
