@@ -66,8 +66,8 @@ pub searched_more : (front put bytes : List ℕ) (n : ℕ) → IsSearched front 
 searched_more front put bytes n is = record {
   within = omega (arith, is.within, length-append put bytes);
   behind = λ more. ap (has_line front) (append_assoc put bytes more) ∙ is.behind (bytes ++ more)
-    ∙ ap (has_line front) (sym (append_assoc (drop n put) bytes more)
-    ∙ ap (λ (xs : List ℕ). xs ++ more) (sym (drop-append-le n put bytes is.within)));
+      ∙ ap (has_line front) (sym (append_assoc (drop n put) bytes more)
+      ∙ ap (λ (xs : List ℕ). xs ++ more) (sym (drop-append-le n put bytes is.within)));
 }
 
 -- A line that does not begin so is passed.
@@ -80,9 +80,9 @@ searched_on front put n at is first other =
     record {
       within = omega (arith, first.within, length-drop n put);
       behind = λ more. is.behind more ∙ ap (has_line front) (line_first left more at first)
-        ∙ line_then front (take at left) (drop (at + 1) left ++ more) first.before
-        ∙ ap (λ (b : Bool). b || has_line front (drop (at + 1) left ++ more)) other
-        ∙ ap (λ (xs : List ℕ). has_line front (xs ++ more)) rest;
+          ∙ line_then front (take at left) (drop (at + 1) left ++ more) first.before
+          ∙ ap (λ (b : Bool). b || has_line front (drop (at + 1) left ++ more)) other
+          ∙ ap (λ (xs : List ℕ). has_line front (xs ++ more)) rest;
     }
 
 -- A line that begins so is one.

@@ -19,7 +19,7 @@ pub enum Taken {
 
 /// A connection to one client.
 pub trait Link {
-    /// The bytes that it gave and that were put, and how often it gave Idle and whether it gave End, where it tells them.
+    /// The bytes that it gave and that were put, how often it gave Idle and whether it gave End, where it tells them.
     ghost told: { Self → Option Telling };
 
     /// How often it failed. The count never falls, and stands still at its type's end.

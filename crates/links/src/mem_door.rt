@@ -12,8 +12,8 @@ use std::alloc::{AllocError, Global};
 use std::marker::Model;
 use std::snapshot::Snapshot;
 
-/// A door in memory, which hands out its links in order and then none, and tells all. Contracts see it as what it tells,
-/// the links that it has still to give, the numbers of its knocks that fail, and how many failed.
+/// A door in memory, which hands out its links in order and then none, and tells all. Contracts see it as what it
+/// tells, the links that it has still to give, the numbers of its knocks that fail, and how many failed.
 #[derive(Drop)]
 pub struct MemDoor {
     /// The links that it has still to give, the next one last.
@@ -42,12 +42,13 @@ impl Model for MemDoor {
       faults = d.calls.faults;
     } };
 
-    ghost invariant = { λ d. IsMemoryDoor (vec_len d.waiting) (vec_len d.given) (vec_capacity d.given) (vec_capacity d.back) };
+    ghost invariant = { λ d.
+        IsMemoryDoor (vec_len d.waiting) (vec_len d.given) (vec_capacity d.given) (vec_capacity d.back) };
 }
 
 impl MemDoor {
-    /// Makes a door with these links, and takes the room for those that come back. The knocks whose numbers, from 1, are
-    /// in `failing` fail and give no link.
+    /// Makes a door with these links, and takes the room for those that come back. The knocks whose numbers, from 1,
+    /// are in `failing` fail and give no link.
     pub fn new(alloc: Global, links: Vec<MemLink>, failing: Vec<u64>) -> Result<MemDoor, AllocError>
         ensures { IfOk result (λ door. door ≡ record {
           told = record { knocks = 0; given = []; back = [] };

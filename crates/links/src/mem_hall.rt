@@ -36,12 +36,13 @@ impl Model for MemHall {
       faults = h.calls.faults;
     } };
 
-    ghost invariant = { λ h. IsMemoryHall (vec_len h.doors) (length h.given.value.items) (vec_len h.back) (vec_capacity h.back) };
+    ghost invariant = { λ h.
+        IsMemoryHall (vec_len h.doors) (length h.given.value.items) (vec_len h.back) (vec_capacity h.back) };
 }
 
 impl MemHall {
-    /// Makes a hall with these doors, which takes no memory. The calls of `doors` whose numbers, from 1, are in `failing`
-    /// fail and give no door, and so do those for another number of doors than it has.
+    /// Makes a hall with these doors, which takes no memory. The calls of `doors` whose numbers, from 1, are in
+    /// `failing` fail and give no door, and so do those for another number of doors than it has.
     pub fn new(doors: Vec<MemDoor>, failing: Vec<u64>) -> MemHall
         ensures { result ≡ record {
           told = record { given = []; back = [] };
@@ -92,7 +93,9 @@ impl Hall for MemHall {
           calls = count_up self.old.calls;
           faults = count_up self.old.faults;
         } }
-        ensures memory { result ≡ Err HallFault.NoMemory → self.new ≡ record self.old { calls = count_up self.old.calls } }
+        ensures memory { result ≡ Err HallFault.NoMemory → self.new ≡ record self.old {
+          calls = count_up self.old.calls;
+        } }
     {
         let fails = self.calls.next_fails();
         if fails || self.doors.len() != n as usize {

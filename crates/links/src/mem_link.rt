@@ -14,8 +14,8 @@ use floor_text::{Calls, Failed};
 use std::alloc::{AllocError, Global};
 use std::marker::Model;
 
-/// A link in memory, which plays a script and tells all. Contracts see it as what it tells, where its script is, how many
-/// bytes it has room for, the numbers of its calls that fail, and how many calls were made and failed.
+/// A link in memory, which plays a script and tells all. Contracts see it as what it tells, where its script is, how
+/// many bytes it has room for, the numbers of its calls that fail, and how many calls were made and failed.
 #[derive(Drop)]
 pub struct MemLink {
     script: Script,
@@ -47,9 +47,9 @@ impl Model for MemLink {
 }
 
 impl MemLink {
-    /// Makes a link that plays the script, and the tape of what is put on it. It takes room for so many bytes. The calls
-    /// whose numbers, from 1, are in `failing` fail, give nothing and put nothing, and so do puts that find too little
-    /// room.
+    /// Makes a link that plays the script, and the tape of what is put on it. It takes room for so many bytes. The
+    /// calls whose numbers, from 1, are in `failing` fail, give nothing and put nothing, and so do puts that find too
+    /// little room.
     pub fn new(
         alloc: Global,
         script: Vec<Say>,
@@ -124,8 +124,8 @@ impl Link for MemLink {
         Ok(taken)
     }
 
-    /// Puts all the bytes, or where it fails none. It fails exactly at the calls that are to fail and where the bytes are
-    /// beyond its room, and its count of faults rises exactly then. It takes no memory.
+    /// Puts all the bytes, or where it fails none. It fails exactly at the calls that are to fail and where the bytes
+    /// are beyond its room, and its count of faults rises exactly then. It takes no memory.
     fn put(&mut self, bytes: &[u8]) -> Result<(), Failed>
         ensures told { IfSome (Some self.old.told) (λ before. Puts before bytes.now (Some self.new.told) result) }
         ensures cause { HasCause self.old.faults self.new.faults result }

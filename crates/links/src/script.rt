@@ -44,7 +44,8 @@ impl Script {
         ensures bytes { let step = play (length buffer.old) put.now (place_of self.old) in
             take (length step.bytes) buffer.new ≡ step.bytes }
         ensures place { place_of self.new ≡ (play (length buffer.old) put.now (place_of self.old)).place }
-        ensures given { given_by self.new ≡ given_by self.old ++ (play (length buffer.old) put.now (place_of self.old)).bytes }
+        ensures given { let step = play (length buffer.old) put.now (place_of self.old) in
+            given_by self.new ≡ given_by self.old ++ step.bytes }
         ensures searched { IsSearchedBy self.new put.now }
     {
         self.pass_over(put);

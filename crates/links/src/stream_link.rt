@@ -34,8 +34,8 @@ impl<S: Read + Write> Link for StreamLink<S> {
         count_fault(&mut self.faults, taken)
     }
 
-    /// Hands all the bytes to the stream, and flushes it. A write that takes none of them is a fault, as any other error
-    /// is, and is counted.
+    /// Hands all the bytes to the stream, and flushes it. A write that takes none of them is a fault, as any other
+    /// error is, and is counted.
     fn put(&mut self, bytes: &[u8]) -> Result<(), Failed> {
         let result = write_whole(&mut self.stream, bytes);
         let flushed = self.stream.flush().map_err(|_| Failed);

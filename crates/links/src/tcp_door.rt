@@ -15,8 +15,8 @@ const PATIENCE: u64 = 20;
 /// How many seconds a write waits for a client who takes nothing.
 const WRITE_PATIENCE: u64 = 10;
 
-/// A door over a TCP listener that does not block. Where nobody came it sleeps for 20 milliseconds, so that a desk which
-/// knocks again and again needs hardly any of a processor.
+/// A door over a TCP listener that does not block. Where nobody came it sleeps for 20 milliseconds, so that a desk
+/// which knocks again and again needs hardly any of a processor.
 #[derive(Drop)]
 pub struct TcpDoor<C> {
     listener: TcpListener,
@@ -60,7 +60,10 @@ impl<C: Clock> Door for TcpDoor<C> {
 }
 
 /// Accepts one client, or sleeps where nobody came.
-fn accept<C: Clock>(listener: &TcpListener, clock: &C) -> Result<Option<StreamLink<TcpStream>>, Failed> {
+fn accept<C: Clock>(
+    listener: &TcpListener,
+    clock: &C,
+) -> Result<Option<StreamLink<TcpStream>>, Failed> {
     match listener.accept() {
         Ok((stream, _)) => match set_up(&stream) {
             Ok(()) => Ok(Some(StreamLink::new(stream))),

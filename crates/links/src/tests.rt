@@ -1,3 +1,5 @@
+ghost use Rattle.std.specs.Prelude.{◌≡◌, [], IfOk, length};
+
 use crate::{
     Door, Hall, HallFault, Link, MemDoor, MemHall, MemLink, Say, Taken, Tape, TcpDoor, TcpHall,
 };
@@ -77,7 +79,10 @@ fn a_script_is_played(rt: HostRuntime) -> Result<(), Fail> {
     ] {
         let mut buffer = [0; 2];
         let came = link.put(put).and_then(|_| link.take(&mut buffer));
-        assert!(rt; came == Ok(taken) && buffer.starts_with(bytes), "{put:?} {taken:?}");
+        assert!(rt;
+            came == Ok(taken) && buffer.starts_with(bytes),
+            "{put:?} {taken:?}"
+        );
     }
     Ok(())
 }
@@ -109,10 +114,16 @@ fn calls_that_fail_bring_and_put_nothing(rt: HostRuntime) -> Result<(), Fail> {
     assert!(rt; link.take(&mut buffer) == Ok(Taken::Bytes(2)) && buffer[..2] == [b'a', b'b']);
     assert!(rt; link.put(b"xy") == Ok(()));
     assert!(rt; link.put(b"z") == Err(Failed), "the fourth call fails");
-    assert!(rt; link.put(b"zz") == Err(Failed), "there is room for one byte");
+    assert!(rt;
+        link.put(b"zz") == Err(Failed),
+        "there is room for one byte"
+    );
     assert!(rt; link.put(b"z") == Ok(()) && link.put(b"") == Ok(()));
     assert!(rt; link.take(&mut buffer) == Ok(Taken::End));
-    for (i, byte) in [Some(b'x'), Some(b'y'), Some(b'z'), None].into_iter().enumerate() {
+    for (i, byte) in [Some(b'x'), Some(b'y'), Some(b'z'), None]
+        .into_iter()
+        .enumerate()
+    {
         assert!(rt; tape.byte(i) == byte, "place {i}");
     }
     Ok(())
@@ -136,17 +147,24 @@ fn a_link_may_stand_round_another(rt: HostRuntime) -> Result<(), Fail> {
 }
 
 /// A door with two links, which give `a` and `b`.
-fn door_of(alloc: Global, failing: Vec<u64>) -> Result<MemDoor, AllocError> {
+fn door_of(alloc: Global, failing: Vec<u64>) -> Result<MemDoor, AllocError>
+    ensures { IfOk result (λ door. door.told ≡ record { knocks = 0; given = []; back = [] }) }
+{
     let (first, _tape) = link_of(alloc, vec![in alloc; give(alloc, b"a")?]?)?;
     let (second, _tape) = link_of(alloc, vec![in alloc; give(alloc, b"b")?]?)?;
     MemDoor::new(alloc, vec![in alloc; first, second]?, failing)
 }
 
-/// Knocks once and answers what the link that came gives first.
-fn first_byte<D: Door + Drop>(door: &mut D) -> Option<u8> {
+/// Lets one client in and out again, and answers the byte that the client gives first.
+fn first_byte(door: &mut MemDoor) -> Option<u8>
+    requires { length door.old.told.back ≡ length door.old.told.given }
+    ensures { length door.new.told.back ≡ length door.new.told.given }
+{
     let mut buffer = [0; 1];
     let mut link = door.knock().ok()??;
-    match link.take(&mut buffer) {
+    let taken = link.take(&mut buffer);
+    door.back(link);
+    match taken {
         Ok(Taken::Bytes(_)) => Some(buffer[0]),
         _ => None,
     }
@@ -156,39 +174,42 @@ fn first_byte<D: Door + Drop>(door: &mut D) -> Option<u8> {
 fn a_door_in_memory_gives_its_links_in_order(rt: HostRuntime) -> Result<(), Fail> {
     let alloc = rt.alloc();
     let mut door = door_of(alloc, vec![in alloc; 2]?)?;
-    let Ok(Some(mut link)) = door.knock() else {
-        return Err(Fail::from("no link"));
-    };
-    let mut buffer = [0; 1];
-    assert!(rt; link.take(&mut buffer) == Ok(Taken::Bytes(1)) && buffer[0] == b'a');
-    door.back(link);
-    assert!(rt; door.knock().is_err(), "the second knock fails");
-    let Ok(Some(mut link)) = door.knock() else {
-        return Err(Fail::from("no link"));
-    };
-    assert!(rt; link.take(&mut buffer) == Ok(Taken::Bytes(1)) && buffer[0] == b'b');
-    assert!(rt; matches!(door.knock(), Ok(None)));
-    door.back(link);
+    for wanted in [Some(b'a'), None, Some(b'b'), None] {
+        let first = first_byte(&mut door);
+        assert!(rt; first == wanted, "{wanted:?}");
+    }
     Ok(())
 }
 
 #[test]
 fn a_hall_in_memory_gives_its_doors_once(rt: HostRuntime) -> Result<(), Fail> {
     let alloc = rt.alloc();
-    let doors = vec![in alloc; door_of(alloc, Vec::new(alloc))?, door_of(alloc, Vec::new(alloc))?]?;
+    let doors = vec![in alloc;
+        door_of(alloc, Vec::new(alloc))?,
+        door_of(alloc, Vec::new(alloc))?,
+    ]?;
     let mut hall = MemHall::new(doors, vec![in alloc; 1]?);
-    assert!(rt; matches!(hall.doors(alloc, 7000, 2), Err(HallFault::Failed)), "the first call fails");
-    assert!(rt; matches!(hall.doors(alloc, 7000, 1), Err(HallFault::Failed)), "it has two doors");
+    assert!(rt;
+        matches!(hall.doors(alloc, 7000, 2), Err(HallFault::Failed)),
+        "the first call fails"
+    );
+    assert!(rt;
+        matches!(hall.doors(alloc, 7000, 1), Err(HallFault::Failed)),
+        "it has two doors"
+    );
     let Ok(doors) = hall.doors(alloc, 7000, 2) else {
         return Err(Fail::from("no doors"));
     };
     assert!(rt; doors.len() == 2);
-    assert!(rt; matches!(hall.doors(alloc, 7000, 2), Err(HallFault::Failed)), "it has no door left");
+    assert!(rt;
+        matches!(hall.doors(alloc, 7000, 2), Err(HallFault::Failed)),
+        "it has no door left"
+    );
     hall.back(doors);
     Ok(())
 }
 
-/// Opens two doors of the hall at ports that nobody listens at, and answers the first of these.
+/// Opens two doors of a hall at ports that nobody listens at, and answers them and the second port.
 fn two_doors(rt: HostRuntime) -> Option<(Vec<TcpDoor<HostRuntime>>, u16)> {
     let mut hall = TcpHall::new(rt);
     for _ in 0..20 {
@@ -196,7 +217,28 @@ fn two_doors(rt: HostRuntime) -> Option<(Vec<TcpDoor<HostRuntime>>, u16)> {
         let port = free.local_addr().ok()?.port();
         drop(free);
         if let Ok(doors) = hall.doors(rt.alloc(), port, 2) {
-            return Some((doors, port));
+            return Some((doors, port.checked_add(1)?));
+        }
+    }
+    None
+}
+
+/// Knocks until somebody came.
+fn who_comes<D: Door>(door: &mut D) -> Option<D::L> {
+    for _ in 0..50 {
+        if let Some(link) = door.knock().ok()? {
+            return Some(link);
+        }
+    }
+    None
+}
+
+/// Takes until the link is not idle.
+fn what_comes<L: Link>(link: &mut L, buffer: &mut [u8]) -> Option<Taken> {
+    for _ in 0..50 {
+        let taken = link.take(buffer).ok()?;
+        if taken != Taken::Idle {
+            return Some(taken);
         }
     }
     None
@@ -209,21 +251,31 @@ fn bytes_go_over_loopback(rt: HostRuntime) -> Result<(), Fail> {
         return Err(Fail::from("two doors"));
     };
     assert!(rt; matches!(second.knock(), Ok(None)), "nobody came yet");
-    let mut client = TcpStream::connect(&rt, ([127, 0, 0, 1], port + 1))?;
-    let Ok(Some(mut link)) = second.knock() else {
-        return Err(Fail::from("a client came"));
-    };
+    let mut client = TcpStream::connect(&rt, ("127.0.0.1", port))?;
+    let mut link = who_comes(&mut second).ok_or("a client")?;
     let mut buffer = [0; 8];
-    assert!(rt; link.take(&mut buffer) == Ok(Taken::Idle), "no byte is there");
+    assert!(rt;
+        link.take(&mut buffer) == Ok(Taken::Idle),
+        "no byte is there"
+    );
     client.write_all(b"abc")?;
     assert!(rt; link.take(&mut []) == Ok(Taken::Idle), "nothing is read");
-    assert!(rt; link.take(&mut buffer) == Ok(Taken::Bytes(3)) && buffer[..3] == [b'a', b'b', b'c']);
+    assert!(rt; what_comes(&mut link, &mut buffer) == Some(Taken::Bytes(3)));
+    assert!(rt; buffer[..3] == [b'a', b'b', b'c']);
     assert!(rt; link.put(b"de") == Ok(()));
     let mut reply = [0; 2];
     client.read_exact(&mut reply)?;
     assert!(rt; reply == [b'd', b'e']);
     drop(client);
-    assert!(rt; link.take(&mut buffer) == Ok(Taken::End), "the client is gone");
+    assert!(rt;
+        what_comes(&mut link, &mut buffer) == Some(Taken::End),
+        "the client is gone"
+    );
+    let mut fails = false;
+    for _ in 0..100 {
+        fails = fails || link.put(b"f").is_err();
+    }
+    assert!(rt; fails, "nobody is there to put to");
     second.back(link);
     Ok(())
 }
