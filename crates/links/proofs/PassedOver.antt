@@ -1,5 +1,5 @@
 -- What a script says that is over.
-use Rattle.std.proofs.Common.{◌≡◌, ℕ, ◌+◌, ◌-◌, ◌<◌, Bool, true, false, List, [], ◌∷◌, ◌++◌, length, get_or, take, drop, Option, Some, None, IfSome, min, sym, ap, ◌∙◌, if◌then◌else◌, append-nil, append_assoc, Vec, Global}
+use Rattle.std.proofs.Common.{◌≡◌, ℕ, ◌+◌, ◌-◌, ◌<◌, Bool, true, List, [], ◌∷◌, ◌++◌, length, get_or, take, drop, Option, Some, None, IfSome, min, sym, ap, ◌∙◌, if◌then◌else◌, append-nil, append_assoc, Vec, Global}
 use Rattle.std.proofs.Math.Seq.{take-add, take-nil}
 use Rattle.std.specs.List.{flat_map, slice_get}
 use Rattle.std.specs.Option.{option_map_or}

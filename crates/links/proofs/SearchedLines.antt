@@ -1,5 +1,5 @@
 -- A line that is looked for among bytes to which more come.
-use Rattle.std.proofs.Common.{◌≡◌, ℕ, ◌+◌, ◌-◌, ◌<◌, ◌≤◌, Bool, true, false, List, [], ◌∷◌, ◌++◌, length, take, drop, Option, MatchOption, refl, sym, ap, ◌∙◌, arith, append_assoc, append-nil, length-drop, length-append}
+use Rattle.std.proofs.Common.{◌≡◌, ℕ, ◌+◌, ◌-◌, ◌<◌, Bool, true, false, List, [], ◌∷◌, ◌++◌, length, take, drop, Option, MatchOption, refl, sym, ap, ◌∙◌, arith, append_assoc, append-nil, length-drop, length-append}
 use Rattle.std.specs.Prelude.{◌||◌, position}
 use Rattle.std.specs.List.{list_any, slice_split, onto_first}
 use Rattle.std.proofs.lemmas.Bool.{or_parts}
@@ -8,7 +8,7 @@ use Rattle.std.proofs.lemmas.List.Splits.{slice_split-cons_no, length-slice_spli
 use Rattle.floor_text.specs.HeldBytes.{IsFirstFeed}
 use Rattle.floor_text.specs.Lines.{is_line_feed, HasNoFeed, all_but_last}
 use Rattle.floor_text.proofs.HeldLists.{first_feed_found}
-use Rattle.links.specs.Lines.{begins_with, whole_lines, has_line, IsSearched}
+use Rattle.links.specs.Lines.{begins_with, has_line, IsSearched}
 
 splits_at : (line rest : List ℕ) → HasNoFeed line
     → slice_split is_line_feed (line ++ 10 ∷ rest) ≡ line ∷ slice_split is_line_feed rest

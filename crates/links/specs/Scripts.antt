@@ -1,5 +1,5 @@
 -- What a link in memory says, one thing after another. This project's own.
-use Rattle.std.specs.Prelude.{ℕ, ◌+◌, ◌-◌, nat_le, Bool, false, ◌||◌, List, [], ◌∷◌, ◌++◌, Option, IfSome, length, take, drop, min, if◌then◌else◌}
+use Rattle.std.specs.Prelude.{ℕ, ◌+◌, ◌-◌, nat_le, Bool, false, ◌||◌, List, [], ◌∷◌, ◌++◌, IfSome, length, take, drop, min, if◌then◌else◌}
 use Rattle.std.specs.List.{flat_map, slice_get}
 use Rattle.std.specs.Option.{option_map_or}
 use Rattle.floor_text.specs.Memory.{count_up}

@@ -1,5 +1,5 @@
 //! A hall in memory, which hands out its doors once.
-ghost use Rattle.std.specs.Prelude.{◌≡◌, ◌≢◌, ◌↔◌, ◌⊎◌, ◌+◌, ◌≤◌, [], IfOk, IfSome, IsTrue, OnErr, is_ok, length, vec_len, if◌then◌else◌};
+ghost use Rattle.std.specs.Prelude.{◌≡◌, ◌≢◌, ◌↔◌, ◌⊎◌, ◌+◌, ◌≤◌, [], IfOk, IfSome, IsTrue, OnErr, length, vec_len};
 ghost use Rattle.floor_text.specs.Memory.{count_up, next_fails};
 ghost use Rattle.floor_text.specs.Outside.{Rose};
 ghost use Rattle.links.specs.Links.{with_given, with_all_back};

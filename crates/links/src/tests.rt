@@ -161,7 +161,9 @@ fn first_byte(door: &mut MemDoor) -> Option<u8>
     ensures { length door.new.told.back ≡ length door.new.told.given }
 {
     let mut buffer = [0; 1];
-    let mut link = door.knock().ok()??;
+    let Ok(Some(mut link)) = door.knock() else {
+        return None;
+    };
     let taken = link.take(&mut buffer);
     door.back(link);
     match taken {

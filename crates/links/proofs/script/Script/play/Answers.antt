@@ -1,4 +1,4 @@
-use Rattle.std.proofs.Common.{◌≡◌, ℕ, List, ◌-◌, ◌<◌, ◌++◌, ◌∙◌, sym, ap, length, get_or, take, drop, min, arith, length-take, length-drop}
+use Rattle.std.proofs.Common.{◌≡◌, ℕ, List, ◌-◌, ◌<◌, ◌++◌, ◌∙◌, sym, ap, length, get_or, take, drop, min, arith}
 use Rattle.std.proofs.lemmas.Grind.{common_steps}
 use Rattle.links.specs.declared.say.Say.TheVariants.{Give}
 use Rattle.links.specs.Scripts.{place_of, given_by}
