@@ -1,0 +1,5 @@
+pub mod Limits
+pub mod Hellos
+pub mod Requests
+pub mod Meanings
+pub mod Replies
