@@ -113,6 +113,7 @@ module _ (k table : ℕ) (one other after : Stage) (tale : Tale) (history : List
   did-alike NoMemory did = record {
     lay_not = sym alike.lie ∙ did.lay_not;
     lies_not = did.lies_not;
+    asks = λ asks. alike.ask (did.asks asks);
     kept = λ some. did.kept (ap is_some alike.carry ∙ some);
     hand = λ hand is. did.hand hand is
         ∙ ap (λ (found : Option HandTerms). unwrap_or found (hand_begun tale table)) alike.carry;
@@ -214,6 +215,7 @@ module _ (before mid after : Worker) (at added : List JournalEntry) (begun : IsB
       record {
         lay_not = lay_not;
         lies_not = did.lies_not;
+        asks = λ asks. absurd (let never : true ≡ false = sym (did.asks asks) ∙ begun.idle in cc);
         kept = λ yes. some;
         hand = λ hand is. did.hand hand is
             ∙ (ap (λ (found : Option HandTerms). unwrap_or found (hand_begun tale table)) begun.carried
@@ -282,6 +284,7 @@ did-give_up k table before after tale history (faults.No refusal) refused lay_no
 did-give_up k table before after tale history faults.NoMemory refused lay_not none lies_not bare idle done = record {
   lay_not = lay_not;
   lies_not = lies_not;
+  asks = λ asks. absurd (let never : true ≡ false = sym asks ∙ idle in cc);
   kept = λ some. absurd (let never : true ≡ false = sym some ∙ ap is_some none in cc);
   hand = λ hand is. absurd (let never : None ≡ Some hand = sym bare ∙ is in cc);
   brought_begin = λ i. only_if (is_none (sym none i) && is_some (sym bare i)) (begin_entry k table tale);

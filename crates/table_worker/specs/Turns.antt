@@ -124,10 +124,12 @@ module _ (caller table : ℕ) (before after : Stage) (tale : Tale) (history : Li
     pub brought_begin : brought ≡ only_if (is_none (hand_carried before)) (begin_entry caller table tale)
     pub made_opening : made ≡ entries.Opened (hand_next table (hand_carried before) tale).start ∷ []
 
-  -- Memory ran out. The hand that was begun, before this turn or in it, stays with the worker.
+  -- Memory ran out. The hand that was begun, before this turn or in it, stays with the worker, and the order that is
+  -- owed is asked for next only where it was to be asked for in this turn.
   pub record RanOut : Type 0 where
     pub lay_not : does_lie before ≡ false
     pub lies_not : does_lie after ≡ false
+    pub asks : does_ask after ≡ true → does_ask before ≡ true
     pub kept : is_some (hand_carried before) ≡ true → is_some (hand_carried after) ≡ true
     pub hand : ForSome (hand_carried after) (λ hand. hand ≡ hand_next table (hand_carried before) tale)
     pub brought_begin : brought ≡ only_if (is_none (hand_carried before) && is_some (hand_carried after))

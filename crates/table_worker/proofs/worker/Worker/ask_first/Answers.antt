@@ -164,6 +164,7 @@ returns-in-NoMemory-clause-turn g c =
       did = record {
         lay_not = is.away;
         lies_not = c.ask-worker.ensures.stage.0;
+        asks = λ _. c.requires.asks;
         kept = λ some. absurd (let never : true ≡ false = sym some ∙ ap is_some is.none in cc);
         hand = λ hand there. absurd (let never : None ≡ Some hand = sym nothing ∙ there in cc);
         brought_begin = none ∙ (λ i. only_if (is_none (sym is.none i) && is_some (sym nothing i))

@@ -129,6 +129,7 @@ returns-in-Some-back-clause-turn g c =
       did = record {
         lay_not = is.away;
         lies_not = refl;
+        asks = λ asks. absurd (let never : false ≡ true = asks in cc);
         kept = λ some. refl;
         hand = λ found there. sym (same_Some c.in-Some-back.hand found there)
             ∙ (back ∙ ap (λ (found : Option HandTerms).
