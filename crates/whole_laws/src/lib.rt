@@ -1,7 +1,7 @@
 //! Laws of a whole journal, and of a journal and the histories of its tables together.
 //!
 //! It stands on `dock_rules`, `tournament_laws` and what these stand on, and has no code but the laws' functions: each
-//! law is the contract of a function that does nothing. Nothing that runs stands on it.
+//! law is the contract of a function that does nothing. No code calls it; proofs above cite its lemmas.
 #![tactic(auto)]
 
 mod journals;
