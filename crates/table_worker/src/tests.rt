@@ -30,19 +30,20 @@ use view_rules::TableEntry;
 const SEED: [u8; 32] = [7; 32];
 
 /// A gate that nobody watches.
-struct Open;
+#[derive(Drop)]
+pub(crate) struct Open;
 
 impl Gate for Open {
     fn held(&self, _table: u8) {}
 }
 
-/// The plan of so many tables of so many seats.
-fn plan(alloc: Global, tables: u64, seats: u64) -> Result<Plan, Fail> {
+/// The plan of so many tables of so many seats, with such stacks.
+pub(crate) fn plan(alloc: Global, tables: u64, seats: u64, stack: u64) -> Result<Plan, Fail> {
     let mut draft = PlanDraft::new(alloc);
     draft.line(&PlanLine::Game(Game::Holdem))?;
     draft.line(&PlanLine::Tables(tables))?;
     draft.line(&PlanLine::Seats(seats))?;
-    draft.line(&PlanLine::Stack(1000))?;
+    draft.line(&PlanLine::Stack(stack))?;
     draft.line(&PlanLine::Buyin(100))?;
     draft.line(&PlanLine::Late(1))?;
     draft.line(&PlanLine::Blinds(Blind {
@@ -72,7 +73,7 @@ fn open_book(alloc: Global, tables: u64, seats: u64) -> Result<(BookDock, BookPa
     ensures worker { IfOk result (λ made. (lock_of made.1 ≡ book_id made.0) × (own made.1 ≡ [])) }
     ensures floor { IfOk result (λ made. lock_of made.2 ≡ book_id made.0) }
 {
-    let plan = plan(alloc, tables, seats)?;
+    let plan = plan(alloc, tables, seats, 1000)?;
     let (book, passes) = make_book(alloc, plan, SEED, 2)?;
     let (worker, floor) = both(passes);
     Ok((book, worker, floor))

@@ -8,14 +8,13 @@ ghost use Rattle.book_dock.specs.Docks.{book_id};
 ghost use Rattle.table_worker.specs.declared.threads_tests.Role.TheVariants as roles;
 
 use super::*;
+use crate::tests::{Open, plan};
 use betting_round::Act;
 use book_dock::{Ask, AskAnswer, BookDock, BookPass, make_book};
-use card_set::Game;
 use floor_events::{Event, write_event, write_report};
 use floor_offline::run_offline;
-use floor_text::{List, MemSink, MemSource, Name};
+use floor_text::{MemSink, MemSource, Name};
 use history_lock::{Grows, Pass};
-use level_plan::{Blind, Plan, PlanDraft, PlanLine};
 use player_view::JournalEntry;
 use std::alloc::{AllocError, Global};
 use std::process::Abort;
@@ -23,7 +22,7 @@ use std::sync::Wait;
 use std::test::Fail;
 use std::thread;
 use std::thread::Threads;
-use table_dock::{Gate, TableDock, TablePass, make_dock};
+use table_dock::{TableDock, TablePass, make_dock};
 use table_engine::ActOf;
 use view_rules::TableEntry;
 
@@ -34,32 +33,8 @@ const ENTRIES: u64 = 9 + 6 + 2 * 1000 + 2;
 /// The players of both tables.
 const NAMES: [&[u8]; 6] = [b"ann", b"bob", b"cat", b"dan", b"eve", b"fay"];
 
-/// The plan of two tables of three seats, with stacks so deep that nobody goes out.
-fn plan(alloc: Global) -> Result<Plan, Fail> {
-    let mut draft = PlanDraft::new(alloc);
-    draft.line(&PlanLine::Game(Game::Holdem))?;
-    draft.line(&PlanLine::Tables(2))?;
-    draft.line(&PlanLine::Seats(3))?;
-    draft.line(&PlanLine::Stack(10_000_000))?;
-    draft.line(&PlanLine::Buyin(100))?;
-    draft.line(&PlanLine::Late(1))?;
-    draft.line(&PlanLine::Blinds(Blind {
-        small: 100,
-        big: 200,
-        unit: 100,
-    }))?;
-    let shares = Vec::from_slice(alloc, &[1000])?;
-    draft.line(&PlanLine::Shares(List::from_vec(shares)))?;
-    Ok(draft.go()?)
-}
-
-/// A gate that nobody asks.
-#[derive(Drop)]
-struct Open;
-
-impl Gate for Open {
-    fn held(&self, _table: u8) {}
-}
+/// Stacks so deep that nobody goes out.
+const DEEP: u64 = 10_000_000;
 
 /// What somebody does.
 #[derive(Clone, Copy, PartialEq, Eq)]
@@ -509,11 +484,11 @@ fn open_table(
     Ok((dock, first, others))
 }
 
-/// Opens the book, with the passes of all who work.
+/// Opens the book of two tables of three seats, with the passes of all who work.
 fn open_book(alloc: Global) -> Result<(BookDock, Vec<BookPass>), Fail>
     ensures { IfOk result (λ made. All (λ p. (lock_of p ≡ book_id made.0) × (own p ≡ [])) made.1.items) }
 {
-    let plan = plan(alloc)?;
+    let plan = plan(alloc, 2, 3, DEEP)?;
     let (book, passes) = make_book(alloc, plan, [7; 32], 11)?;
     let passes = idle_passes(passes);
     Ok((book, passes))
