@@ -1,14 +1,15 @@
 //! The dock: a table behind its lock.
 
-ghost use Rattle.std.specs.Prelude.{◌≡◌, ℕ, ◌<◌, ◌≤◌, ◌↔◌, [], All, Any, false, true, IfErr, IfOk, IfSome, IsErr, is_none, is_ok, is_some, length, take, vec_len, Some, if◌then◌else◌};
+ghost use Rattle.std.specs.Prelude.{◌≡◌, ℕ, ◌<◌, ◌≤◌, ◌↔◌, [], All, Any, false, true, IfErr, IfOk, IfSome, IsErr, is_none, is_ok, is_some, length, option_map, take, vec_len, Some, if◌then◌else◌};
 ghost use mathlib.Core.List.{IsPrefix};
 ghost use Rattle.history_lock.specs.Entries.{entries_by};
 ghost use Rattle.history_lock.specs.Holds.{Stands};
 ghost use Rattle.history_lock.specs.Passes.{IsSameButKnown, known, lock_of, opening_value, own, pass_number, seen};
+ghost use Rattle.table_engine.specs.Acts.{IsAnswer, time_act};
 ghost use Rattle.table_engine.specs.Hands.{is_over};
 ghost use Rattle.view_rules.specs.declared.entries.TableEntry.TheVariants as entries;
 ghost use Rattle.dock_rules.specs.Added.{only_if};
-ghost use Rattle.dock_rules.specs.Tables.{ActStandsAt, AreOfTable, HasItsChips, IsLegalTableHistory, TimeStandsAt, called_entries, lies, lying_hand, table_caller};
+ghost use Rattle.dock_rules.specs.Tables.{ActStandsAt, AreOfTable, HasItsChips, IsLegalTableHistory, TimeStandsAt, called_entries, lies, lying_hand, table_caller, time_refusal_at};
 ghost use Rattle.table_dock.specs.Telling.{IsRead};
 
 use crate::end::{TableEnd, Untold};
@@ -19,7 +20,7 @@ use floor_text::Name;
 use history_lock::{HistoryLock, NotAll, Pass};
 use player_view::TableTeller;
 use std::sync::Wait;
-use table_engine::{ActFault, Hand};
+use table_engine::{ActFault, ActOf, Hand};
 
 /// The right to enter the lock of a table.
 pub type TablePass = Pass<TableHold>;
@@ -35,6 +36,13 @@ pub struct TableDock {
 
 impl TableDock {
     ghost use Rattle.table_dock.specs.Docks.{dock_id, dock_passes, table_of};
+
+    /// Gives the number of the table.
+    pub fn table(&self) -> u8
+        ensures { result ≡ table_of self.now }
+    {
+        self.table
+    }
 
     /// Brings a hand before any act, where none lies. Want of memory hands it back.
     pub fn open_hand<R: Wait>(
@@ -100,6 +108,32 @@ impl TableDock {
         let caller = inside.number();
         let answer = inside.value_mut().time(caller);
         (self.lock.leave(inside), answer)
+    }
+
+    /// Calls time as `time` does, and gives the act that this makes for the player who is due.
+    pub fn call_time<R: Wait>(
+        &self,
+        rt: &R,
+        pass: TablePass,
+    ) -> (TablePass, Result<ActOf, ActFault>)
+        requires { lock_of pass ≡ dock_id self.now }
+        ensures stands { Stands pass result.0
+            (λ at added. IsAnswer (time_refusal_at at) result.1
+            × (IfOk result.1 (λ act. option_map time_act (lying_hand at) ≡ Some act)
+            × (added ≡ (if is_ok result.1 then called_entries (pass_number pass) at else [])))) }
+        ensures legal { IsLegalTableHistory (seen result.0) }
+        ensures chips { IfSome (lying_hand (seen result.0)) HasItsChips }
+    {
+        let mut inside = self.lock.enter(rt, pass);
+        let caller = inside.number();
+        let act = inside.value().called();
+        let answer = inside.value_mut().time(caller);
+        let pass = self.lock.leave(inside);
+        match (answer, act) {
+            (Ok(_), Some(act)) => (pass, Ok(act)),
+            (Ok(_), None) => unreachable!(),
+            (Err(fault), _) => (pass, Err(fault)),
+        }
     }
 
     /// Takes the hand that lies there away, exactly where it is over. It takes no memory.

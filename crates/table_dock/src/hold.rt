@@ -1,10 +1,11 @@
 //! What lies behind the lock of a table: its history, and the hand that lies there.
 
-ghost use Rattle.std.specs.Prelude.{◌≡◌, ◌++◌, ◌≤◌, [], length, take, false, true, Some, None, IfOk, IfSome, IsSome, is_none, is_ok, is_some, if◌then◌else◌};
+ghost use Rattle.std.specs.Prelude.{◌≡◌, ◌++◌, ◌≤◌, [], length, take, false, true, Some, None, IfOk, IfSome, IsNone, IsSome, is_none, is_ok, is_some, option_map, if◌then◌else◌};
+ghost use Rattle.table_engine.specs.Acts.{time_act};
 ghost use Rattle.table_engine.specs.Hands.{is_over};
 ghost use Rattle.view_rules.specs.declared.entries.TableEntry.TheVariants as entries;
 ghost use Rattle.dock_rules.specs.Added.{only_if};
-ghost use Rattle.dock_rules.specs.Tables.{ActStandsAt, IsSoundTable, TimeStandsAt, called_entries, lying_hand, table_caller};
+ghost use Rattle.dock_rules.specs.Tables.{ActStandsAt, IsSoundTable, TimeStandsAt, called_entries, lying_hand, table_caller, time_refusal_at};
 ghost use Rattle.table_dock.specs.Telling.{IsRead};
 
 use crate::called::called_act;
@@ -120,6 +121,14 @@ impl TableHold {
         self.entries
             .push_reserved(TableEntry::Acted { caller, act });
         Ok(done)
+    }
+
+    /// Finds the act that a called time makes now. `None` only where the called time is refused.
+    pub(crate) fn called(&self) -> Option<ActOf>
+        ensures act { IfSome result (λ act. option_map time_act (lying_hand self.now) ≡ Some act) }
+        ensures none { IsNone result → IsSome (time_refusal_at self.now) }
+    {
+        called_act(self.hand.as_ref()?).ok()
     }
 
     /// Takes the hand away, if one lies there. It takes no memory.
