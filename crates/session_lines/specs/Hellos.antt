@@ -1,5 +1,5 @@
 -- How somebody says hello in a session. This project's own.
-use Rattle.std.specs.Prelude.{ℕ, List, [], ◌∷◌, codes, Option, Some, None, option_and_then, if◌then◌else◌}
+use Rattle.std.specs.Prelude.{ℕ, List, [], ◌∷◌, codes, Option, Some, None, if◌then◌else◌}
 use Rattle.std.specs.Str.{bytes_eq}
 use Rattle.line_words.specs.Words.{words_of_line}
 use Rattle.line_words.specs.Fields.{◌>>=◌, name_of}
@@ -11,8 +11,8 @@ use Rattle.session_lines.specs.declared.hello.Speaker.TheVariants.{Floor, Player
 abbrev pub if_word : List ℕ → List ℕ → Speaker → Option Speaker
 if_word right word speaker = if bytes_eq word right then Some speaker else None
 
--- Who says hello by a name and a word: the floor where it is the floor's word, and a player where the plan file has that
--- word for that name. No player is named floor.
+-- Who says hello by a name and a word: the floor where it is the floor's word, and a player where the plan file has
+-- that word for that name. No player is named floor.
 abbrev pub speaker_named : WordTerms → List ℕ → List ℕ → Option Speaker
 speaker_named words name word =
     if bytes_eq name (codes "floor") then if_word words.floor word Floor else do

@@ -9,8 +9,8 @@ use Rattle.session_lines.specs.declared.meaning.Meaning.TheVariants.{Quit, Hello
 use Rattle.session_lines.specs.Hellos.{hello_of}
 use Rattle.session_lines.specs.Requests.{request_of}
 
--- what a line means that is not the one that ends the session: before a right hello it is one, or comes from a stranger;
--- behind it, it asks for something or is in no grammar
+-- what a line means that is not the one that ends the session: before a right hello it is one, or comes from a
+-- stranger; behind it, it asks for something or is in no grammar
 abbrev pub said_by : WordTerms → Option Speaker → List ℕ → Meaning
 said_by words None line = option_map_or Hello (hello_of words line) Stranger
 said_by words (Some speaker) line = option_map_or Asks (request_of speaker line) Nonsense

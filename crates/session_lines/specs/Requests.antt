@@ -1,8 +1,7 @@
 -- What the lines of a session ask for: the grammar of a player and that of the floor. This project's own.
-use Rattle.std.specs.Prelude.{ℕ, List, [], ◌∷◌, ◌++◌, codes, Option, map, option_map}
+use Rattle.std.specs.Prelude.{ℕ, List, [], ◌∷◌, codes, Option}
 use Rattle.line_words.specs.Words.{words_of_line}
 use Rattle.line_words.specs.Rows.{a_number, a_name, a_switch, no_field, last, ◌▸◌, an_act, Row, row, read_words}
-use Rattle.dock_rules.specs.declared.asks.Ask.{Ask}
 use Rattle.dock_rules.specs.declared.asks.Ask.TheVariants as asks
 use Rattle.session_lines.specs.declared.hello.Speaker.{Speaker}
 use Rattle.session_lines.specs.declared.hello.Speaker.TheVariants.{Floor, Player}

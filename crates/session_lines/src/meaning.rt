@@ -22,8 +22,8 @@ pub enum Meaning {
     Asks(Request),
 }
 
-/// Tells what a line means where `speaker` speaks, or nobody before a right hello. `None` stands for a line of more than
-/// 400 bytes.
+/// Tells what a line means where `speaker` speaks, or nobody before a right hello. `None` stands for a line of more
+/// than 400 bytes.
 #[tactic(auto, unfolding(crate::specs::Meanings::meaning_of))]
 pub fn read_line(words: &Words, speaker: Option<Speaker>, line: Option<&[u8]>) -> Meaning
     ensures { result ≡ meaning_of words.now speaker (option_map (λ line. line.now) line.entry) }

@@ -1,6 +1,6 @@
 //! Replies, and their text.
 
-ghost use Rattle.std.specs.Prelude.{◌≡◌, ◌+◌, ◌≤◌, ◌++◌, [], IfOk, length};
+ghost use Rattle.std.specs.Prelude.{◌≡◌, ◌+◌, ◌≤◌, ◌<◌, ◌++◌, [], ◌∷◌, IfOk, length};
 ghost use Rattle.session_lines.specs.Replies.{refusal_words, reply_words, behind_words, reply_line};
 ghost use Rattle.session_lines.specs.Limits.{longest_reply};
 
@@ -22,6 +22,17 @@ pub enum Reply {
     NoOrder,
     /// Memory ran out, and nothing was done.
     NoMemory,
+}
+
+/// Gives what a reply says where its news is behind: nothing where memory ran out for the line itself.
+fn behind_words(reply: Reply, behind: bool) -> &'static [u8]
+    ensures { result.now ≡ behind_words reply behind }
+{
+    match reply {
+        Reply::NoMemory => b"",
+        _ if behind => b" behind",
+        _ => b"",
+    }
 }
 
 /// The text of one reply. It has room for the longest. Contracts see it as its bytes.
@@ -88,15 +99,12 @@ impl ReplyText {
         }
     }
 
-    fn push_behind(&mut self, reply: Reply, behind: bool)
-        requires { length self.old + length (behind_words reply behind) ≤ longest_reply }
-        ensures { self.new ≡ self.old ++ behind_words reply behind }
+    fn push_end(&mut self, reply: Reply, behind: bool)
+        requires { length self.old + length (behind_words reply behind) < longest_reply }
+        ensures { self.new ≡ self.old ++ (behind_words reply behind ++ 10 ∷ []) }
     {
-        match reply {
-            Reply::NoMemory => {}
-            _ if behind => self.push(b" behind"),
-            _ => {}
-        }
+        self.push(behind_words(reply, behind));
+        self.push(b"\n");
     }
 
     /// Writes a reply in place of the one before, with its line feed. Where its news is behind, it says so. It takes no
@@ -108,7 +116,6 @@ impl ReplyText {
         self.bytes.clear();
         self.push(b"= ");
         self.push_words(reply);
-        self.push_behind(reply, behind);
-        self.push(b"\n");
+        self.push_end(reply, behind);
     }
 }
