@@ -2,6 +2,7 @@
 
 ghost use Rattle.std.specs.Prelude.{◌≡◌, ◌≤◌, ◌++◌, ℕ, List, [], false, true, length, Option, IfOk, IfSome, IfNone, is_ok, is_some};
 ghost use Rattle.rulebook.specs.Checks.{IsChecked};
+ghost use Rattle.rulebook.specs.Limits.{most_seats};
 ghost use Rattle.floor_text.specs.declared.refusal.Refusal.{Refusal};
 ghost use Rattle.level_plan.specs.Items.{is_between};
 ghost use Rattle.balance_rule.specs.Filling.{lacks_room};
@@ -34,7 +35,7 @@ use std::alloc::{AllocError, Global};
 /// Gives the slots of a table of any number, by seat: who sits there, if one does.
 fn slots_at(seats: &SeatBook, table: u64) -> &[Option<Seated>]
     ensures players { players_in result.now ≡ players_at seats.now.players table }
-    ensures few { length result.now ≤ 10 }
+    ensures few { length result.now ≤ most_seats }
 {
     let count = u64::from(seats.table_count());
     if table == 0 {

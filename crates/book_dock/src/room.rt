@@ -1,23 +1,22 @@
 //! Room for the stacks that are told of a hand or of a table.
 
 ghost use Rattle.std.specs.Prelude.{◌≡◌, ◌+◌, ◌≤◌, [], ◌∷◌, ◌++◌, length, map, vec_capacity, vec_len};
+ghost use Rattle.rulebook.specs.Limits.{most_seats};
 ghost use Rattle.seat_book.specs.Players.{players_in};
 ghost use Rattle.view_rules.specs.Lines.{stack_after, stack_at_rest};
 
 use player_view::StackLine;
+use rulebook::MOST_SEATS;
 use seat_book::{Place, Seated};
 use std::alloc::{AllocError, Global};
 use table_engine::StartSeat;
-
-/// The most players of a table.
-const MOST_SEATS: usize = 10;
 
 /// An empty list that has room for the stacks of a table's players.
 #[derive(Debug, Drop)]
 pub(crate) struct StackRoom {
     lines: Vec<StackLine>,
     pub ghost empty: { lines.items ≡ [] },
-    pub ghost room: { 10 ≤ vec_capacity lines },
+    pub ghost room: { most_seats ≤ vec_capacity lines },
 }
 
 /// Makes the line of the stack that a player of a hand at a table has after it.
@@ -60,13 +59,13 @@ fn push_slot(slot: &Option<Seated>, lines: &mut Vec<StackLine>)
 impl StackRoom {
     /// Takes the room.
     pub(crate) fn new(alloc: Global) -> Result<StackRoom, AllocError> {
-        let lines = Vec::with_capacity(alloc, MOST_SEATS)?;
+        let lines = Vec::with_capacity(alloc, MOST_SEATS as usize)?;
         Ok(StackRoom { lines })
     }
 
     /// Lists the stacks that the players of a hand have after it. It takes no memory.
     pub(crate) fn after_hand(self, table: u8, players: &[StartSeat]) -> Vec<StackLine>
-        requires { length players.now ≤ 10 }
+        requires { length players.now ≤ most_seats }
         ensures { result.items ≡ map (stack_after table) players.now }
     {
         let StackRoom { mut lines } = self;
@@ -78,7 +77,7 @@ impl StackRoom {
 
     /// Lists the stacks of those who sit in slots. It takes no memory.
     pub(crate) fn at_rest(self, slots: &[Option<Seated>]) -> Vec<StackLine>
-        requires { length slots.now ≤ 10 }
+        requires { length slots.now ≤ most_seats }
         ensures { result.items ≡ map stack_at_rest (players_in slots.now) }
     {
         let StackRoom { mut lines } = self;

@@ -1,6 +1,7 @@
 //! A hand is settled.
 
 ghost use Rattle.std.specs.Prelude.{◌≡◌, ◌++◌, ◌≤◌, length, map, not, IfSome};
+ghost use Rattle.rulebook.specs.Limits.{most_seats};
 ghost use Rattle.table_engine.specs.Plays.{IsCompletePlay};
 ghost use Rattle.table_engine.specs.Results.{with_stacks};
 ghost use Rattle.floor_events.specs.declared.event.Event.TheVariants as events;
@@ -34,7 +35,7 @@ fn stacks_told(
     stacks: List<u64>,
 ) -> Vec<StackLine>
     requires each { length stacks ≡ length start.seats }
-    requires few { length (with_stacks start.seats stacks) ≤ 10 }
+    requires few { length (with_stacks start.seats stacks) ≤ most_seats }
     ensures { result.items ≡ map (stack_after start.table) (with_stacks start.seats stacks) }
 {
     let acts = List::new(alloc);

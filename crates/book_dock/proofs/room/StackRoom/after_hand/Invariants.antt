@@ -1,4 +1,5 @@
 use Rattle.std.proofs.Common.{◌≡◌, ◌≤◌, map, take, vec_capacity}
+use Rattle.rulebook.specs.Limits.{most_seats}
 use Rattle.view_rules.specs.Lines.{stack_after}
 use Rattle.book_dock.proofs.room.StackRoom.after_hand.Given as goal
 
@@ -6,5 +7,5 @@ use Rattle.book_dock.proofs.room.StackRoom.after_hand.Given as goal
 abbrev pub invariant-loop-player : goal.invariant-loop-player
 invariant-loop-player l = record {
   made : l.lines.items ≡ map (stack_after l.table) (take l.player-index l.players);
-  room : 10 ≤ vec_capacity l.lines;
+  room : most_seats ≤ vec_capacity l.lines;
 }
