@@ -256,7 +256,7 @@ impl BookDock {
         ensures own { IfOk result
             (λ end. All (λ p. entries_by journal_caller (pass_number p) (journal_of end) ≡ own p) passes.items) }
 
-        // Each number of the dock's passes is that of a pass that was given, and behind the opening they made all entries.
+        // Each number of the dock's passes is that of a pass that was given, and they made all behind the opening.
         ensures numbers { IfOk result
             (λ _. (k : ℕ) → k < book_passes self → Any (λ p. pass_number p ≡ k) passes.items) }
         ensures grown { IfOk result
