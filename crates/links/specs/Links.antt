@@ -1,5 +1,5 @@
 -- What the calls of a link, a door and a hall do to what is told. This project's own.
-use Rattle.std.specs.Prelude.{◌≡◌, ℕ, ◌<◌, ◌≤◌, true, List, [], ◌∷◌, ◌++◌, take, Option, Some, None, Result, Ok, Err, MatchResult}
+use Rattle.std.specs.Prelude.{◌≡◌, ℕ, ◌<◌, ◌≤◌, true, List, [], ◌∷◌, ◌++◌, length, take, Option, Some, None, IfSome, Result, Ok, Err, MatchResult}
 use Rattle.floor_text.specs.declared.outside.Failed.{Failed}
 use Rattle.floor_text.specs.Memory.{count_up}
 use Rattle.links.specs.declared.link.Taken.{Taken}
@@ -41,6 +41,10 @@ module _ {L : Type 0} where
   after_knock (Ok (Some link)) t = record t { knocks = count_up t.knocks; given = t.given ++ link ∷ [] }
   after_knock (Ok None) t = record t { knocks = count_up t.knocks }
   after_knock (Err failed) t = record t { knocks = count_up t.knocks }
+
+  -- a link that was given is not back yet, where the door tells
+  abbrev pub IsLinkOut : Option (DoorTelling L) → Type 0
+  IsLinkOut told = IfSome told (λ t. length t.back < length t.given)
 
   -- a link came back
   abbrev pub with_back : L → DoorTelling L → DoorTelling L

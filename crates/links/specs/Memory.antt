@@ -34,8 +34,9 @@ pub record MemoryDoor : Type 0 where
   pub failing : List ℕ
   pub faults : ℕ
 
--- there is room for the links that are given and for those that come back
-pub record IsMemoryDoor (waiting given given_room back_room : ℕ) : Type 0 where
+-- no more links are back than were given, and there is room for those that are given and for those that come back
+pub record IsMemoryDoor (waiting given back given_room back_room : ℕ) : Type 0 where
+  pub fewer : back ≤ given
   pub room_for_given : given + waiting ≤ given_room
   pub room_for_back : given + waiting ≤ back_room
 

@@ -1,8 +1,8 @@
 //! Where clients come in.
-ghost use Rattle.std.specs.Prelude.{◌≡◌, ℕ, ◌<◌, Option, IfSome, OnOk, length, option_map};
+ghost use Rattle.std.specs.Prelude.{◌≡◌, ℕ, Option, IfOk, OnOk, OnSome, option_map};
 ghost use Rattle.floor_text.specs.Outside.{HasCause};
 ghost use Rattle.links.specs.Telling.{DoorTelling};
-ghost use Rattle.links.specs.Links.{after_knock, with_back};
+ghost use Rattle.links.specs.Links.{IsLinkOut, after_knock, with_back};
 
 use crate::link::Link;
 use floor_text::Failed;
@@ -18,16 +18,17 @@ pub trait Door {
     /// How often it failed. The count never falls, and stands still at its type's end.
     ghost faults: { Self → ℕ };
 
-    /// Gives the link of the next client, or `None` where nobody came. The count of faults rises in a knock that fails,
-    /// and in no other.
+    /// Gives the link of the next client, or `None` where nobody came. A link that it gives is out. The count of faults
+    /// rises in a knock that fails, and in no other.
     fn knock(&mut self) -> Result<Option<Self::L>, Failed>
         ensures told { told self.new ≡ option_map (after_knock result) (told self.old) }
+        ensures out { IfOk result (λ came. OnSome came (IsLinkOut (told self.new))) }
         ensures cause { HasCause (faults self.old) (faults self.new) result }
         ensures steady { OnOk result (faults self.new ≡ faults self.old) };
 
     /// Takes back a link that is out. It takes no memory.
     fn back(&mut self, link: Self::L)
-        requires { IfSome (told self.old) (λ t. length t.back < length t.given) }
+        requires { IsLinkOut (told self.old) }
         ensures told { told self.new ≡ option_map (with_back link) (told self.old) }
         ensures faults { faults self.new ≡ faults self.old };
 }

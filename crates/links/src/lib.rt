@@ -9,6 +9,7 @@
 //! | `Link::take` | what came fits the buffer; what is told follows from the answer; after an End no byte comes |
 //! | `Link::put` | all bytes are put, or where it fails a front of them |
 //! | `Door::knock`, `Door::back` | what is told follows from the answer; the count rises in a knock that fails alone |
+//! | `Door::knock` | a link that it gives is out, so that it may come back |
 //! | `Hall::doors`, `Hall::back` | as many doors as were asked for, and what is told of them |
 //! | `MemLink::new`, its `take` and `put` | the script is played (`play`), with the calls that fail and no others |
 //! | `MemDoor::new`, its `knock` | the links come in order and then none, with the knocks that fail and no others |

@@ -1,9 +1,9 @@
 //! A door in memory, which hands out its links in order.
-ghost use Rattle.std.specs.Prelude.{◌≡◌, ◌↔◌, ◌<◌, [], IfOk, IfSome, IsErr, IsOk, IsTrue, OnOk, drop, is_err, length, if◌then◌else◌};
+ghost use Rattle.std.specs.Prelude.{◌≡◌, ◌↔◌, [], IfOk, IsErr, IsOk, IsTrue, OnOk, OnSome, drop, is_err, if◌then◌else◌};
 ghost use Rattle.std.specs.List.{slice_get};
 ghost use Rattle.floor_text.specs.Memory.{count_up, next_fails};
 ghost use Rattle.floor_text.specs.Outside.{HasCause};
-ghost use Rattle.links.specs.Links.{after_knock, with_back};
+ghost use Rattle.links.specs.Links.{IsLinkOut, after_knock, with_back};
 
 use crate::door::Door;
 use crate::mem_link::MemLink;
@@ -43,7 +43,8 @@ impl Model for MemDoor {
     } };
 
     ghost invariant = { λ d.
-        IsMemoryDoor (vec_len d.waiting) (vec_len d.given) (vec_capacity d.given) (vec_capacity d.back) };
+        IsMemoryDoor (vec_len d.waiting) (vec_len d.given) (vec_len d.back) (vec_capacity d.given)
+        (vec_capacity d.back) };
 }
 
 impl MemDoor {
@@ -82,6 +83,7 @@ impl Door for MemDoor {
     /// Gives the next link, or `None` where all were given. It fails exactly at the knocks that are to fail.
     fn knock(&mut self) -> Result<Option<MemLink>, Failed>
         ensures told { Some self.new.told ≡ Some (after_knock result self.old.told) }
+        ensures out { IfOk result (λ came. OnSome came (IsLinkOut (Some self.new.told))) }
         ensures cause { HasCause self.old.faults self.new.faults result }
         ensures steady { OnOk result (self.new.faults ≡ self.old.faults) }
 
@@ -106,7 +108,7 @@ impl Door for MemDoor {
     }
 
     fn back(&mut self, link: MemLink)
-        requires { IfSome (Some self.old.told) (λ t. length t.back < length t.given) }
+        requires { IsLinkOut (Some self.old.told) }
         ensures told { Some self.new.told ≡ Some (with_back link self.old.told) }
         ensures faults { self.new.faults ≡ self.old.faults }
 

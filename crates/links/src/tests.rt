@@ -1,5 +1,3 @@
-ghost use Rattle.std.specs.Prelude.{◌≡◌, [], IfOk, length};
-
 use crate::{
     Door, Hall, HallFault, Link, MemDoor, MemHall, MemLink, Say, Taken, Tape, TcpDoor, TcpHall,
 };
@@ -147,19 +145,14 @@ fn a_link_may_stand_round_another(rt: HostRuntime) -> Result<(), Fail> {
 }
 
 /// A door with two links, which give `a` and `b`.
-fn door_of(alloc: Global, failing: Vec<u64>) -> Result<MemDoor, AllocError>
-    ensures { IfOk result (λ door. door.told ≡ record { knocks = 0; given = []; back = [] }) }
-{
+fn door_of(alloc: Global, failing: Vec<u64>) -> Result<MemDoor, AllocError> {
     let (first, _tape) = link_of(alloc, vec![in alloc; give(alloc, b"a")?]?)?;
     let (second, _tape) = link_of(alloc, vec![in alloc; give(alloc, b"b")?]?)?;
     MemDoor::new(alloc, vec![in alloc; first, second]?, failing)
 }
 
 /// Lets one client in and out again, and answers the byte that the client gives first.
-fn first_byte(door: &mut MemDoor) -> Option<u8>
-    requires { length door.old.told.back ≡ length door.old.told.given }
-    ensures { length door.new.told.back ≡ length door.new.told.given }
-{
+fn first_byte(door: &mut MemDoor) -> Option<u8> {
     let mut buffer = [0; 1];
     let Ok(Some(mut link)) = door.knock() else {
         return None;
