@@ -1,0 +1,11 @@
+pub mod Moves
+pub mod Desks
+pub mod Exchanges
+pub mod Answers
+pub mod Standings
+pub mod Asking
+pub mod Telling
+pub mod Inboxes
+pub mod Turns
+pub mod Talks
+pub mod Works
