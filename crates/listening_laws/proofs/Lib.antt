@@ -1,0 +1,9 @@
+pub mod HandLines
+pub mod Tellings
+pub mod LineParts
+pub mod InWhole
+pub mod UnderWay
+pub mod TableAlong
+pub mod FloorAlong
+pub mod TheParts
+pub mod ToldClients
