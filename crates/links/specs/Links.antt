@@ -1,5 +1,5 @@
 -- What the calls of a link, a door and a hall do to what is told. This project's own.
-use Rattle.std.specs.Prelude.{◌≡◌, ℕ, ◌<◌, ◌≤◌, true, List, [], ◌∷◌, ◌++◌, length, take, Option, Some, None, IfSome, Result, Ok, Err, MatchResult}
+use Rattle.std.specs.Prelude.{◌≡◌, ℕ, ◌+◌, ◌<◌, ◌≤◌, true, List, [], ◌∷◌, ◌++◌, length, take, Option, Some, None, IfSome, Result, Ok, Err, MatchResult}
 use Rattle.floor_text.specs.declared.outside.Failed.{Failed}
 use Rattle.floor_text.specs.Memory.{count_up}
 use Rattle.links.specs.declared.link.Taken.{Taken}
@@ -54,6 +54,10 @@ module _ {D : Type 0} where
   -- these doors were given
   abbrev pub with_given : List D → HallTelling D → HallTelling D
   with_given doors t = record t { given = t.given ++ doors }
+
+  -- so many of the doors that were given are not back yet, where the hall tells
+  abbrev pub AreDoorsOut : ℕ → Option (HallTelling D) → Type 0
+  AreDoorsOut count told = IfSome told (λ t. length t.back + count ≤ length t.given)
 
   -- these doors came back
   abbrev pub with_all_back : List D → HallTelling D → HallTelling D

@@ -1,8 +1,8 @@
 //! A hall in memory, which hands out its doors once.
-ghost use Rattle.std.specs.Prelude.{◌≡◌, ◌≢◌, ◌↔◌, ◌⊎◌, ◌+◌, ◌≤◌, [], IfOk, IfSome, IsTrue, OnErr, length, vec_len};
+ghost use Rattle.std.specs.Prelude.{◌≡◌, ◌≢◌, ◌↔◌, ◌⊎◌, ◌≤◌, [], IfOk, IsTrue, OnErr, length, vec_len};
 ghost use Rattle.floor_text.specs.Memory.{count_up, next_fails};
 ghost use Rattle.floor_text.specs.Outside.{Rose};
-ghost use Rattle.links.specs.Links.{with_given, with_all_back};
+ghost use Rattle.links.specs.Links.{AreDoorsOut, with_given, with_all_back};
 
 use crate::hall::{Hall, HallFault};
 use crate::mem_door::MemDoor;
@@ -77,6 +77,7 @@ impl Hall for MemHall {
     fn doors(&mut self, alloc: Global, _port: u16, n: u32) -> Result<Vec<MemDoor>, HallFault>
         ensures count { IfOk result (λ doors. vec_len doors ≡ n) }
         ensures told { IfOk result (λ doors. Some self.new.told ≡ Some (with_given doors.items self.old.told)) }
+        ensures out { IfOk result (λ doors. AreDoorsOut (vec_len doors) (Some self.new.told)) }
         ensures kept { OnErr result (Some self.new.told ≡ Some self.old.told) }
         ensures later { self.old.faults ≤ self.new.faults }
         ensures cause { result ≡ Err HallFault.Failed → Rose self.old.faults self.new.faults }
@@ -114,7 +115,7 @@ impl Hall for MemHall {
     }
 
     fn back(&mut self, doors: Vec<MemDoor>)
-        requires { IfSome (Some self.old.told) (λ t. length t.back + vec_len doors ≤ length t.given) }
+        requires { AreDoorsOut (vec_len doors) (Some self.old.told) }
         ensures told { Some self.new.told ≡ Some (with_all_back doors.items self.old.told) }
         ensures faults { self.new.faults ≡ self.old.faults }
 
