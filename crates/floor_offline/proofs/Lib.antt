@@ -3,4 +3,4 @@ pub mod Running
 pub mod Counted
 pub mod AnswersTold
 pub mod ViewTold
-pub mod Ended
+pub mod Fronts

@@ -19,8 +19,8 @@ use Rattle.floor_text.proofs.ReadLines.{HasNoFeed-take, whole_no_feed, held_on}
 use Rattle.floor_events.specs.declared.event.Item.{Item}
 use Rattle.tournament_rules.specs.States.{State, first_state}
 use Rattle.tournament_rules.specs.Replay.{item_of_cut, state_after_item, state_after_items}
-use Rattle.floor_offline.specs.declared.fault.Fault.TheVariants as faults
-use Rattle.floor_offline.specs.Endings.{fault_of_read_end}
+use Rattle.command_lines.specs.declared.fault.Fault.TheVariants as faults
+use Rattle.command_lines.specs.Endings.{fault_of_read_end}
 use Rattle.floor_offline.specs.Handed.{item_of_next}
 use Rattle.floor_offline.specs.Limits.{input_limit}
 use Rattle.floor_offline.specs.Told.{Telling, items_told, text_told, stream_told, lines_told}

@@ -13,13 +13,14 @@ use Rattle.floor_text.specs.declared.line_reader.Next.{Next}
 use Rattle.floor_text.specs.declared.line_reader.Next.TheVariants.{End}
 use Rattle.level_plan.specs.declared.line.PlanItem.{PlanItem}
 use Rattle.tournament_rules.specs.States.{State, first_state}
-use Rattle.floor_offline.specs.declared.fault.Fault.{Fault}
-use Rattle.floor_offline.specs.declared.fault.Fault.TheVariants as faults
+use Rattle.command_lines.specs.declared.fault.Fault.{Fault}
+use Rattle.command_lines.specs.declared.fault.Fault.TheVariants as faults
+use Rattle.command_lines.specs.Limits.{GivesMore}
 use Rattle.floor_offline.specs.Limits.{input_limit}
-use Rattle.floor_offline.specs.Endings.{fault_status, IsOfReading, IsOfWriting, LetsGo}
+use Rattle.command_lines.specs.Endings.{fault_status, IsOfReading, IsOfWriting, LetsGo}
 use Rattle.tournament_rules.specs.Valid.{IsValidState}
 use Rattle.tournament_rules.proofs.Steps.{valid_first_state}
-use Rattle.floor_offline.specs.Promise.{Keeps, Counts, IsCounted, IsTelling, IsToldOf, TakesAndPuts, GivesMore}
+use Rattle.floor_offline.specs.Promise.{Keeps, Counts, IsCounted, IsTelling, IsToldOf, TakesAndPuts}
 use Rattle.floor_offline.specs.Told.{Telling, lines_told, stream_told}
 use Rattle.floor_offline.proofs.Promises.{fail_end, front_of, not_both, stream_of_lines, told_all, told_front}
 
@@ -144,7 +145,8 @@ pub starts : (telling : Telling) (state : State) (old new : Reading) (next : Nex
     → ((first : Option (List ℕ)) → IsCounted first left old → IsCounted first rest new)
     → new.limit ≡ old.limit → (next ≡ End → new.ended ≡ true) → first_input ≤ input
     → IsRunning telling telling left rest written written next new first_input input out out state
-starts telling state old new next left rest written first_input input out fresh first told ahead counts limit end later =
+starts telling state old new next left rest written first_input input out fresh first told ahead counts limit end later
+    =
     let limited : old.limit ≡ input_limit = ap (λ (reader : Reading). reader.limit) fresh in
     let most : bytes_ahead old ≡ input_limit + 1 = ap bytes_ahead fresh in
     let none : state.accepted ≡ 0 = ap (λ (now : State). now.accepted) first in
@@ -197,7 +199,10 @@ ends_in_fault telling first left before written now state reader (Err faults.Wri
 ends_in_fault telling first left before written now state reader (Err faults.NoMemory) ended tells puts memory others =
     rw (memory refl)
     (both_from first before (λ bytes text on. told_front telling bytes text state left written [] reader on) tells)
-ends_in_fault telling first left before written now state reader (Err (faults.Plan item)) ended tells puts memory others =
+ends_in_fault telling first left before written now state reader (Err
+    (faults.Plan item)) ended tells puts memory others =
+    absurd others
+ends_in_fault telling first left before written now state reader (Err faults.Hall) ended tells puts memory others =
     absurd others
 ends_in_fault telling first left before written now state reader (Err faults.InputTooLong) ended tells puts memory
     others = absurd others
@@ -306,46 +311,56 @@ pub err_so : {T E : Type 0} (result : Result T E) (error : E) (P : T → Type 0)
 err_so (Ok value) error P Q is holds = absurd is
 err_so (Err other) error P Q is holds = subst Q (sym is) holds
 
--- a fault's status is one of those told
-pub status_of_fault : (fault : Fault) → Contains (0 ∷ 2 ∷ 3 ∷ 4 ∷ 5 ∷ 6 ∷ 8 ∷ []) (fault_status fault)
-status_of_fault faults.Usage = (1, omega arith, refl)
-status_of_fault faults.Read = (2, omega arith, refl)
-status_of_fault faults.Write = (3, omega arith, refl)
-status_of_fault faults.NoMemory = (4, omega arith, refl)
-status_of_fault (faults.Plan item) = (5, omega arith, refl)
-status_of_fault faults.InputTooLong = (6, omega arith, refl)
+-- the status of a fault, which is not a hall's, is one of those told
+pub status_of_fault : (fault : Fault) → (fault ≡ faults.Hall → ⊥)
+    → Contains (0 ∷ 2 ∷ 3 ∷ 4 ∷ 5 ∷ 6 ∷ 8 ∷ []) (fault_status fault)
+status_of_fault faults.Usage no_hall = (1, omega arith, refl)
+status_of_fault faults.Read no_hall = (2, omega arith, refl)
+status_of_fault faults.Write no_hall = (3, omega arith, refl)
+status_of_fault faults.NoMemory no_hall = (4, omega arith, refl)
+status_of_fault (faults.Plan item) no_hall = (5, omega arith, refl)
+status_of_fault faults.Hall no_hall = absurd (no_hall refl)
+status_of_fault faults.InputTooLong no_hall = (6, omega arith, refl)
 
 -- A run that was closed ended by its own fault or a late failure of out. Where that is no write fault, out holds back
 -- nothing of what was put.
 pub lets_go : {S : Type 0} (held : S → List ℕ) (first mid now : S) (ran closed : Result (Unit {0}) Fault)
     (fault : Fault) (late : Type 0) → closed ≡ Err fault → (closed ≡ ran) ⊎ ((closed ≡ Err faults.Write) × late)
     → (ran ≡ Err faults.Usage → ⊥) → ((item : PlanItem) → ran ≡ Err (faults.Plan item) → ⊥)
+    → (ran ≡ Err faults.Hall → ⊥)
     → IfErr ran (λ fault. IsOfReading fault → LetsGo held first mid)
     → (closed ≡ Err faults.NoMemory → held now ≡ []) → ((ran ≡ Err faults.NoMemory → ⊥) → now ≡ mid)
     → (fault ≡ faults.Write → ⊥) → LetsGo held first now
-lets_go held first mid now ran closed faults.Usage late is how usage plan reading memory same no_write = elim how [
+lets_go held first mid now ran closed faults.Usage late is how usage plan hall reading memory same no_write = elim how [
   | inl own ↦ absurd (usage (sym own ∙ is))
   | inr failed ↦ cc
 ]
-lets_go held first mid now ran closed faults.Read late is how usage plan reading memory same no_write = elim how [
+lets_go held first mid now ran closed faults.Read late is how usage plan hall reading memory same no_write = elim how [
   | inl own ↦
       let ended : ran ≡ Err faults.Read = sym own ∙ is in
       rw (same (λ wanting. cc)) ((rw ended at reading) tt)
   | inr failed ↦ cc
 ]
-lets_go held first mid now ran closed faults.Write late is how usage plan reading memory same no_write =
+lets_go held first mid now ran closed faults.Write late is how usage plan hall reading memory same no_write =
     absurd (no_write refl)
-lets_go held first mid now ran closed faults.NoMemory late is how usage plan reading memory same no_write = inl (memory is)
-lets_go held first mid now ran closed (faults.Plan item) late is how usage plan reading memory same no_write = elim how [
-  | inl own ↦ absurd (plan item (sym own ∙ is))
+lets_go held first mid now ran closed faults.NoMemory late is how usage plan hall reading memory same no_write = inl
+    (memory is)
+lets_go held first mid now ran closed (faults.Plan item) late is how usage plan hall reading memory same no_write =
+    elim how [
+      | inl own ↦ absurd (plan item (sym own ∙ is))
+      | inr failed ↦ cc
+    ]
+lets_go held first mid now ran closed faults.Hall late is how usage plan hall reading memory same no_write = elim how [
+  | inl own ↦ absurd (hall (sym own ∙ is))
   | inr failed ↦ cc
 ]
-lets_go held first mid now ran closed faults.InputTooLong late is how usage plan reading memory same no_write = elim how [
-  | inl own ↦
-      let ended : ran ≡ Err faults.InputTooLong = sym own ∙ is in
-      rw (same (λ wanting. cc)) ((rw ended at reading) tt)
-  | inr failed ↦ cc
-]
+lets_go held first mid now ran closed faults.InputTooLong late is how usage plan hall reading memory same no_write =
+    elim how [
+      | inl own ↦
+          let ended : ran ≡ Err faults.InputTooLong = sym own ∙ is in
+          rw (same (λ wanting. cc)) ((rw ended at reading) tt)
+      | inr failed ↦ cc
+    ]
 
 -- a fault of writing is none of reading
 pub no_reading : {T : Type 0} (result : Result T Fault) (P : Type 0) → IfErr result IsOfWriting
@@ -356,4 +371,5 @@ no_reading (Err faults.Read) P writing = λ reading. absurd writing
 no_reading (Err faults.Write) P writing = λ reading. absurd reading
 no_reading (Err faults.NoMemory) P writing = λ reading. absurd reading
 no_reading (Err (faults.Plan item)) P writing = λ reading. absurd reading
+no_reading (Err faults.Hall) P writing = λ reading. absurd reading
 no_reading (Err faults.InputTooLong) P writing = λ reading. absurd writing

@@ -1,4 +1,3 @@
-pub mod Endings
 pub mod Limits
 pub mod Handed
 pub mod Told

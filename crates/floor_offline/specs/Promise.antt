@@ -1,11 +1,11 @@
 -- What a run over lines has told in its midst, and where it fails. This project's own.
-use Rattle.std.specs.Prelude.{◌≡◌, ℕ, ◌+◌, ◌<◌, ◌≤◌, true, false, List, [], ◌++◌, length, take, drop, map, Option, Some, IfSome, IsSomeAnd}
+use Rattle.std.specs.Prelude.{◌≡◌, ℕ, ◌+◌, ◌≤◌, true, false, List, [], ◌++◌, length, take, drop, map, Option, Some, IfSome, IsSomeAnd}
 use Rattle.floor_text.specs.Lines.{lines_of_bytes}
 use Rattle.floor_text.specs.Reading.{Reading}
 use Rattle.tournament_rules.specs.States.{State, first_state}
 use Rattle.tournament_rules.specs.Replay.{item_of_cut, state_after_items}
-use Rattle.floor_offline.specs.declared.fault.Fault.{Fault}
-use Rattle.floor_offline.specs.declared.fault.Fault.TheVariants as faults
+use Rattle.command_lines.specs.declared.fault.Fault.{Fault}
+use Rattle.command_lines.specs.declared.fault.Fault.TheVariants as faults
 use Rattle.floor_offline.specs.Limits.{input_limit}
 use Rattle.floor_offline.specs.Told.{Telling, ended_told, lines_told, stream_told}
 
@@ -50,6 +50,7 @@ IsToldOf faults.Read telling taken text = text ≡ ended_told telling taken
 IsToldOf faults.Write telling taken text = (n : ℕ) × (text ≡ take n (stream_told telling taken))
 IsToldOf faults.NoMemory telling taken text = (n : ℕ) × (text ≡ lines_told telling (take n (lines_of_bytes taken)))
 IsToldOf (faults.Plan item) telling taken text = Unit {0}
+IsToldOf faults.Hall telling taken text = Unit {0}
 IsToldOf faults.InputTooLong telling taken text = text ≡ ended_told telling (take input_limit taken)
 
 -- the bytes that a source gave since it had some left are as many as were counted
@@ -62,7 +63,3 @@ pub record IsCounted (first left : Option (List ℕ)) (reader : Reading) : Type 
   pub counts : Counts first left reader.taken
   pub end : reader.ended ≡ true → IfSome first (λ _. left ≡ Some [])
   pub within : reader.ended ≡ true → reader.taken ≤ reader.limit
-
--- a source that tells gave more bytes than a limit
-abbrev pub GivesMore : ℕ → Option (List ℕ) → Option (List ℕ) → Type 0
-GivesMore limit old new = IfSome old (λ bytes. IsSomeAnd new (λ rest. limit + length rest < length bytes))

@@ -5,8 +5,6 @@
 //! that the command makes of what it read.
 #![tactic(auto)]
 
-mod command;
-mod fault;
 mod lines;
 mod replay;
 mod run;

@@ -8,12 +8,13 @@ ghost use Rattle.level_plan.specs.declared.line.PlanItem.{PlanItem};
 ghost use Rattle.tournament_rules.specs.States.{State};
 ghost use Rattle.tournament_rules.specs.Valid.{IsValidState};
 ghost use Rattle.floor_offline.specs.Limits.{input_limit};
-ghost use Rattle.floor_offline.specs.Endings.{IsOfWriting, IsOfReading, LetsGo};
-ghost use Rattle.floor_offline.specs.Promise.{Keeps, IsTelling, IsCounted, HasTold, TakesAndPuts, IsToldOf, GivesMore};
+ghost use Rattle.command_lines.specs.Endings.{IsOfWriting, IsOfReading, LetsGo};
+ghost use Rattle.floor_offline.specs.Promise.{Keeps, IsTelling, IsCounted, HasTold, TakesAndPuts, IsToldOf};
+ghost use Rattle.command_lines.specs.Limits.{GivesMore};
 ghost use Rattle.floor_offline.specs.Told.{Telling, stream_told};
 
-use crate::fault::Fault;
 use crate::teller::LineTeller;
+use command_lines::Fault;
 use floor_core::Tournament;
 use floor_text::{LineReader, Next, Sink, Source};
 use std::alloc::{AllocError, Global};
@@ -119,6 +120,7 @@ fn tell_next<T: LineTeller, I: Source, O: Sink>(
     ensures read { IsErrOf result Fault.Read → Rose (I.faults input.old) (I.faults input.new) }
     ensures write { IsErrOf result Fault.Write → Rose (O.faults out.old) (O.faults out.new) }
     ensures words { IsErrOf result Fault.Usage → ⊥ }
+    ensures hall { IsErrOf result Fault.Hall → ⊥ }
     ensures plan { (item : PlanItem) → IsErrOf result (Fault.Plan item) → ⊥ }
 {
     teller.take(alloc, tournament, line, reader.line())?;
@@ -164,6 +166,7 @@ pub fn tell_lines<T: LineTeller, I: Source, O: Sink>(
     ensures out_later { O.faults out.old ≤ O.faults out.new }
     ensures write { IsErrOf result Fault.Write → Rose (O.faults out.old) (O.faults out.new) }
     ensures words { IsErrOf result Fault.Usage → ⊥ }
+    ensures hall { IsErrOf result Fault.Hall → ⊥ }
     ensures plan { (item : PlanItem) → IsErrOf result (Fault.Plan item) → ⊥ }
 {
     let mut reader = input_reader(alloc)?;

@@ -7,14 +7,15 @@ ghost use Rattle.floor_events.specs.Grammar.{item_of_bytes};
 ghost use Rattle.floor_events.specs.Spelling.{answer_text};
 ghost use Rattle.tournament_rules.specs.Replay.{answer_to_item, state_after_item, replay_text};
 ghost use Rattle.floor_offline.specs.Limits.{input_limit};
-ghost use Rattle.floor_offline.specs.Endings.{IsOfReading, LetsGo};
+ghost use Rattle.command_lines.specs.Endings.{IsOfReading, LetsGo};
 ghost use Rattle.floor_offline.specs.Handed.{item_of_next};
-ghost use Rattle.floor_offline.specs.Promise.{TakesAndPuts, IsToldOf, GivesMore};
+ghost use Rattle.floor_offline.specs.Promise.{TakesAndPuts, IsToldOf};
+ghost use Rattle.command_lines.specs.Limits.{GivesMore};
 ghost use Rattle.floor_offline.specs.Told.{answers_told};
 
-use crate::fault::Fault;
 use crate::lines::tell_lines;
 use crate::teller::{LineTeller, put_text};
+use command_lines::Fault;
 use floor_core::Tournament;
 use floor_events::{Answer, Item, read_item, write_answer, write_report};
 use floor_text::{Next, Refusal, Sink, Source};
@@ -164,6 +165,7 @@ pub fn replay<I: Source, O: Sink>(alloc: Global, input: &mut I, out: &mut O) -> 
     ensures out_later { O.faults out.old ≤ O.faults out.new }
     ensures write { IsErrOf result Fault.Write → Rose (O.faults out.old) (O.faults out.new) }
     ensures words { IsErrOf result Fault.Usage → ⊥ }
+    ensures hall { IsErrOf result Fault.Hall → ⊥ }
     ensures plan { (item : PlanItem) → IsErrOf result (Fault.Plan item) → ⊥ }
 {
     let mut teller = AnswerTeller::new(alloc);

@@ -4,20 +4,21 @@ ghost use Rattle.std.specs.Prelude.{◌⊎◌, ◌≡◌, ◌≢◌, ◌↔◌, 
 ghost use Rattle.floor_text.specs.Lines.{lines_of_bytes};
 ghost use Rattle.floor_text.specs.Outside.{Rose};
 ghost use Rattle.level_plan.specs.declared.line.PlanItem.{PlanItem};
-ghost use Rattle.floor_offline.specs.Commands.{IsPut, command_of, limit_of, telling_of, text_of};
-ghost use Rattle.floor_offline.specs.Endings.{LetsGo, PutsLine, fault_line, fault_status, status_line};
+ghost use Rattle.floor_offline.specs.Commands.{IsPut, limit_of, telling_of, text_of};
+ghost use Rattle.command_lines.specs.Commands.{command_of};
+ghost use Rattle.command_lines.specs.Endings.{LetsGo, PutsLine, fault_line, status_line};
+ghost use Rattle.command_lines.specs.Limits.{GivesMore};
 ghost use Rattle.floor_offline.specs.Limits.{input_limit};
-ghost use Rattle.floor_offline.specs.Promise.{TakesAndPuts, IsToldOf, GivesMore};
+ghost use Rattle.floor_offline.specs.Promise.{TakesAndPuts, IsToldOf};
 ghost use Rattle.floor_offline.specs.Told.{ended_told, lines_told};
-ghost use Rattle.floor_offline.specs.declared.command.Command.{Command};
-ghost use Rattle.floor_offline.specs.declared.command.Command.TheVariants.{Simulate};
+ghost use Rattle.command_lines.specs.declared.command.Command.{Command};
+ghost use Rattle.command_lines.specs.declared.command.Command.TheVariants.{Simulate};
 
-use crate::command::Command;
-use crate::fault::Fault;
 use crate::lines::close;
 use crate::replay::replay;
 use crate::simulate::simulate;
 use crate::view::view;
+use command_lines::{Command, Fault};
 use floor_text::{Sink, Source};
 use std::alloc::Global;
 
@@ -56,23 +57,13 @@ fn carry_out<I: Source, O: Sink>(
     ensures read { result ≡ Err Fault.Read → Rose (I.faults input.old) (I.faults input.new) }
     ensures write { result ≡ Err Fault.Write → Rose (O.faults out.old) (O.faults out.new) }
     ensures words { result ≡ Err Fault.Usage → ⊥ }
+    ensures hall { result ≡ Err Fault.Hall → ⊥ }
 {
     match command {
         Command::Replay => close(replay(alloc, input, out), out),
         Command::View(name) => close(view(alloc, name, input, out), out),
         Command::Simulate(number) => simulate(alloc, number, input, out),
     }
-}
-
-/// Tells a fault on err, and gives its status. A failure of err changes nothing.
-fn tell<E: Sink>(fault: Fault, err: &mut E) -> u8
-    ensures status { result ≡ fault_status fault }
-    ensures line { IfSome (E.written err.old)
-        (λ before. PutsLine before (fault_line fault) (E.written err.new) (E.faults err.old) (E.faults err.new)) }
-    ensures let_go { LetsGo E.held err.old err.new ⊎ Rose (E.faults err.old) (E.faults err.new) }
-{
-    let _ = err.put(fault.line());
-    fault.status()
 }
 
 /// Runs a command over a source and two sinks, and answers the exit status.
@@ -181,10 +172,10 @@ pub fn run_offline<I: Source, O: Sink, E: Sink>(
         (λ before. PutsLine before (status_line result) (E.written err.new) (E.faults err.old) (E.faults err.new)) }
 {
     let Some(command) = Command::read(words) else {
-        return tell(Fault::Usage, err);
+        return Fault::Usage.tell(err);
     };
     match carry_out(alloc, command, input, out) {
         Ok(()) => 0,
-        Err(fault) => tell(fault, err),
+        Err(fault) => fault.tell(err),
     }
 }

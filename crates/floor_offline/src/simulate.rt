@@ -4,18 +4,14 @@ ghost use Rattle.std.specs.Prelude.{◌≡◌, ◌≢◌, ◌≤◌, ◌++◌, �
 ghost use Rattle.floor_text.specs.Outside.{Rose};
 ghost use Rattle.level_plan.specs.declared.line.PlanItem.{PlanItem};
 ghost use Rattle.floor_offline.specs.Commands.{text_of, IsPut};
-ghost use Rattle.floor_offline.specs.Limits.{plan_limit};
-ghost use Rattle.floor_offline.specs.Promise.{GivesMore};
-ghost use Rattle.floor_offline.specs.declared.command.Command.TheVariants as commands;
+ghost use Rattle.command_lines.specs.Limits.{GivesMore, plan_limit};
+ghost use Rattle.command_lines.specs.declared.command.Command.TheVariants as commands;
 
-use crate::fault::Fault;
+use command_lines::{Fault, PLAN_LIMIT};
 use floor_simulation::simulation_text;
 use floor_text::{Sink, Source};
 use plan_files::{plan_from_toml, read_whole};
 use std::alloc::Global;
-
-/// The most bytes that a plan file may have.
-pub const PLAN_LIMIT: u64 = 1_048_576;
 
 /// Reads a plan from the input, plays the simulated tournament of a number over it, and puts what is told of it, by one
 /// put. Before that nothing is put.
@@ -48,6 +44,7 @@ pub fn simulate<I: Source, O: Sink>(
     ensures out_later { O.faults out.old ≤ O.faults out.new }
     ensures write { IsErrOf result Fault.Write → Rose (O.faults out.old) (O.faults out.new) }
     ensures words { IsErrOf result Fault.Usage → ⊥ }
+    ensures hall { IsErrOf result Fault.Hall → ⊥ }
 {
     let bytes = read_whole(alloc, input, PLAN_LIMIT)?;
     let plan = plan_from_toml(alloc, &bytes)?;

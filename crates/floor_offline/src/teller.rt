@@ -7,7 +7,7 @@ ghost use Rattle.tournament_rules.specs.Valid.{IsValidState};
 ghost use Rattle.floor_offline.specs.Handed.{item_of_next};
 ghost use Rattle.floor_offline.specs.Told.{Telling};
 
-use crate::fault::Fault;
+use command_lines::Fault;
 use floor_core::Tournament;
 use floor_text::{Next, Sink};
 use std::alloc::{AllocError, Global};

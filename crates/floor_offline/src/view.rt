@@ -8,13 +8,14 @@ ghost use Rattle.tournament_rules.specs.Replay.{state_after_item};
 ghost use Rattle.tournament_rules.specs.Valid.{IsValidState};
 ghost use Rattle.view_rules.specs.Views.{view_text};
 ghost use Rattle.floor_offline.specs.Limits.{input_limit};
-ghost use Rattle.floor_offline.specs.Endings.{IsOfReading, LetsGo};
-ghost use Rattle.floor_offline.specs.Promise.{TakesAndPuts, IsToldOf, GivesMore};
+ghost use Rattle.command_lines.specs.Endings.{IsOfReading, LetsGo};
+ghost use Rattle.floor_offline.specs.Promise.{TakesAndPuts, IsToldOf};
+ghost use Rattle.command_lines.specs.Limits.{GivesMore};
 ghost use Rattle.floor_offline.specs.Told.{item_seen, lines_seen};
 
-use crate::fault::Fault;
 use crate::lines::tell_lines;
 use crate::teller::{LineTeller, put_text};
+use command_lines::Fault;
 use floor_core::Tournament;
 use floor_events::{Item, read_item};
 use floor_text::{Name, Next, Sink, Source};
@@ -103,6 +104,7 @@ pub fn view<I: Source, O: Sink>(
     ensures out_later { O.faults out.old ≤ O.faults out.new }
     ensures write { IsErrOf result Fault.Write → Rose (O.faults out.old) (O.faults out.new) }
     ensures words { IsErrOf result Fault.Usage → ⊥ }
+    ensures hall { IsErrOf result Fault.Hall → ⊥ }
     ensures plan { (item : PlanItem) → IsErrOf result (Fault.Plan item) → ⊥ }
 {
     let mut teller = PlayerTeller {

@@ -1,6 +1,6 @@
 use Rattle.std.proofs.Common.{◌≡◌, rules}
 use Rattle.std.specs.Prelude.{Err}
-use Rattle.floor_offline.specs.declared.fault.Fault.TheVariants as faults
+use Rattle.command_lines.specs.declared.fault.Fault.TheVariants as faults
 use Rattle.floor_offline.proofs.Running.{closed_front, none_put, on_err}
 use Rattle.floor_offline.proofs.lines.close.Goals as goal
 

@@ -1,5 +1,5 @@
 use Rattle.std.proofs.Common.{◌∙◌, []}
-use Rattle.floor_offline.specs.Endings.{fault_of_read_end}
+use Rattle.command_lines.specs.Endings.{fault_of_read_end}
 use Rattle.floor_offline.proofs.Promises.{next_failed, next_handed}
 use Rattle.floor_offline.proofs.Running.{err_so}
 use Rattle.floor_offline.proofs.lines.next_line.Goals as goal

@@ -4,8 +4,8 @@ use Rattle.std.specs.Prelude.{Ok}
 use Rattle.floor_text.specs.Reading.{Reading}
 use Rattle.floor_text.specs.contracts.line_reader.Next.{the_type}
 use Rattle.floor_text.specs.declared.line_reader.Next.TheVariants.{End}
-use Rattle.floor_offline.specs.declared.fault.Fault.TheVariants as faults
-use Rattle.floor_offline.specs.Endings.{LetsGo}
+use Rattle.command_lines.specs.declared.fault.Fault.TheVariants as faults
+use Rattle.command_lines.specs.Endings.{LetsGo}
 use Rattle.floor_offline.proofs.Running.{begins_so, both_from, starts, counts_first, within_at_end, gives_more, ends_well, ends_in_fault, untold, on_ok, on_err, no_reading}
 use Rattle.floor_offline.proofs.lines.tell_lines.Goals as goal
 

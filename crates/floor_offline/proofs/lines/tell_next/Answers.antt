@@ -2,7 +2,7 @@ use Rattle.std.proofs.Common.{◌≡◌, ◌∙◌, sym, ap, subst, refl, []}
 use Rattle.std.specs.Prelude.{Ok}
 use Rattle.floor_text.specs.LineReader.{lines_of_next}
 use Rattle.floor_text.specs.Reading.{Reading}
-use Rattle.floor_offline.specs.declared.fault.Fault.TheVariants as faults
+use Rattle.command_lines.specs.declared.fault.Fault.TheVariants as faults
 use Rattle.floor_offline.specs.Handed.{item_of_next}
 use Rattle.floor_offline.specs.Promise.{IsTelling}
 use Rattle.tournament_rules.specs.Replay.{state_after_item}

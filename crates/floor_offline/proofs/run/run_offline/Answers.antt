@@ -1,11 +1,12 @@
 use Rattle.std.proofs.Common.{◌≡◌, ◌∙◌, sym, ap, arith}
 use Rattle.std.specs.Prelude.{Some, Err}
-use Rattle.floor_text.specs.Outside.{Rose}
-use Rattle.floor_offline.specs.declared.command.Command.{Command}
-use Rattle.floor_offline.specs.declared.command.Command.TheVariants.{Simulate}
-use Rattle.floor_offline.specs.declared.fault.Fault.TheVariants as faults
-use Rattle.floor_offline.specs.Endings.{fault_status}
-use Rattle.floor_offline.proofs.Ended.{ended_by, ended_well, front_of_text, plan_of_status, same_fault}
+use Rattle.command_lines.specs.declared.command.Command.{Command}
+use Rattle.command_lines.specs.declared.command.Command.TheVariants.{Simulate}
+use Rattle.command_lines.specs.declared.fault.Fault.TheVariants as faults
+use Rattle.command_lines.specs.Endings.{fault_status}
+use Rattle.command_lines.proofs.Ended.{ended_by, ended_well, plan_of_status, same_fault}
+use Rattle.floor_offline.specs.Commands.{limit_of, text_of}
+use Rattle.floor_offline.proofs.Fronts.{front_of_text}
 use Rattle.floor_offline.proofs.Running.{status_of_fault}
 use Rattle.floor_offline.proofs.run.run_offline.Goals as goal
 
@@ -17,10 +18,12 @@ pub returns-in-Ok-clause-complete : goal.returns-in-Ok-clause-complete
 returns-in-Ok-clause-complete g c = λ command is no_read no_write.
     let read = rw c.deref.ensures.value at (sym c.read.ensures ∙ c.in-Some.is) in
     rw (one_command command c.in-Some.command (sym is ∙ read))
-    (ended_well c.in-Some.command (g.I.Source.left c.args.input.now) c.in-Ok.ensures.right)
+    (ended_well (limit_of c.in-Some.command) (text_of c.in-Some.command) (g.I.Source.left c.args.input.now)
+    c.in-Ok.ensures.right)
 
 pub returns-in-Err-clause-statuses : goal.returns-in-Err-clause-statuses
-returns-in-Err-clause-statuses g c = rw c.tell-in-Err.ensures.status (status_of_fault c.in-Err.fault)
+returns-in-Err-clause-statuses g c = rw c.tell-in-Err.ensures.status
+    (status_of_fault c.in-Err.fault (λ hall. c.carry_out.ensures.hall (c.in-Err.is ∙ ap Err hall)))
 
 pub returns-in-Err-clause-plan : goal.returns-in-Err-clause-plan
 returns-in-Err-clause-plan g c = λ six.
@@ -44,16 +47,14 @@ pub returns-in-Err-clause-complete : goal.returns-in-Err-clause-complete
 returns-in-Err-clause-complete g c = λ command is no_read no_write.
     let read = rw c.deref.ensures.value at (sym c.read.ensures ∙ c.in-Some.is) in
     rw (one_command command c.in-Some.command (sym is ∙ read), c.tell-in-Err.ensures.status)
-    (ended_by c.in-Some.command c.in-Err.fault (g.I.Source.left c.args.input.now)
-    (g.I.Source.left c.carry_out.new.input)
-    (Rose (g.I.Source.faults c.args.input.now) (g.I.Source.faults c.carry_out.new.input))
-    (Rose (g.O.Sink.faults c.args.out.now) (g.O.Sink.faults c.carry_out.new.out))
+    (ended_by (limit_of c.in-Some.command) (text_of c.in-Some.command) c.in-Err.fault
+    (g.I.Source.left c.args.input.now) (g.I.Source.left c.carry_out.new.input)
     (λ usage. c.carry_out.ensures.words (c.in-Err.is ∙ ap Err usage))
-    (λ read. c.carry_out.ensures.read (c.in-Err.is ∙ ap Err read))
-    (λ write. c.carry_out.ensures.write (c.in-Err.is ∙ ap Err write))
+    (λ hall. c.carry_out.ensures.hall (c.in-Err.is ∙ ap Err hall))
+    (λ read. no_read (c.carry_out.ensures.read (c.in-Err.is ∙ ap Err read)))
+    (λ write. no_write (c.carry_out.ensures.write (c.in-Err.is ∙ ap Err write)))
     (λ more. c.carry_out.ensures.too_long (c.in-Err.is ∙ ap Err more))
-    (λ item wrong. c.carry_out.ensures.plan item (c.in-Err.is ∙ ap Err wrong))
-    no_read no_write)
+    (λ item wrong. c.carry_out.ensures.plan item (c.in-Err.is ∙ ap Err wrong)))
 
 pub returns-in-Err-clause-read_fault_told : goal.returns-in-Err-clause-read_fault_told
 returns-in-Err-clause-read_fault_told g c = λ three command is.

@@ -1,7 +1,7 @@
 //! The written commands of the offline program.
 
 ghost use Rattle.std.specs.Prelude.{◌≡◌, map, string_bytes};
-ghost use Rattle.floor_offline.specs.Commands.{command_of};
+ghost use Rattle.command_lines.specs.Commands.{command_of};
 
 use floor_text::{Name, read_number};
 

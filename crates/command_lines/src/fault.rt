@@ -1,11 +1,12 @@
 //! Why a run ends otherwise than well.
 
-ghost use Rattle.std.specs.Prelude.{◌≡◌};
+ghost use Rattle.std.specs.Prelude.{◌⊎◌, ◌≡◌, IfSome};
+ghost use Rattle.floor_text.specs.Outside.{Rose};
 ghost use Rattle.floor_text.specs.declared.line_reader.ReadEnd.TheVariants as read_ends;
-ghost use Rattle.floor_offline.specs.declared.fault.Fault.TheVariants.{Write, NoMemory, Plan};
-ghost use Rattle.floor_offline.specs.Endings.{fault_status, fault_line, fault_of_read_end, fault_of_whole_end, fault_of_plan};
+ghost use Rattle.command_lines.specs.declared.fault.Fault.TheVariants.{Write, NoMemory, Plan};
+ghost use Rattle.command_lines.specs.Endings.{LetsGo, PutsLine, fault_status, fault_line, fault_of_read_end, fault_of_whole_end, fault_of_plan};
 
-use floor_text::{Failed, ReadEnd};
+use floor_text::{Failed, ReadEnd, Sink};
 use level_plan::{PlanFault, PlanItem};
 use plan_files::WholeEnd;
 use std::alloc::AllocError;
@@ -23,6 +24,8 @@ pub enum Fault {
     NoMemory,
     /// This item of the plan is wrong.
     Plan(PlanItem),
+    /// The hall failed, and gave no doors.
+    Hall,
     /// The input has more bytes than the limit.
     InputTooLong,
 }
@@ -57,6 +60,7 @@ impl Fault {
             Fault::Write => 4,
             Fault::NoMemory => 5,
             Fault::Plan(_) => 6,
+            Fault::Hall => 7,
             Fault::InputTooLong => 8,
         }
     }
@@ -71,8 +75,20 @@ impl Fault {
             Fault::Write => b"write fault\n",
             Fault::NoMemory => b"out of memory\n",
             Fault::Plan(item) => plan_line(item),
+            Fault::Hall => b"hall fault\n",
             Fault::InputTooLong => b"input too long\n",
         }
+    }
+
+    /// Puts the line that tells it on err, and gives its status. A failure of err changes nothing.
+    pub fn tell<E: Sink>(self, err: &mut E) -> u8
+        ensures status { result ≡ fault_status self }
+        ensures line { IfSome (E.written err.old)
+            (λ before. PutsLine before (fault_line self) (E.written err.new) (E.faults err.old) (E.faults err.new)) }
+        ensures let_go { LetsGo E.held err.old err.new ⊎ Rose (E.faults err.old) (E.faults err.new) }
+    {
+        let _ = err.put(self.line());
+        self.status()
     }
 }
 

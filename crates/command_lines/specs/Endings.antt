@@ -8,8 +8,8 @@ use Rattle.level_plan.specs.declared.line.PlanFault.{PlanFault}
 use Rattle.level_plan.specs.declared.line.PlanFault.TheVariants as plan_faults
 use Rattle.plan_files.specs.declared.whole.WholeEnd.{WholeEnd}
 use Rattle.plan_files.specs.declared.whole.WholeEnd.TheVariants as whole_ends
-use Rattle.floor_offline.specs.declared.fault.Fault.{Fault}
-use Rattle.floor_offline.specs.declared.fault.Fault.TheVariants as faults
+use Rattle.command_lines.specs.declared.fault.Fault.{Fault}
+use Rattle.command_lines.specs.declared.fault.Fault.TheVariants as faults
 
 -- the exit status of a run that ended by a fault
 abbrev pub fault_status : Fault → ℕ
@@ -18,6 +18,7 @@ fault_status faults.Read = 3
 fault_status faults.Write = 4
 fault_status faults.NoMemory = 5
 fault_status (faults.Plan item) = 6
+fault_status faults.Hall = 7
 fault_status faults.InputTooLong = 8
 
 -- the line that tells a fault
@@ -27,6 +28,7 @@ fault_line faults.Read = codes "read fault" ++ 10 ∷ []
 fault_line faults.Write = codes "write fault" ++ 10 ∷ []
 fault_line faults.NoMemory = codes "out of memory" ++ 10 ∷ []
 fault_line (faults.Plan item) = codes "plan " ++ (item_word item ++ 10 ∷ [])
+fault_line faults.Hall = codes "hall fault" ++ 10 ∷ []
 fault_line faults.InputTooLong = codes "input too long" ++ 10 ∷ []
 
 -- the line of a status, which is that of its fault; that of a wrong plan names the item too
@@ -36,7 +38,8 @@ status_line status =
     (if status == 3 then fault_line faults.Read else
     (if status == 4 then fault_line faults.Write else
     (if status == 5 then fault_line faults.NoMemory else
-    (if status == 8 then fault_line faults.InputTooLong else []))))
+    (if status == 7 then fault_line faults.Hall else
+    (if status == 8 then fault_line faults.InputTooLong else [])))))
 
 -- why no line could be read, as a fault of the run
 abbrev pub fault_of_read_end : ReadEnd → Fault
@@ -67,6 +70,7 @@ IsOfWriting faults.Read = ⊥
 IsOfWriting faults.Write = Unit {0}
 IsOfWriting faults.NoMemory = Unit {0}
 IsOfWriting (faults.Plan item) = ⊥
+IsOfWriting faults.Hall = ⊥
 IsOfWriting faults.InputTooLong = ⊥
 
 -- the faults of reading: the source failed, or it has too many bytes
@@ -76,6 +80,7 @@ IsOfReading faults.Read = Unit {0}
 IsOfReading faults.Write = ⊥
 IsOfReading faults.NoMemory = ⊥
 IsOfReading (faults.Plan item) = ⊥
+IsOfReading faults.Hall = ⊥
 IsOfReading faults.InputTooLong = Unit {0}
 
 -- A sink holds back nothing of what a run put: nothing at all, or the run left it as it was.

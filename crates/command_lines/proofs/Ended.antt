@@ -1,0 +1,93 @@
+-- What the status of a run tells of its fault and of its input.
+use Rattle.std.proofs.Common.{◌≡◌, ◌∙◌, ℕ, ◌≤◌, refl, sym, ap, inl, inr, List, [], length, arith}
+use Rattle.std.specs.Prelude.{◌⊎◌, ◌==◌, if◌then◌else◌, true, false, Option, Some, None, IfSome, Result, Ok, Err, IsOk, MatchResult}
+use Rattle.level_plan.specs.declared.line.PlanItem.{PlanItem}
+use Rattle.command_lines.specs.declared.fault.Fault.{Fault}
+use Rattle.command_lines.specs.declared.fault.Fault.TheVariants as faults
+use Rattle.command_lines.specs.Endings.{fault_status}
+use Rattle.command_lines.specs.Limits.{GivesMore}
+
+-- The fault of status 6 is an item of the plan.
+pub plan_of_status : (fault : Fault) → fault_status fault ≡ 6 → (item : PlanItem) × (fault ≡ faults.Plan item)
+plan_of_status faults.Usage is = absurd (omega arith)
+plan_of_status faults.Read is = absurd (omega arith)
+plan_of_status faults.Write is = absurd (omega arith)
+plan_of_status faults.NoMemory is = absurd (omega arith)
+plan_of_status (faults.Plan item) is = (item, refl)
+plan_of_status faults.Hall is = absurd (omega arith)
+plan_of_status faults.InputTooLong is = absurd (omega arith)
+
+abbrev fault_at : ℕ → Fault
+fault_at status =
+    if status == 2 then faults.Usage else
+    (if status == 3 then faults.Read else
+    (if status == 4 then faults.Write else
+    (if status == 5 then faults.NoMemory else
+    (if status == 7 then faults.Hall else faults.InputTooLong))))
+
+fault_of_status : (fault : Fault) → (fault_status fault ≡ 6 → ⊥) → fault ≡ fault_at (fault_status fault)
+fault_of_status faults.Usage other = refl
+fault_of_status faults.Read other = refl
+fault_of_status faults.Write other = refl
+fault_of_status faults.NoMemory other = refl
+fault_of_status (faults.Plan item) other = absurd (other refl)
+fault_of_status faults.Hall other = refl
+fault_of_status faults.InputTooLong other = refl
+
+-- Two faults of one status, which is not that of a wrong plan, are one.
+pub same_fault : (fault other : Fault) → fault_status fault ≡ fault_status other → (fault_status other ≡ 6 → ⊥)
+    → fault ≡ other
+same_fault fault other same no_plan =
+    fault_of_status fault (λ six. no_plan (sym same ∙ six)) ∙ ap fault_at same ∙ sym (fault_of_status other no_plan)
+
+-- A status tells what an input is read as: 0 that it is right, 6 that an item of its plan is wrong, and 5 nothing.
+abbrev pub Tells : {A : Type 0} → ℕ → Result A PlanItem → Type 0
+Tells status read = MatchResult read (λ right. (status ≡ 0) ⊎ (status ≡ 5)) (λ item. (status ≡ 6) ⊎ (status ≡ 5))
+
+module _ {A : Type 0} where
+  no_memory_tells : (read : Result A PlanItem) → Tells 5 read
+  no_memory_tells (Ok right) = inr refl
+  no_memory_tells (Err item) = inr refl
+
+  well_tells : (read : Result A PlanItem) → IsOk read → Tells 0 read
+  well_tells (Ok right) is = inl refl
+  well_tells (Err item) is = let never : false ≡ true = is in absurd cc
+
+-- A run over an input, with a limit of its bytes and a way to read them.
+module _ {A : Type 0} (limit : ℕ) (read_as : List ℕ → Result A PlanItem) where
+  -- One that ended well had an input that is right.
+  pub ended_well : (left : Option (List ℕ)) → IfSome left (λ bytes. IsOk (read_as bytes))
+      → IfSome left (λ bytes. length bytes ≤ limit → Tells 0 (read_as bytes))
+  ended_well None right = tt
+  ended_well (Some bytes) right = λ within. well_tells (read_as bytes) right
+
+  wanting : (left : Option (List ℕ)) → IfSome left (λ bytes. length bytes ≤ limit → Tells 5 (read_as bytes))
+  wanting None = tt
+  wanting (Some bytes) = λ within. no_memory_tells (read_as bytes)
+
+  planned : (item : PlanItem) (left rest : Option (List ℕ))
+      → IfSome left (λ bytes. (read_as bytes ≡ Err item) × (rest ≡ Some []))
+      → IfSome left (λ bytes. length bytes ≤ limit → Tells 6 (read_as bytes))
+  planned item None rest wrong = tt
+  planned item (Some bytes) rest wrong = λ within. rw wrong.0 (inl refl)
+
+  too_long : (status : ℕ) (left rest : Option (List ℕ)) → GivesMore limit left rest
+      → IfSome left (λ bytes. length bytes ≤ limit → Tells status (read_as bytes))
+  too_long status None rest more = tt
+  too_long status (Some bytes) None more = absurd more
+  too_long status (Some bytes) (Some left) more = λ within. absurd (omega (arith, more, within))
+
+  -- One that ended by a fault had a wrong plan, or only memory was wanting, where no other fault has its cause.
+  pub ended_by : (fault : Fault) (left rest : Option (List ℕ)) → (fault ≡ faults.Usage → ⊥)
+      → (fault ≡ faults.Hall → ⊥) → (fault ≡ faults.Read → ⊥) → (fault ≡ faults.Write → ⊥)
+      → (fault ≡ faults.InputTooLong → GivesMore limit left rest)
+      → ((item : PlanItem) → fault ≡ faults.Plan item
+      → IfSome left (λ bytes. (read_as bytes ≡ Err item) × (rest ≡ Some [])))
+      → IfSome left (λ bytes. length bytes ≤ limit → Tells (fault_status fault) (read_as bytes))
+  ended_by faults.Usage left rest usage hall read write more plan = absurd (usage refl)
+  ended_by faults.Read left rest usage hall read write more plan = absurd (read refl)
+  ended_by faults.Write left rest usage hall read write more plan = absurd (write refl)
+  ended_by faults.NoMemory left rest usage hall read write more plan = wanting left
+  ended_by (faults.Plan item) left rest usage hall read write more plan = planned item left rest (plan item refl)
+  ended_by faults.Hall left rest usage hall read write more plan = absurd (hall refl)
+  ended_by faults.InputTooLong left rest usage hall read write more plan = too_long 8 left rest (more refl)
