@@ -1,0 +1,14 @@
+use Rattle.floor_online.proofs.threads.attend.Goals as goal
+
+pub returns : goal.returns
+returns g c =
+    let worked = c.work_desk-desk.ensures in
+    record {
+      start = c.args.desk;
+      none_at_book = c.requires.desk.none_at_book;
+      its = worked.desk;
+      worked = worked.worked;
+      rose = worked.failed;
+      steady = worked.steady;
+      stopped = worked.stopped;
+    }

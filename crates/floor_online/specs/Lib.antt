@@ -1,0 +1,11 @@
+pub mod Doors
+pub mod FloorPart
+pub mod Tournaments
+pub mod Sessions
+pub mod Served
+pub mod Working
+pub mod AtHand
+pub mod Closed
+pub mod Rows
+pub mod EnteredNames
+pub mod EntryText

@@ -1,0 +1,43 @@
+//! Tournaments run online: clients come through the doors of a hall, tables play, and in the end the text of all events
+//! is written.
+//!
+//! It stands on command_lines, plan_files, links, session_desk, table_worker and what these stand on. `serve` is the
+//! whole server over any source, sinks and hall, and its contract says what the server promises: what it wrote is the
+//! text of one legal tournament, of which each client was told.
+//!
+//! | file | what is in it |
+//! |---|---|
+//! | `server.rt` | the top call: a plan is read, a tournament is held, and its text is written |
+//! | `floor.rt`, `passes.rt` | the locks and their passes, which are dealt to those who work and collected from them |
+//! | `threads.rt`, `jobs.rt` | everybody works in a thread of his own; what each is given and gives back |
+//! | `closing.rt` | the locks are opened for good |
+//! | `holding.rt` | a tournament is held at the doors of a hall |
+//! | `text.rt`, `doors.rt` | what is written of the journal, and of the doors that failed |
+//! | `writable.rt` | the events of a journal may be written as lines |
+//! | `laws.rt` | a served text is of one tournament, and replays; what clients are told is told of its events |
+#![tactic(auto)]
+
+mod closing;
+mod doors;
+mod floor;
+mod holding;
+mod jobs;
+mod laws;
+mod passes;
+mod rows;
+mod server;
+mod text;
+mod threads;
+mod writable;
+
+pub use laws::{
+    a_served_text_is_of_one_tournament, a_served_text_replays, the_floor_tells_of_each_event,
+};
+pub use server::serve;
+
+#[cfg(test)]
+mod gate_tests;
+#[cfg(test)]
+mod support;
+#[cfg(test)]
+mod tests;
