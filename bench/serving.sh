@@ -1,0 +1,14 @@
+#!/usr/bin/env bash
+# The server with plain clients over loopback: an evening of twelve tables of nine, whose players each have a desk of
+# their own and act when their lines say that they are due, for at most so many minutes; 64 tables of ten, whose players
+# share 127 doors by coming, acting and leaving, for so many; and what 64 tables and 128 sessions cost where nobody says
+# anything. Each served text is replayed, and what clients were told is compared with what `view` tells. Beside the delays
+# stands the median of a plain echo over loopback in the same run. Needs python3.
+# Usage: bench/serving.sh [MINUTES [MINUTES]].
+set -euo pipefail
+cd "$(dirname "$0")"
+../floor serve < /dev/null 2> /dev/null || [ $? = 2 ]
+../floor replay < /dev/null > /dev/null
+python3 -m serving.evening 12 9 "${1:-10}"
+python3 -m serving.crowd 64 10 127 "${2:-5}"
+python3 -m serving.idle 64 128 10

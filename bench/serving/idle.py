@@ -1,0 +1,39 @@
+"""What idle sessions cost: tables whose hands lie while nobody acts, and clients who say nothing.
+
+python3 -m serving.idle TABLES SESSIONS SECONDS"""
+import asyncio
+import sys
+
+from serving.link import Link
+from serving.server import Server, plan
+
+PORT = 22000
+
+
+async def main(tables, sessions, seconds):
+    server = Server(PORT, sessions, plan(tables, 2))
+    floor = await Link().open(PORT)
+    assert await floor.ask("hello floor f") == "ok"
+    for seat in (1, 2):
+        for table in range(1, tables + 1):
+            assert await floor.ask(f"enter p{2 * table + seat - 2} {table} {seat}") == "ok"
+    players = []
+    for each in range(1, sessions):
+        player = await Link().open(PORT + each)
+        assert await player.ask(f"hello p{each} w{each}") == "ok"
+        player.say(f"watch {(each + 1) // 2}")
+        players.append(player)
+    await asyncio.sleep(2)
+    before = server.seconds()
+    await asyncio.sleep(seconds)
+    used = server.seconds() - before
+    assert await floor.ask("stop") == "ok"
+    for client in [floor] + players:
+        await client.gone()
+    server.end()
+    print(f"{tables} tables and {sessions} sessions, all idle: {used:.2f} s of {seconds} s, "
+          f"{100 * used / seconds:.1f} in a hundred of one processor")
+
+
+if __name__ == "__main__":
+    asyncio.run(main(int(sys.argv[1]), int(sys.argv[2]), float(sys.argv[3])))
