@@ -21,18 +21,8 @@ loop-work-init c =
       },
     )
 
-pub returns-clause-books : goal.returns-clause-books
-returns-clause-books c =
-    let was = c.loop-work.invariant.2 in
-    let all = subst (λ l. IsGathering c.args.passes.now l l [] c.loop-work.row.items c.loop-work.passes)
-    c.into_iter-work-iterator.ensures.into_iter_gives.0
-    (gathered-all c.args.passes.now (into_iter_items c.into_iter-work-iterator.result) c.loop-work.yielded
-    (into_iter_items c.loop-work.work-iterator) c.loop-work.row.items c.loop-work.passes
-    (was.left ∙ c.in-None.ensures.steps.0) was.gathering) in
-    all.books_are
-
-pub returns-clause-collected : goal.returns-clause-collected
-returns-clause-collected c floor books each its had =
+pub returns : goal.returns
+returns c =
     let was = c.loop-work.invariant.2 in
     let after : Passes = record { books = c.loop-work.passes.books; tables = c.spread.new.rows } in
     let all = subst (λ l. IsGathering c.args.passes.now l l [] c.loop-work.row.items c.loop-work.passes)
@@ -44,20 +34,11 @@ returns-clause-collected c floor books each its had =
     all c.spread.ensures in
     let as_many : length c.args.works.items ≡ length c.args.passes.now.tables.items =
     omega (arith, c.requires.count, c.args.works.ok.0, c.args.passes.now.tables.ok.0) in
-    subst (λ n. AreCollected floor (books + n) (each + 1) after) (sym c.args.works.ok.0)
-    (works-collected c.args.passes.now after c.args.works.items all.books_are spread as_many floor books each its had)
-
-pub returns-clause-seen : goal.returns-clause-seen
-returns-clause-seen c end each =
-    let was = c.loop-work.invariant.2 in
-    let after : Passes = record { books = c.loop-work.passes.books; tables = c.spread.new.rows } in
-    let all = subst (λ l. IsGathering c.args.passes.now l l [] c.loop-work.row.items c.loop-work.passes)
-    c.into_iter-work-iterator.ensures.into_iter_gives.0
-    (gathered-all c.args.passes.now (into_iter_items c.into_iter-work-iterator.result) c.loop-work.yielded
-    (into_iter_items c.loop-work.work-iterator) c.loop-work.row.items c.loop-work.passes
-    (was.left ∙ c.in-None.ensures.steps.0) was.gathering) in
-    let spread = gathered-spread c.args.passes.now c.loop-work.passes after c.args.works.items c.loop-work.row.items
-    all c.spread.ensures in
-    let as_many : length c.args.works.items ≡ length c.args.passes.now.tables.items =
-    omega (arith, c.requires.count, c.args.works.ok.0, c.args.passes.now.tables.ok.0) in
-    works-seen c.args.passes.now after c.args.works.items all.books_are spread as_many end each
+    record {
+      books = all.books_are;
+      collected = λ floor books each its had.
+          subst (λ n. AreCollected floor (books + n) (each + 1) after) (sym c.args.works.ok.0)
+          (works-collected c.args.passes.now after c.args.works.items all.books_are spread as_many floor books each its
+          had);
+      seen = works-seen c.args.passes.now after c.args.works.items all.books_are spread as_many;
+    }

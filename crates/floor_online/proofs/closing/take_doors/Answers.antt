@@ -71,56 +71,27 @@ loop-one-preserved g c =
       },
     )
 
-pub returns-clause-doors : goal.returns-clause-doors
-returns-clause-doors g c =
+pub returns : goal.returns
+returns g c =
     let was = c.loop-one.invariant.2 in
     let gives = c.into_iter-one-iterator.ensures.into_iter_gives in
     let all = taken-all (into_iter_items c.into_iter-one-iterator.result) c.loop-one.yielded
     (into_iter_items c.loop-one.one-iterator) was.taking.split (was.left ∙ c.in-None.ensures.steps.0) ∙ gives.0 in
-    was.taking.doors_are ∙ ap (map (λ (one : Attended g.row.D.Denot). one.door)) all
-
-pub returns-clause-failed : goal.returns-clause-failed
-returns-clause-failed g c =
-    let was = c.loop-one.invariant.2 in
-    let gives = c.into_iter-one-iterator.ensures.into_iter_gives in
-    let all = taken-all (into_iter_items c.into_iter-one-iterator.result) c.loop-one.yielded
-    (into_iter_items c.loop-one.one-iterator) was.taking.split (was.left ∙ c.in-None.ensures.steps.0) ∙ gives.0 in
-    was.taking.failed_are ∙ ap (map (λ (one : Attended g.row.D.Denot). one.failed)) all
-
-pub returns-clause-books : goal.returns-clause-books
-returns-clause-books g c =
-    let was = c.loop-one.invariant.2 in
-    let gives = c.into_iter-one-iterator.ensures.into_iter_gives in
-    let all = taken-all (into_iter_items c.into_iter-one-iterator.result) c.loop-one.yielded
-    (into_iter_items c.loop-one.one-iterator) was.taking.split (was.left ∙ c.in-None.ensures.steps.0) ∙ gives.0 in
-    was.taking.books_are
-    ∙ ap (λ l. c.args.passes.now.books.items ++ map (λ (one : Attended g.row.D.Denot). one.desk.book) l) all
-
-pub returns-clause-room : goal.returns-clause-room
-returns-clause-room g c books each room =
-    let was = c.loop-one.invariant.2 in
-    let gives = c.into_iter-one-iterator.ensures.into_iter_gives in
-    let all = taken-all (into_iter_items c.into_iter-one-iterator.result) c.loop-one.yielded
-    (into_iter_items c.loop-one.one-iterator) was.taking.split (was.left ∙ c.in-None.ensures.steps.0) ∙ gives.0 in
-    was.taking.room books each
-    (subst (λ n. HasRoom (books + n) (each + n) c.args.passes.now) (c.args.attended.ok.0 ∙ sym (ap length all)) room)
-
-pub returns-clause-collected : goal.returns-clause-collected
-returns-clause-collected g c floor books each its had =
-    let was = c.loop-one.invariant.2 in
-    let gives = c.into_iter-one-iterator.ensures.into_iter_gives in
-    let all = taken-all (into_iter_items c.into_iter-one-iterator.result) c.loop-one.yielded
-    (into_iter_items c.loop-one.one-iterator) was.taking.split (was.left ∙ c.in-None.ensures.steps.0) ∙ gives.0 in
-    subst (λ n. AreCollected floor (books + n) (each + n) c.loop-one.passes)
-    (ap length all ∙ sym c.args.attended.ok.0)
-    (was.taking.collected floor books each
-    (subst (All (λ (one : Attended g.row.D.Denot). IsDeskOf floor.book floor.docks.items one.desk)) (sym all) its) had)
-
-pub returns-clause-seen : goal.returns-clause-seen
-returns-clause-seen g c end each =
-    let was = c.loop-one.invariant.2 in
-    let gives = c.into_iter-one-iterator.ensures.into_iter_gives in
-    let all = taken-all (into_iter_items c.into_iter-one-iterator.result) c.loop-one.yielded
-    (into_iter_items c.loop-one.one-iterator) was.taking.split (was.left ∙ c.in-None.ensures.steps.0) ∙ gives.0 in
-    let seen = was.taking.seen end each in
-    (subst (All (λ (one : Attended g.row.D.Denot). AreLater (sights one.desk) end)) all seen.0, seen.1)
+    let many = ap length all in
+    record {
+      doors = was.taking.doors_are ∙ ap (map (λ (one : Attended g.row.D.Denot). one.door)) all;
+      failed = was.taking.failed_are ∙ ap (map (λ (one : Attended g.row.D.Denot). one.failed)) all;
+      count = was.taking.count;
+      books = was.taking.books_are
+          ∙ ap (λ l. c.args.passes.now.books.items ++ map (λ (one : Attended g.row.D.Denot). one.desk.book) l) all;
+      room = λ books each room. was.taking.room books each
+          (subst (λ n. HasRoom (books + n) (each + n) c.args.passes.now) (c.args.attended.ok.0 ∙ sym many) room);
+      collected = λ floor books each its had.
+          subst (λ n. AreCollected floor (books + n) (each + n) c.loop-one.passes) (many ∙ sym c.args.attended.ok.0)
+          (was.taking.collected floor books each
+          (subst (All (λ (one : Attended g.row.D.Denot). IsDeskOf floor.book floor.docks.items one.desk)) (sym all) its)
+          had);
+      seen = λ end each.
+          let seen = was.taking.seen end each in
+          (subst (All (λ (one : Attended g.row.D.Denot). AreLater (sights one.desk) end)) all seen.0, seen.1);
+    }

@@ -5,25 +5,18 @@ use Rattle.floor_online.proofs.Dealing.{last-row}
 use Rattle.floor_online.proofs.floor.make_crew.Goals as goal
 
 -- the row that is left is one of the pack's
-pub deal_works-requires-clause-enough : goal.deal_works-requires-clause-enough
-deal_works-requires-clause-enough c =
+pub deal_works-requires : goal.deal_works-requires
+deal_works-requires c =
     let most = vec_len c.args.pack.books - c.args.desks in
     let row = All-pop (λ row. vec_len row ≤ most) c.deal_desks.new.self.rows.items c.take_last.new.row.items
     (Some c.take_last.result) c.take_last.ensures.last
     (c.in_ok-at_desks.ensures.short most
     (All-weaker (λ row. vec_len row + c.args.desks ≤ vec_len c.args.pack.books) (λ row. vec_len row ≤ most)
     (λ row short. omega (arith, short)) c.args.pack.rows.items c.requires.short)) in
-    omega (arith, row.1, c.in_ok-at_desks.ensures.left.0, c.requires.books.0)
-
-pub deal_works-requires-clause-few : goal.deal_works-requires-clause-few
-deal_works-requires-clause-few c =
-    let most = vec_len c.args.pack.books - c.args.desks in
-    let row = All-pop (λ row. vec_len row ≤ most) c.deal_desks.new.self.rows.items c.take_last.new.row.items
-    (Some c.take_last.result) c.take_last.ensures.last
-    (c.in_ok-at_desks.ensures.short most
-    (All-weaker (λ row. vec_len row + c.args.desks ≤ vec_len c.args.pack.books) (λ row. vec_len row ≤ most)
-    (λ row short. omega (arith, short)) c.args.pack.rows.items c.requires.short)) in
-    omega (arith, row.1, c.requires.books.1)
+    record {
+      enough = omega (arith, row.1, c.in_ok-at_desks.ensures.left.0, c.requires.books.0);
+      few = omega (arith, row.1, c.requires.books.1);
+    }
 
 pub returns : goal.returns
 returns c floor pack =

@@ -117,8 +117,8 @@ collect_works-requires-clause-room g c =
     ))
     (omega (arith, doors, c.args.doors.ok.0, c.run_all-works.result.attended.ok.0)))
 
-pub close_locks-end-requires-clause-books : goal.close_locks-end-requires-clause-books
-close_locks-end-requires-clause-books g c =
+pub close_locks-end-requires : goal.close_locks-end-requires
+close_locks-end-requires g c =
     let n = vec_len c.run_all-works.result.attended in
     let w = vec_len c.run_all-works.result.works in
     let Has = HasAttended c.args.floor g.D.Door.told g.D.Door.faults g.D.L.Link.told g.D.L.Link.faults
@@ -139,7 +139,7 @@ close_locks-end-requires-clause-books g c =
     let two = c.collect_works.ensures.collected c.args.floor (0 + n) (0 + n)
     (done-at c.args.floor c.args.floor.docks.items c.args.crew.works.items c.run_all-works.result.works.items
     c.requires.crew.works c.run_all-works.ensures.works) one in
-    (all-there c.requires.floor.0 c.requires.floor.1 (vec_len c.args.doors) c.args.floor c.collect_works.new.passes
+    let all = all-there c.requires.floor.0 c.requires.floor.1 (vec_len c.args.doors) c.args.floor c.collect_works.new.passes
     ((0 + n) + w) ((0 + n) + 1) its
     (omega (
       arith,
@@ -151,43 +151,8 @@ close_locks-end-requires-clause-books g c =
       c.run_all-works.result.attended.ok.0,
       c.run_all-works.result.works.ok.0,
     ))
-    (omega (arith, doors, c.args.doors.ok.0, c.run_all-works.result.attended.ok.0)) two).0
-
-pub close_locks-end-requires-clause-tables : goal.close_locks-end-requires-clause-tables
-close_locks-end-requires-clause-tables g c =
-    let n = vec_len c.run_all-works.result.attended in
-    let w = vec_len c.run_all-works.result.works in
-    let Has = HasAttended c.args.floor g.D.Door.told g.D.Door.faults g.D.L.Link.told g.D.L.Link.faults
-    c.args.words.now in
-    let many = AllZip-long (IsIdleAt c.args.floor) c.args.floor.docks.items c.args.crew.works.items
-    c.requires.crew.works in
-    let after = AllZip-long HasDone c.args.crew.works.items c.run_all-works.result.works.items
-    c.run_all-works.ensures.works in
-    let doors = AllZip-long Has c.args.doors.items c.run_all-works.result.attended.items c.run_all-works.ensures.doors in
-    let its = c.requires.floor.2 in
-    let desks = All-weaker (λ (one : Attended g.row.D.Denot). (door : g.row.D.Denot) × Has door one)
-    (λ (one : Attended g.row.D.Denot). IsDeskOf c.args.floor.book c.args.floor.docks.items one.desk)
-    (λ one is. is.1.its) c.run_all-works.result.attended.items
-    (all-right Has c.args.doors.items c.run_all-works.result.attended.items c.run_all-works.ensures.doors) in
-    let one = c.take_doors-doors.ensures.collected c.args.floor 0 0 desks
-    (none-collected (length c.args.floor.docks.items) (vec_len c.args.doors) c.args.room c.requires.room c.args.floor
-    refl) in
-    let two = c.collect_works.ensures.collected c.args.floor (0 + n) (0 + n)
-    (done-at c.args.floor c.args.floor.docks.items c.args.crew.works.items c.run_all-works.result.works.items
-    c.requires.crew.works c.run_all-works.ensures.works) one in
-    (all-there c.requires.floor.0 c.requires.floor.1 (vec_len c.args.doors) c.args.floor c.collect_works.new.passes
-    ((0 + n) + w) ((0 + n) + 1) its
-    (omega (
-      arith,
-      many,
-      after,
-      doors,
-      its.count,
-      c.args.doors.ok.0,
-      c.run_all-works.result.attended.ok.0,
-      c.run_all-works.result.works.ok.0,
-    ))
-    (omega (arith, doors, c.args.doors.ok.0, c.run_all-works.result.attended.ok.0)) two).1
+    (omega (arith, doors, c.args.doors.ok.0, c.run_all-works.result.attended.ok.0)) two in
+    record { books = all.0; tables = all.1 }
 
 pub returns : goal.returns
 returns g c = record {
