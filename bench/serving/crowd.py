@@ -79,7 +79,7 @@ async def main(tables, seats, doors, minutes):
     for table in range(1, tables + 1):
         assert await crowd.floor.ask(f"watch {table}") == "ok"
     places = [(table, seat) for seat in range(1, seats + 1) for table in range(1, tables + 1)]
-    began = time.time()
+    began, empty = time.time(), server.peak()
     for index, (table, seat) in enumerate(places):
         reply = await crowd.floor.ask(f"enter p{index + 1} {table} {seat}")
         assert reply == "ok", (index, table, seat, reply)
@@ -105,8 +105,8 @@ async def main(tables, seats, doors, minutes):
           f"worst {at(crowd.waits, 1):.2f}")
     print(f"from there to the act's: median {at(crowd.delays, 0.5):.2f} ms, 99 of 100 {at(crowd.delays, 0.99):.2f}, "
           f"worst {at(crowd.delays, 1):.2f}; an echo's median {at(echoed, 0.5):.2f} ms")
-    print(f"processor {used:.1f} s, peak of memory {peak} kB, text {len(text)} bytes, refused {len(crowd.refused)}, "
-          f"{len(crowd.visits)} visits compared")
+    print(f"processor {used:.1f} s, peak of memory {peak} kB, {empty} kB before anybody entered, text {len(text)} bytes, "
+          f"refused {len(crowd.refused)}, {len(crowd.visits)} visits compared")
     for each in crowd.refused[:5]:
         print("refused:", *each)
 

@@ -130,7 +130,7 @@ async def main(tables, seats, minutes):
     places = [(table, seat) for seat in range(1, seats + 1) for table in range(1, tables + 1)]
     for index, (player, (table, seat)) in enumerate(zip(players, places)):
         await player.come(PORT + 1 + index, table)
-    began = time.time()
+    began, empty = time.time(), server.peak()
     for player, (table, seat) in zip(players, places):
         reply = await floor.link.ask(f"enter {player.name} {table} {seat}")
         assert reply == "ok", (player.name, table, seat, reply)
@@ -157,7 +157,8 @@ async def main(tables, seats, minutes):
           f"an echo's median {at(echoed, 0.5):.2f} ms")
     print(f"line to another's news: median {at(floor.delays, 0.5):.2f} ms, 99 of 100 {at(floor.delays, 0.99):.2f}, "
           f"worst {at(floor.delays, 1):.2f}")
-    print(f"processor {used:.1f} s, peak of memory {peak} kB, text {len(text)} bytes, refused {len(floor.refused)}")
+    print(f"processor {used:.1f} s, peak of memory {peak} kB, {empty} kB before anybody entered, text {len(text)} bytes, "
+          f"refused {len(floor.refused)}")
     for each in floor.refused[:5]:
         print("refused:", *each)
 
