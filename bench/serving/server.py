@@ -69,4 +69,6 @@ def check_view(text, name, lines):
         parts.setdefault(line.split(" ", 1)[0], []).append(line)
     for part, told in parts.items():
         all_told = [line for line in whole if line.split(" ", 1)[0] == part]
-        assert told == all_told[:len(told)], (name, part)
+        assert told[:len(all_told)] == all_told[:len(told)], (name, part)
+        # the acts of a hand that the stop made void are in no text
+        assert not any(line.split(" ")[1] == "hand" for line in told[len(all_told):]), (name, part)
