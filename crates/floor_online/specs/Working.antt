@@ -68,7 +68,8 @@ module _ (floor : Floor) where
 
   module _ {D L : Type 0} (door_told : D → Option (DoorTelling L)) (door_faults : D → ℕ)
       (link_told : L → Option Telling) (link_faults : L → ℕ) (words : WordTerms) where
-    -- A desk that had done nothing served the clients of this door, until the tournament was stopped or the door failed.
+    -- A desk that had done nothing served the clients of this door, until the tournament was stopped or the door
+    -- failed.
     pub record HasAttended (door : D) (attended : Attended D) : Type 0 where
       pub start : Desk
       pub none_at_book : own start.book ≡ []
