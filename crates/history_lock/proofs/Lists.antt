@@ -6,6 +6,19 @@ use lib.ListN.{get_elem?}
 use Rattle.atomic_table.proofs.Lists.{at_set}
 use Rattle.history_lock.specs.Views.{Each, AtLeastOne}
 
+-- no bell was rung yet
+abbrev pub no_rings : List ℕ
+no_rings = 0 ∷ 0 ∷ 0 ∷ 0 ∷ 0 ∷ 0 ∷ 0 ∷ 0 ∷ 0 ∷ 0 ∷ 0 ∷ 0 ∷ 0 ∷ 0 ∷ 0 ∷ 0 ∷ 0 ∷ []
+
+-- a write behind the first three words leaves these
+pub rung : (words : List ℕ) (a b c x i : ℕ) (bells : List ℕ) → words ≡ a ∷ b ∷ c ∷ bells → 3 ≤ i
+    → (more : List ℕ) × (set words i x ≡ a ∷ b ∷ c ∷ more)
+rung words a b c x zero bells is le = absurd (omega arith)
+rung words a b c x (suc zero) bells is le = absurd (omega arith)
+rung words a b c x (suc (suc zero)) bells is le = absurd (omega arith)
+rung words a b c x (suc (suc (suc k))) bells is le =
+    (set bells k x, ap (λ ws. set ws (suc (suc (suc k))) x) is)
+
 -- the function with another value at one index
 abbrev pub put : (ℕ → ℕ) → ℕ → ℕ → ℕ → ℕ
 put f i x j = cond (eqb j i) x (f j)

@@ -41,7 +41,7 @@ module _ {Val E : Type 0} (history : Val → List E) (caller_of : E → ℕ) (n 
   begins s r id v x at has = (subst (Each (λ (z : Share E). IsPrefix z.seen r.now)) has (r.longest.begin_it id v at)).0
 
   word : (s : St) (r : Rule s) (i : ℕ)
-      → get_or s.words i 0 ≡ get_or (r.ticket ∷ r.serving ∷ length r.now ∷ r.calls ∷ []) i 0
+      → get_or s.words i 0 ≡ get_or (r.ticket ∷ r.serving ∷ length r.now ∷ r.bells) i 0
   word s r i = ap (λ ws. get_or ws i 0) r.words
 
   -- a pass with no ticket may draw one: it gets the number found as its ticket, and has one hold more
@@ -60,7 +60,7 @@ module _ {Val E : Type 0} (history : Val → List E) (caller_of : E → ℕ) (n 
           now = r.now;
           ticket = (found + 1) % 2 ^ 64;
           serving = r.serving;
-          calls = r.calls;
+          bells = r.bells;
           keeper = r.keeper;
           limit = r.limit;
           grown = r.grown;
@@ -136,7 +136,7 @@ module _ {Val E : Type 0} (history : Val → List E) (caller_of : E → ℕ) (n 
           now = r.now;
           ticket = r.ticket;
           serving = r.serving;
-          calls = r.calls;
+          bells = r.bells;
           keeper = r.keeper;
           limit = r.limit;
           grown = r.grown;
@@ -218,11 +218,11 @@ module _ {Val E : Type 0} (history : Val → List E) (caller_of : E → ℕ) (n 
           now = left;
           ticket = r.ticket;
           serving = r.serving;
-          calls = r.calls;
+          bells = r.bells;
           keeper = r.keeper;
           limit = r.limit;
           grown = later;
-          words = ap (λ ws. set ws 2 count) r.words ∙ ap (λ k. r.ticket ∷ r.serving ∷ k ∷ r.calls ∷ []) is;
+          words = ap (λ ws. set ws 2 count) r.words ∙ ap (λ k. r.ticket ∷ r.serving ∷ k ∷ r.bells) is;
           tickets = tickets_stay n r.ticket r.serving s.views id v w at refl r.tickets;
           longest = seen_grows r.now left s.views id v w x y at has refl longer (omega arith) (prefix_self left) known
               (inl refl) r.longest;
@@ -268,7 +268,7 @@ module _ {Val E : Type 0} (history : Val → List E) (caller_of : E → ℕ) (n 
           now = r.now;
           ticket = r.ticket;
           serving = (found + 1) % 2 ^ 64;
-          calls = r.calls;
+          bells = r.bells;
           keeper = r.keeper;
           limit = r.limit;
           grown = r.grown;
@@ -314,7 +314,7 @@ module _ {Val E : Type 0} (history : Val → List E) (caller_of : E → ℕ) (n 
           now = r.now;
           ticket = r.ticket;
           serving = r.serving;
-          calls = r.calls;
+          bells = r.bells;
           keeper = r.keeper;
           limit = r.limit;
           grown = r.grown;

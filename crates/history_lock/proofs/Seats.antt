@@ -9,12 +9,12 @@ use Rattle.atomic_table.specs.Table.{State, step, keeps, Allows, Enters, Splits,
 use Rattle.atomic_table.proofs.Lists.{set_here, set_else, set_again, at_longer, at_last}
 use Rattle.history_lock.specs.declared.view.Share.{Share}
 use Rattle.history_lock.specs.declared.view.View.{View}
-use Rattle.history_lock.specs.Limits.{most_passes, opener}
+use Rattle.history_lock.specs.Limits.{first_bell, most_passes, opener}
 use Rattle.history_lock.specs.Entries.{entries_by}
 use Rattle.history_lock.specs.Views.{Each, AtLeastOne, HasView, share_count, view_of, spent_view, shares_from, opening_view, further_shares, only_first}
 use Rattle.history_lock.specs.Rule.{IsKept, IsKeptShare, NowIsLongest, NumbersAreKept, IsSpent}
-use Rattle.history_lock.specs.Steps.{arrived}
-use Rattle.history_lock.proofs.Lists.{within, each_set, each_append, each_map, at_push, least_append_left, least_append_right, each_both, put, put_here, put_else, turn, turn_here, turn_else}
+use Rattle.history_lock.specs.Steps.{arrived, rang}
+use Rattle.history_lock.proofs.Lists.{within, each_set, each_append, each_map, at_push, least_append_left, least_append_right, each_both, put, put_here, put_else, rung, no_rings, turn, turn_here, turn_else}
 use Rattle.history_lock.proofs.Prefixes.{prefix_self, entries_by_other, not_grown}
 use Rattle.history_lock.proofs.Frames.{shares_of, same_view, tickets_stay, served_stays, share_count-set, is_spent}
 use Rattle.history_lock.proofs.Tickets.{tickets_push, served_push, spent_push, slot_push, slot_stays}
@@ -68,7 +68,7 @@ module _ {Val E : Type 0} (history : Val → List E) (caller_of : E → ℕ) (n 
       now = r.now;
       ticket = r.ticket;
       serving = r.serving;
-      calls = r.calls;
+      bells = r.bells;
       keeper = r.keeper;
       limit = r.limit;
       grown = r.grown;
@@ -83,25 +83,25 @@ module _ {Val E : Type 0} (history : Val → List E) (caller_of : E → ℕ) (n 
     refl,
   )
 
-  -- any seat may count one more wake call, and the rule is kept
-  pub calls : (slots id : ℕ) (v : View E) (c : List (ℕ × Option Val))
-      → Allows Rule slots id (v, c) 3 (λ k. (k + 1) % 2 ^ 64) (λ _ _. Unit {0})
-  calls slots id v c s r _ at _ =
-      let found : ℕ = get_or s.words 3 0 in
-      let next : ℕ = (found + 1) % 2 ^ 64 in (
+  -- any seat may ring a bell, which changes no view, and the rule is kept
+  pub rings : (slots id i : ℕ) (v : View E) (c : List (ℕ × Option Val)) → first_bell ≤ i
+      → Allows Rule slots id (v, c) i (λ k. (k + 1) % 2 ^ 64) (rang (step slots i 1 0 none) (v, c))
+  rings slots id i v c is_bell s r _ at _ =
+      let next : ℕ = (get_or s.words i 0 + 1) % 2 ^ 64 in
+      let left = rung s.words r.ticket r.serving (length r.now) next i r.bells r.words is_bell in (
         v,
         keeps,
         tt,
-        subst (λ (vs : List (View E)). Rule record { words = set s.words 3 next; homes = s.homes; views = vs })
+        subst (λ (vs : List (View E)). Rule record { words = set s.words i next; homes = s.homes; views = vs })
             (sym (set_again s.views id v at)) record {
               now = r.now;
               ticket = r.ticket;
               serving = r.serving;
-              calls = next;
+              bells = left.0;
               keeper = r.keeper;
               limit = r.limit;
               grown = r.grown;
-              words = ap (λ ws. set ws 3 next) r.words;
+              words = left.1;
               tickets = r.tickets;
               longest = r.longest;
               numbers = r.numbers;
@@ -109,7 +109,7 @@ module _ {Val E : Type 0} (history : Val → List E) (caller_of : E → ℕ) (n 
               slot = r.slot;
               spent = r.spent;
             },
-        tt,
+        refl,
       )
 
   -- a share that stands in the j-th view
@@ -141,7 +141,7 @@ module _ {Val E : Type 0} (history : Val → List E) (caller_of : E → ℕ) (n 
         now = r.now;
         ticket = r.ticket;
         serving = r.serving;
-        calls = r.calls;
+        bells = r.bells;
         keeper = keeper';
         limit = r.limit;
         grown = r.grown;
@@ -259,7 +259,7 @@ module _ {Val E : Type 0} (history : Val → List E) (caller_of : E → ℕ) (n 
         now = r.now;
         ticket = r.ticket;
         serving = r.serving;
-        calls = r.calls;
+        bells = r.bells;
         keeper = keeper';
         limit = r.limit;
         grown = r.grown;
@@ -358,16 +358,16 @@ module _ {Val E : Type 0} (history : Val → List E) (caller_of : E → ℕ) (n 
   pub opens : (count : ℕ) (val : Val) → 0 < n → n ≤ most_passes → history val ≡ start
       → count ≡ length start
       → count < 2 ^ 64 → Each (λ e. caller_of e ≡ opener) start
-      → Rule (opening (0 ∷ 0 ∷ count ∷ 0 ∷ []) (Some val ∷ []) (opening_view n start))
+      → Rule (opening (0 ∷ 0 ∷ count ∷ no_rings) (Some val ∷ []) (opening_view n start))
   opens count val some_pass limit is counts fits theirs = record {
     now = start;
     ticket = 0;
     serving = 0;
-    calls = 0;
+    bells = no_rings;
     keeper = λ _. 0;
     limit = limit;
     grown = not_grown caller_of n start;
-    words = ap (λ k. 0 ∷ 0 ∷ k ∷ 0 ∷ []) counts;
+    words = ap (λ k. 0 ∷ 0 ∷ k ∷ no_rings) counts;
     tickets = record {
       difference = refl;
       few = omega arith;

@@ -9,9 +9,9 @@ use Rattle.history_lock.specs.Limits.{most_passes}
 use Rattle.history_lock.specs.Entries.{entries_by, IsGrownByPasses}
 use Rattle.history_lock.specs.Views.{Each, AtLeastOne, HasView, view_own, view_seen, waiting, share_count}
 
--- The words are the next ticket, the ticket that is served, the count of entries, and how often a wake was called.
-abbrev pub AreWords : List ℕ → ℕ → ℕ → ℕ → ℕ → Type 0
-AreWords words ticket serving count calls = words ≡ ticket ∷ serving ∷ count ∷ calls ∷ []
+-- The words are the next ticket, the ticket that is served, the count of entries, and how often each bell was rung.
+abbrev pub AreWords : List ℕ → ℕ → ℕ → ℕ → List ℕ → Type 0
+AreWords words ticket serving count bells = words ≡ ticket ∷ serving ∷ count ∷ bells
 
 module _ {E : Type 0} where
   -- The difference of the two tickets is the number of views with a ticket, at most n. The tickets differ, and lie in
@@ -78,10 +78,10 @@ module _ {E : Type 0} where
     pub now : List E
     pub ticket : ℕ
     pub serving : ℕ
-    pub calls : ℕ
+    pub bells : List ℕ
     pub keeper : ℕ → ℕ
     pub limit : n ≤ most_passes
-    pub words : AreWords s.words ticket serving (length now) calls
+    pub words : AreWords s.words ticket serving (length now) bells
     pub tickets : TicketsAreInRange n ticket serving s.views
     pub grown : IsGrownByPasses caller_of n opening now
     pub longest : NowIsLongest now s.views

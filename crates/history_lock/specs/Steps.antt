@@ -58,6 +58,10 @@ module _ {Val E : Type 0} where
       (after ≡ (record before.0 { known = found }, before.1)) × (before.0.known ≤ found)
       × Each (λ (x : Share E). length x.seen ≤ found) before.0.shares
 
+  -- Ring a bell: nothing changes.
+  abbrev pub rang : Step (Option Val) → Me (Option Val) (View E) → ℕ → Me (Option Val) (View E) → Type 0
+  rang step before found after = after ≡ before
+
   -- A new seat has a view with no share.
   abbrev pub arrived : Step (Option Val) → Me (Option Val) (View E) → ℕ → Me (Option Val) (View E) → Type 0
   arrived step before found after = after.0 ≡ spent_view

@@ -2,6 +2,7 @@
 ghost use Rattle.std.specs.Prelude.{◌≡◌, ℕ, ◌<◌, ◌↔◌, [], All, Any, IfErr, IfOk, IsErr, None, false, map, vec_len};
 ghost use mathlib.Core.List.{IsPrefix};
 ghost use Rattle.history_lock.specs.Entries.{entries_by, IsGrownByPasses};
+ghost use Rattle.history_lock.specs.Limits.{word_count};
 ghost use Rattle.history_lock.specs.Passes.{lock_id, lock_of, opening_value, own, pass_count, pass_number, seen, share_of};
 
 use crate::grows::Grows;
@@ -19,7 +20,8 @@ pub struct NotAll<V: Grows> {
 
 // The seat of the last pass, which takes in the others.
 fn take_in<V: Grows>(steps: &Steps<V>, passes: Vec<Pass<V>>) -> LockSeat<V>
-    requires table { All (λ p. lock_of p ≡ steps.now.table_id) passes.items × (steps.now.table_id.words ≡ 4) }
+    requires table { All (λ p. lock_of p ≡ steps.now.table_id) passes.items
+        × (steps.now.table_id.words ≡ word_count) }
     requires some { 0 < vec_len passes }
     ensures table { result.table_id ≡ steps.now.table_id }
     ensures shares { result.me.0.shares ≡ map share_of passes.items }

@@ -3,10 +3,12 @@ ghost use Rattle.std.specs.Prelude.{◌≡◌, ◌+◌, ◌++◌, ◌<◌, ◌�
 ghost use mathlib.Core.List.{IsPrefix};
 ghost use Rattle.history_lock.specs.Entries.{entries_by, IsGrownBy};
 ghost use Rattle.history_lock.specs.Holds.{IsEntered, IsLeft};
+ghost use Rattle.history_lock.specs.Limits.{word_count};
 ghost use Rattle.history_lock.specs.Passes.{lock_of, lock_id, pass_number, seen, own, holds, known, value_of, found, inside_lock, inside_number, inside_own, inside_holds, inside_known};
 ghost use Rattle.history_lock.specs.Views.{ticketed_view, let_in_view, first_share};
 ghost use Rattle.history_lock.specs.Steps.{IsFound, served_view, share_left};
 
+use crate::bells::{bell_of, ring, sleep};
 use crate::grows::Grows;
 use crate::inside::{Inside, Turn};
 use crate::lock::HistoryLock;
@@ -18,9 +20,31 @@ use std::marker::Brand;
 use std::snapshot::Snapshot;
 use std::sync::Wait;
 
+// Looks away for a moment, and after some of these sleeps until the bell is rung.
+fn rest<V: Grows, R: Wait>(rt: &R, steps: &Steps<V>, backoff: &Backoff, bell: usize, rings: u64)
+    requires { bell < steps.now.table_id.words }
+{
+    if backoff.is_completed() {
+        sleep(rt, steps, bell, rings);
+    } else {
+        backoff.snooze();
+    }
+}
+
+// Rings for whoever has the ticket that is served now, unless nobody has drawn it yet.
+fn call_next<V: Grows>(steps: &Steps<V>, seat: &mut LockSeat<V>, served: u64)
+    requires table { (seat.old.table_id ≡ steps.now.table_id) × (steps.now.table_id.words ≡ word_count) }
+    ensures same { (seat.new.table_id ≡ seat.old.table_id) × (seat.new.id ≡ seat.old.id)
+        × (seat.new.me ≡ seat.old.me) }
+{
+    if steps.peek(TICKET) != served {
+        ring(steps, seat, bell_of(served));
+    }
+}
+
 // Waits until the ticket is served, and takes the value out of the slot.
 fn wait_turn<V: Grows, R: Wait>(rt: &R, steps: &Steps<V>, seat: &mut LockSeat<V>, ticket: u64) -> V
-    requires table { (seat.old.table_id ≡ steps.now.table_id) × (steps.now.table_id.words ≡ 4)
+    requires table { (seat.old.table_id ≡ steps.now.table_id) × (steps.now.table_id.words ≡ word_count)
         × (steps.now.table_id.slots ≡ 1) }
     requires ready { (seat.old.me.0 ≡ ticketed_view ticket seat.old.me.0) × (seat.old.me.1 ≡ []) }
     ensures seat { (seat.new.table_id ≡ seat.old.table_id) × (seat.new.id ≡ seat.old.id) }
@@ -28,12 +52,14 @@ fn wait_turn<V: Grows, R: Wait>(rt: &R, steps: &Steps<V>, seat: &mut LockSeat<V>
         ≡ (served_view seat.old.me.0 (first_share seat.old.me.0.shares) (V.history result), (0, None) ∷ []) }
     ensures found { IsFound V.history V.caller_of (first_share seat.old.me.0.shares) seat.old.me.0.known result }
 {
+    let bell = bell_of(ticket);
     let backoff = Backoff::new();
     for _ in rt.forever() {
+        let rings = steps.peek(bell);
         if steps.load::<Look>(seat, SERVING) == ticket {
             return steps.exchange(seat, SLOT, None).unwrap();
         }
-        backoff.snooze();
+        rest(rt, steps, &backoff, bell, rings);
     }
     unreachable!()
 }
@@ -47,7 +73,7 @@ fn publish<V: Grows, J: Leaving<V::Entry>>(
 )
     requires left { V.history left.now.value ≡ J.left }
     requires count { count ≡ length (V.history left.now.value) }
-    requires table { (seat.old.table_id ≡ steps.now.table_id) × (steps.now.table_id.words ≡ 4)
+    requires table { (seat.old.table_id ≡ steps.now.table_id) × (steps.now.table_id.words ≡ word_count)
         × (steps.now.table_id.slots ≡ 1) }
     requires served { (seat.old.me.0 ≡ let_in_view seat.old.me.0) × (seat.old.me.1 ≡ (0, None) ∷ []) }
     requires grown { IsGrownBy V.caller_of (first_share seat.old.me.0.shares).number
@@ -103,7 +129,8 @@ impl<V: Grows> HistoryLock<V> {
         publish::<V, Brand>(steps, &mut seat, &left, count);
         let taken = steps.exchange(&mut seat, SLOT, Some(value));
         let None = taken else { unreachable!() };
-        steps.fetch_add::<PassOn>(&mut seat, SERVING, 1);
+        let served = steps.fetch_add::<PassOn>(&mut seat, SERVING, 1);
+        call_next(steps, &mut seat, served.wrapping_add(1));
         Pass {
             number,
             known,

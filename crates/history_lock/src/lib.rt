@@ -20,6 +20,7 @@
 //! tells.
 #![tactic(auto)]
 
+mod bells;
 mod closing;
 mod diary;
 mod entering;

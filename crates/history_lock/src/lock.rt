@@ -1,5 +1,6 @@
 //! The lock.
 ghost use Rattle.std.specs.Prelude.{◌≡◌, ◌<◌};
+ghost use Rattle.history_lock.specs.Limits.{word_count};
 
 use crate::grows::Grows;
 use crate::rule::Board;
@@ -11,5 +12,5 @@ pub struct HistoryLock<V: Grows> {
     pub(crate) passes: u32,
     ghost counted: { table.shared.key.passes ≡ passes },
     ghost some: { 0 < passes },
-    ghost sized: { (table.shared.table_id.words ≡ 4) × (table.shared.table_id.slots ≡ 1) },
+    ghost sized: { (table.shared.table_id.words ≡ word_count) × (table.shared.table_id.slots ≡ 1) },
 }

@@ -1,6 +1,6 @@
 //! How a lock is made, with its passes.
 ghost use Rattle.std.specs.Prelude.{◌≡◌, ◌<◌, ◌≤◌, [], ◌∷◌, All, IfErr, IfOk, Some, vec_capacity, vec_len};
-ghost use Rattle.history_lock.specs.Limits.{most_passes, opener};
+ghost use Rattle.history_lock.specs.Limits.{most_passes, opener, word_count};
 ghost use Rattle.history_lock.specs.Passes.{lock_id, opening_value, pass_count, AreFresh};
 ghost use Rattle.history_lock.specs.Views.{first_share, opening_view};
 
@@ -8,14 +8,14 @@ use crate::grows::Grows;
 use crate::lock::HistoryLock;
 use crate::pass::Pass;
 use crate::plays::Deal;
-use crate::rule::{LockSeat, Steps, Terms};
+use crate::rule::{COUNT, LockSeat, Steps, Terms, WORDS};
 use atomic_table::{Refused, Table};
 use std::alloc::Global;
 use std::snapshot::Snapshot;
 
 // Gives out the passes: one is split off for each number but the last, which the seat itself has.
 fn deal<V: Grows>(steps: &Steps<V>, seat: LockSeat<V>, passes: Vec<Pass<V>>, n: u32) -> Vec<Pass<V>>
-    requires table { (seat.table_id ≡ steps.now.table_id) × (steps.now.table_id.words ≡ 4) }
+    requires table { (seat.table_id ≡ steps.now.table_id) × (steps.now.table_id.words ≡ word_count) }
     requires all { (seat.me.0 ≡ opening_view n (first_share seat.me.0.shares).seen) × (seat.me.1 ≡ []) × (0 < n) }
     requires room { (passes.items ≡ []) × (n ≤ vec_capacity passes) }
     requires opener { (n ≤ most_passes) × All (λ e. V.caller_of e ≡ opener) (first_share seat.me.0.shares).seen }
@@ -77,7 +77,9 @@ pub fn make<V: Grows>(alloc: Global, value: V, n: u32) -> Result<(HistoryLock<V>
         Ok(slots) => slots,
         Err(value) => return Err(value),
     };
-    match Table::new(alloc, &[0, 0, count, 0], slots, &terms) {
+    let mut words = [0; WORDS];
+    words[COUNT] = count;
+    match Table::new(alloc, &words, slots, &terms) {
         Ok((table, seat)) => {
             let passes = deal(&table.shared, seat, passes, n);
             Ok((HistoryLock { table, passes: n }, passes))

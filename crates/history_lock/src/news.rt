@@ -2,15 +2,13 @@
 ghost use Rattle.std.specs.Prelude.{◌≡◌, ◌≤◌, length};
 ghost use Rattle.history_lock.specs.Passes.{lock_id, lock_of, known, seen, IsSameButKnown};
 
+use crate::bells::{ring, sleep};
 use crate::grows::Grows;
 use crate::lock::HistoryLock;
 use crate::pass::Pass;
-use crate::plays::{Arrive, Call, Count};
-use crate::rule::{CALLS, COUNT};
+use crate::plays::{Arrive, Count};
+use crate::rule::{COUNT, NEWS_BELL};
 use std::sync::Wait;
-
-// A park compares the low 32 bits.
-const LOW: u64 = 0xffff_ffff;
 
 impl<V: Grows> HistoryLock<V> {
     /// Loads the count of entries now. It waits for nobody, and takes no memory.
@@ -31,8 +29,8 @@ impl<V: Grows> HistoryLock<V> {
 
     /// Waits for a greater count than the pass knows, or for a wake, and may answer earlier.
     ///
-    /// It parks only while no wake was called since it began, so a wake between its last load and the park ends the
-    /// park.
+    /// It sleeps only while no wake was called since it began, so a wake between its last load and the sleep ends the
+    /// sleep.
     pub fn await_news<R: Wait>(&self, rt: &R, pass: Pass<V>) -> Pass<V>
         requires { lock_of pass ≡ lock_id self.now }
 
@@ -44,10 +42,10 @@ impl<V: Grows> HistoryLock<V> {
     {
         let mut pass = pass;
         let steps = &self.table.shared;
-        let calls = steps.peek(CALLS) & LOW;
+        let rings = steps.peek(NEWS_BELL);
         let known = pass.known;
         if self.news(&mut pass) == known {
-            steps.park(rt, CALLS, calls as u32);
+            sleep(rt, steps, NEWS_BELL, rings);
             self.news(&mut pass);
         }
         pass
@@ -56,8 +54,7 @@ impl<V: Grows> HistoryLock<V> {
     /// Ends the waits of all threads that await news. It takes no memory.
     pub fn wake(&self) {
         let steps = &self.table.shared;
-        let (_, mut seat) = steps.load_new_seat::<Arrive>(CALLS);
-        steps.fetch_add::<Call>(&mut seat, CALLS, 1);
-        steps.wake_all(CALLS);
+        let (_, mut seat) = steps.load_new_seat::<Arrive>(NEWS_BELL);
+        ring(steps, &mut seat, NEWS_BELL);
     }
 }

@@ -96,9 +96,11 @@ impl<V: Grows> Play<Option<V>, View<V::Entry>> for Arrive {
     ghost then = { arrived };
 }
 
-/// Counts a wake, which tells nothing.
-pub(crate) struct Call;
+/// Rings a bell, which changes nothing of the view.
+pub(crate) struct Ring;
 
-impl<V: Grows> Play<Option<V>, View<V::Entry>> for Call {
-    ghost then = { λ _ _ _ _. Unit {0} };
+impl<V: Grows> Play<Option<V>, View<V::Entry>> for Ring {
+    ghost use Rattle.history_lock.specs.Steps.{rang};
+
+    ghost then = { rang };
 }

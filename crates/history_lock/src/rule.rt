@@ -36,8 +36,17 @@ pub(crate) const SERVING: usize = 1;
 /// How many entries the history has.
 pub(crate) const COUNT: usize = 2;
 
-/// How often a wake was called.
-pub(crate) const CALLS: usize = 3;
+/// The bell of those who await news: how often it was rung.
+pub(crate) const NEWS_BELL: usize = 3;
+
+/// The first of the bells of those who wait for their tickets.
+pub(crate) const FIRST_BELL: usize = 4;
+
+/// How many bells those who wait for their tickets share.
+pub(crate) const BELLS: u64 = 16;
+
+/// How many words a lock has.
+pub(crate) const WORDS: usize = 20;
 
 /// The slot that has the value.
 pub(crate) const SLOT: usize = 0;

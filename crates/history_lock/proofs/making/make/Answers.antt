@@ -1,11 +1,11 @@
-use Rattle.std.proofs.Common.{◌≡◌, ◌∷◌, ℕ, [], List, refl, sym, ap, ◌∙◌, subst, arith, Option, All}
+use Rattle.std.proofs.Common.{◌≡◌, ◌∷◌, ℕ, List, refl, sym, ap, ◌∙◌, subst, arith, Option, All}
 use Rattle.atomic_table.specs.Table.{opening}
 use Rattle.atomic_table.specs.Seated.{TableId}
 use Rattle.history_lock.specs.Limits.{opener}
 use Rattle.history_lock.specs.Passes.{AreFresh}
 use Rattle.history_lock.specs.Rule.{IsKept}
 use Rattle.history_lock.specs.Views.{first_share, opening_view}
-use Rattle.history_lock.proofs.Lists.{each_of_all}
+use Rattle.history_lock.proofs.Lists.{each_of_all, no_rings}
 use Rattle.history_lock.proofs.Seats.{opens}
 use Rattle.history_lock.proofs.Dealing.{opening_seen}
 use Rattle.history_lock.proofs.making.make.Goals as goal
@@ -17,7 +17,7 @@ new-requires g c =
     let start = opens H C c.args.n (H c.args.value) count c.args.value c.requires.passes.0 c.requires.passes.1 refl
     c.count-count.ensures (omega arith) (each_of_all (λ e. C e ≡ opener) (H c.args.value) c.requires.opener) in
     subst (λ (t : List (Option g.row.V.Denot) × g.row.V.Denot). IsKept H C c.args.n (H t.1)
-    (opening (0 ∷ 0 ∷ count ∷ 0 ∷ []) t.0 (opening_view c.args.n (H t.1)))) (λ i. (sym slots i, sym told i)) start
+    (opening (0 ∷ 0 ∷ count ∷ no_rings) t.0 (opening_view c.args.n (H t.1)))) (λ i. (sym slots i, sym told i)) start
 
 pub deal-passes-requires-clause-all : goal.deal-passes-requires-clause-all
 deal-passes-requires-clause-all g c =

@@ -11,8 +11,8 @@ use Rattle.history_lock.specs.Steps.{passed_on, share_left}
 use Rattle.history_lock.proofs.Moves.{passes_on}
 use Rattle.history_lock.proofs.lock.HistoryLock.leave.Goals as goal
 
-pub fetch_add-requires : goal.fetch_add-requires
-fetch_add-requires g c =
+pub fetch_add-served-requires : goal.fetch_add-served-requires
+fetch_add-served-requires g c =
     let H = g.V.Grows.history in let C = g.V.Grows.caller_of in let n : ℕ = c.args.self.now.table.shared.key.passes in
     let start = H c.args.self.now.table.shared.key.opening.value in
     let slots : ℕ = c.args.self.now.table.shared.table_id.slots in let id : ℕ = c.exchange-taken.new.seat.id in
@@ -44,9 +44,9 @@ invariant_of-result-clause-mine g c =
     let told : g.row.V.Denot
     → M = λ x. (record before.0 { shares = share_left (first_share before.0.shares) (H x) ∷ [] }, (0, None) ∷ []) in
     let left : c.publish.new.seat.me ≡ told c.args.inside.value = c.publish.ensures.left ∙ ap told c.of-left.ensures in
-    let share : first_share c.fetch_add.new.seat.me.0.shares
+    let share : first_share c.call_next.new.seat.me.0.shares
     ≡ share_left (first_share before.0.shares) (H c.args.inside.value) =
-    ap (λ (m : M). first_share m.0.shares) c.fetch_add.ensures.2
+    ap (λ (m : M). first_share m.0.shares) (c.call_next.ensures.same.2 ∙ c.fetch_add-served.ensures.2)
     ∙ (ap (λ (m : M). first_share m.0.shares) c.exchange-taken.ensures.3
     ∙ ap (λ (m : M). first_share m.0.shares) left) in
     subst (λ (z : S). entries_by C k z.seen ≡ z.own) (sym share)

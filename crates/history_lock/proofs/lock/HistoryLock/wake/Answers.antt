@@ -1,6 +1,6 @@
 use Rattle.std.proofs.Common.{rules}
 use Rattle.history_lock.specs.Views.{opening_view}
-use Rattle.history_lock.proofs.Seats.{arrives, calls}
+use Rattle.history_lock.proofs.Seats.{arrives}
 use Rattle.history_lock.proofs.lock.HistoryLock.wake.Goals as goal
 
 pub load_new_seat-seat-requires : goal.load_new_seat-seat-requires
@@ -9,14 +9,4 @@ load_new_seat-seat-requires g c =
       search rules,
       arrives g.V.Grows.history g.V.Grows.caller_of t.key.passes (g.V.Grows.history t.key.opening.value)
           t.table_id.slots (opening_view t.key.passes (g.V.Grows.history t.key.opening.value)),
-    )
-
-pub fetch_add-requires : goal.fetch_add-requires
-fetch_add-requires g c =
-    let t = c.args.self.now.table.shared in
-    let seat = c.load_new_seat-seat.result.1 in (
-      search rules,
-      search rules,
-      calls g.V.Grows.history g.V.Grows.caller_of t.key.passes (g.V.Grows.history t.key.opening.value)
-          t.table_id.slots seat.id seat.me.0 seat.me.1,
     )

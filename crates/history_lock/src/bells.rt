@@ -1,0 +1,36 @@
+//! The bells of a lock: words that threads sleep on until they are rung.
+ghost use Rattle.std.specs.Prelude.{◌≡◌, ◌<◌, ◌≤◌};
+ghost use Rattle.history_lock.specs.Limits.{first_bell, word_count};
+
+use crate::grows::Grows;
+use crate::plays::Ring;
+use crate::rule::{BELLS, FIRST_BELL, LockSeat, Steps};
+use std::sync::Wait;
+
+// A sleep compares the low 32 bits.
+const LOW: u64 = 0xffff_ffff;
+
+/// Gives the bell of whoever has drawn this ticket. Of sixteen tickets in a row each has its own.
+pub(crate) fn bell_of(ticket: u64) -> usize
+    ensures { (first_bell ≤ result) × (result < word_count) }
+{
+    FIRST_BELL + (ticket % BELLS) as usize
+}
+
+/// Sleeps until the bell is rung, unless it was rung since `rings` was read from it. It may wake earlier.
+pub(crate) fn sleep<V: Grows, R: Wait>(rt: &R, steps: &Steps<V>, bell: usize, rings: u64)
+    requires { bell < steps.now.table_id.words }
+{
+    steps.park(rt, bell, (rings & LOW) as u32);
+}
+
+/// Rings a bell, and wakes all who sleep on it.
+pub(crate) fn ring<V: Grows>(steps: &Steps<V>, seat: &mut LockSeat<V>, bell: usize)
+    requires table { (seat.old.table_id ≡ steps.now.table_id) × (steps.now.table_id.words ≡ word_count) }
+    requires bell { (first_bell ≤ bell) × (bell < word_count) }
+    ensures same { (seat.new.table_id ≡ seat.old.table_id) × (seat.new.id ≡ seat.old.id)
+        × (seat.new.me ≡ seat.old.me) }
+{
+    steps.fetch_add::<Ring>(seat, bell, 1);
+    steps.wake_all(bell);
+}
