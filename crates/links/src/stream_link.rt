@@ -20,6 +20,11 @@ impl<S: Read + Write> StreamLink<S> {
     {
         StreamLink { stream, faults: 0 }
     }
+
+    /// Lends the stream, so that it may be set otherwise.
+    pub(crate) fn stream(&self) -> &S {
+        &self.stream
+    }
 }
 
 impl<S: Read + Write> Link for StreamLink<S> {

@@ -2,18 +2,15 @@
 ghost use Rattle.std.specs.Prelude.{◌≡◌, None, IfOk};
 
 use crate::door::Door;
-use crate::stream_link::StreamLink;
+use crate::tcp_link::TcpLink;
 use floor_text::Failed;
 use std::io::ErrorKind;
-use std::net::{TcpListener, TcpStream};
+use std::net::TcpListener;
 use std::time::{Clock, Duration};
 use std::{io, thread};
 
-/// How many milliseconds a read waits for bytes, and a door that found nobody sleeps.
-const PATIENCE: u64 = 20;
-
-/// How many seconds a write waits for a client who takes nothing.
-const WRITE_PATIENCE: u64 = 10;
+/// How many milliseconds a door that found nobody sleeps.
+const PAUSE: u64 = 20;
 
 /// A door over a TCP listener that does not block. Where nobody came it sleeps for 20 milliseconds, so that a desk
 /// which knocks again and again needs hardly any of a processor.
@@ -40,14 +37,14 @@ impl<C: Clock + Drop> TcpDoor<C> {
 }
 
 impl<C: Clock> Door for TcpDoor<C> {
-    type L = StreamLink<TcpStream>;
+    type L = TcpLink;
 
     ghost told = { λ _. None };
 
     ghost faults = { λ d. d.faults };
 
     /// Accepts one client. One who is gone again, or whose stream cannot be set up, counts as nobody.
-    fn knock(&mut self) -> Result<Option<StreamLink<TcpStream>>, Failed> {
+    fn knock(&mut self) -> Result<Option<TcpLink>, Failed> {
         let came = accept(&self.listener, &self.clock);
         if came.is_err() {
             self.faults = self.faults.saturating_add(1);
@@ -56,33 +53,20 @@ impl<C: Clock> Door for TcpDoor<C> {
     }
 
     /// Closes the link.
-    fn back(&mut self, _link: StreamLink<TcpStream>) {}
+    fn back(&mut self, _link: TcpLink) {}
 }
 
 /// Accepts one client, or sleeps where nobody came.
-fn accept<C: Clock>(
-    listener: &TcpListener,
-    clock: &C,
-) -> Result<Option<StreamLink<TcpStream>>, Failed> {
+fn accept<C: Clock>(listener: &TcpListener, clock: &C) -> Result<Option<TcpLink>, Failed> {
     match listener.accept() {
-        Ok((stream, _)) => match set_up(&stream) {
-            Ok(()) => Ok(Some(StreamLink::new(stream))),
-            Err(_) => Ok(None),
-        },
+        Ok((stream, _)) => Ok(TcpLink::new(stream).ok()),
         Err(error) => match error.kind() {
             ErrorKind::WouldBlock => {
-                thread::sleep(clock, Duration::from_millis(PATIENCE));
+                thread::sleep(clock, Duration::from_millis(PAUSE));
                 Ok(None)
             }
             ErrorKind::Interrupted | ErrorKind::ConnectionAborted => Ok(None),
             _ => Err(Failed),
         },
     }
-}
-
-/// Has each write sent at once, a read give up after 20 milliseconds, and a write after ten seconds.
-fn set_up(stream: &TcpStream) -> io::Result<()> {
-    stream.set_nodelay(true)?;
-    stream.set_read_timeout(Some(Duration::from_millis(PATIENCE)))?;
-    stream.set_write_timeout(Some(Duration::from_secs(WRITE_PATIENCE)))
 }

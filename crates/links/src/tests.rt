@@ -261,6 +261,13 @@ fn bytes_go_over_loopback(rt: HostRuntime) -> Result<(), Fail> {
     let mut reply = [0; 2];
     client.read_exact(&mut reply)?;
     assert!(rt; reply == [b'd', b'e']);
+    for i in 0..64 {
+        let taken = link.take(&mut buffer);
+        assert!(rt; taken == Ok(Taken::Idle), "the client is silent, take {i}");
+    }
+    client.write_all(b"g")?;
+    assert!(rt; what_comes(&mut link, &mut buffer) == Some(Taken::Bytes(1)) && buffer[0] == b'g');
+    assert!(rt; link.take(&mut buffer) == Ok(Taken::Idle), "no more came");
     drop(client);
     assert!(rt;
         what_comes(&mut link, &mut buffer) == Some(Taken::End),
