@@ -17,8 +17,8 @@
 //! | `TcpHall::doors` | no port above 65535 is opened |
 //! | `Tape::byte` | nothing: a test reads what was put, from whichever thread |
 //!
-//! `StreamLink` is a link over a stream of the standard library, `TcpLink` one over a TCP stream, `TcpDoor` a door over a
-//! listener and `TcpHall` a hall of such doors. They tell nothing but their faults.
+//! `StreamLink` is a link over a stream of the standard library, `TcpLink` one over a TCP stream, `TcpDoor` a door over
+//! a listener and `TcpHall` a hall of such doors. They tell nothing but their faults.
 //!
 //! `specs/Links.antt` says what each call does to what is told, `specs/Scripts.antt` what a script gives, and
 //! `specs/Lines.antt` when a line that it waits for was put.

@@ -22,7 +22,7 @@ pub use desk::{Asked, Desk};
 pub use laws::a_client_is_told_in_order;
 pub use links::{
     Door, Hall, HallFault, Link, MemDoor, MemHall, MemLink, Say, StreamLink, Taken, Tape, TcpDoor,
-    TcpHall,
+    TcpHall, TcpLink,
 };
 pub use session::{Session, SessionEnd, Step};
 pub use sessions::serve_session;
