@@ -1,9 +1,11 @@
 #!/usr/bin/env bash
 # The server with plain clients over loopback: an evening of twelve tables of nine, whose players each have a desk of
 # their own and act when their lines say that they are due, for at most so many minutes; 64 tables of ten, whose players
-# share 127 doors by coming, acting and leaving, for so many; and what 64 tables and 128 sessions cost where nobody says
-# anything. Each served text is replayed, and what clients were told is compared with what `view` tells. Beside the delays
-# stands the median of a plain echo over loopback in the same run. Needs python3.
+# share 123 doors by coming, acting and leaving, for so many; and what 64 tables and 128 sessions cost where nobody says
+# anything. Each served text is replayed, and what clients were told is compared with what `view` tells. The players are
+# several processes, so that they wait for the server and not for each other; beside their delays stand those of a plain
+# echo over loopback, asked by the same processes behind each act, and those of a prober with nothing else to do. Needs
+# python3.
 # Usage: bench/serving.sh [MINUTES [MINUTES]].
 set -euo pipefail
 cd "$(dirname "$0")"

@@ -1,30 +1,31 @@
-"""Players who share the desks: whoever is due comes, says hello, acts and leaves.
+"""Players who share the desks: whoever is due comes, says hello, acts and leaves. The tables and the desks are dealt out to
+a few processes.
 
 python3 -m serving.crowd TABLES SEATS DOORS MINUTES"""
 import asyncio
 import random
 import sys
-import time
 
-from serving.echo import Echo
-from serving.link import Link, at
+from serving import echo, floor
+from serving.beside import beside
+from serving.link import Link, spread
 from serving.server import LEVELS, Server, check_replay, check_view, plan
 from serving.table import Table
 
 PORT = 23000
+PROCESSES = 4
 
 
 class Crowd:
-    """The players, by their names. The floor watches all tables for them, and so knows who is due."""
+    """The players of some tables, by their names. A session of the floor watches for them, and so knows who is due."""
 
-    def __init__(self, tables, seats, doors):
-        self.tables = {table: Table() for table in range(1, tables + 1)}
-        self.seats, self.free, self.draw = seats, asyncio.Queue(), random.Random(7)
-        self.floor, self.busy, self.visits, self.tasks = Link(self.told), set(), [], set()
-        # nobody acts before all have entered: else the last tables would break while they fill
-        self.waits, self.delays, self.refused, self.acts, self.open = [], [], [], 0, False
-        for door in range(doors):
-            self.free.put_nowait(PORT + 1 + door)
+    def __init__(self, tables, doors):
+        self.tables, self.watcher = {table: Table() for table in tables}, Link(self.told)
+        self.free, self.draw = asyncio.Queue(), random.Random(tables[0])
+        self.busy, self.tasks, self.open = set(), set(), False
+        self.visits, self.waits, self.delays, self.refused = [], [], [], []
+        for door in doors:
+            self.free.put_nowait(door)
 
     def told(self, line):
         head, _, rest = line.partition(" ")
@@ -35,7 +36,7 @@ class Crowd:
         table.told(words)
         if words[0] == "post":
             table.blinds(LEVELS[0][1])
-        asyncio.get_running_loop().call_soon(self.look, number)
+        self.watcher.loop.call_soon(self.look, number)
 
     def look(self, number):
         """Sends whoever is due at a table to a door, unless somebody is there for it already."""
@@ -54,62 +55,73 @@ class Crowd:
         replies = [link.say(f"hello {name} w{name[1:]}"), link.say(f"watch {number}"), link.say(f"act {number} {act}"),
                    link.say("quit")]
         await link.gone(120)
+        self.echo.say(echo.LINE)
         self.free.put_nowait(port)
         said = [reply.result() for reply in replies]
         assert said[0] == said[1] == said[3] == "ok", said
-        self.acts += said[2] == "ok"
         if said[2] != "ok":
             self.refused.append((name, number, act, said[2]))
         self.waits.append(link.delays[0])
         self.delays.append(link.delays[2] - link.delays[0])
-        if len(self.visits) < 50 or self.draw.random() < 0.01:
+        if len(self.visits) < 20 or self.draw.random() < 0.01:
             self.visits.append((name, link.lines))
-        # the floor is told of the act a moment later
+        # the watcher is told of the act a moment later
         while said[2] == "ok" and table.told_so_far == told:
             await asyncio.sleep(0.002)
         self.busy.discard(number)
         self.look(number)
 
+    async def run(self, pipe, port, minutes):
+        self.echo = await Link().open(PORT - 1)
+        await self.watcher.open(port)
+        assert await self.watcher.ask("hello floor f") == "ok"
+        for table in self.tables:
+            assert await self.watcher.ask(f"watch {table}") == "ok"
+        pipe.send("here")
+        # nobody acts before all have entered: else the last tables would break while they fill
+        pipe.recv()
+        self.open = True
+        await asyncio.sleep(60 * minutes)
+        self.open = False
+        await asyncio.gather(*self.tasks)
+        pipe.send((self.waits, self.delays, self.echo.delays, self.refused, self.visits))
 
-async def main(tables, seats, doors, minutes):
+
+def play(pipe, tables, doors, minutes):
+    """Plays at some tables for so many minutes. The first door is the watcher's."""
+    asyncio.run(Crowd(tables, doors[1:]).run(pipe, doors[0], minutes))
+
+
+class Floor(floor.Floor):
+    """Waits until the crowds are through."""
+
+    def __init__(self, tables, seats, crowds):
+        super().__init__(tables, seats)
+        self.crowds = crowds
+
+    async def play(self):
+        return [await asyncio.to_thread(crowd.recv) for crowd in self.crowds]
+
+
+def main(tables, seats, doors, minutes):
     server = Server(PORT, doors + 1, plan(tables, seats))
-    crowd = Crowd(tables, seats, doors)
-    await crowd.floor.open(PORT)
-    assert await crowd.floor.ask("hello floor f") == "ok"
-    for table in range(1, tables + 1):
-        assert await crowd.floor.ask(f"watch {table}") == "ok"
-    places = [(table, seat) for seat in range(1, seats + 1) for table in range(1, tables + 1)]
-    began, empty = time.time(), server.peak()
-    for index, (table, seat) in enumerate(places):
-        reply = await crowd.floor.ask(f"enter p{index + 1} {table} {seat}")
-        assert reply == "ok", (index, table, seat, reply)
-    crowd.open = True
-    for table in crowd.tables:
-        crowd.look(table)
-    echo = Echo(PORT - 1)
-    echo.start()
-    await asyncio.sleep(60 * minutes)
-    crowd.open = False
-    echoed = echo.end()
-    await asyncio.gather(*crowd.tasks)
-    assert await crowd.floor.ask("stop") == "ok"
-    took, peak, used = time.time() - began, server.peak(), server.seconds()
-    await crowd.floor.gone()
+    beside(echo.serve, PORT - 1)
+    crowds = [beside(play, range(each, tables + 1, PROCESSES), range(PORT + each, PORT + doors + 1, PROCESSES), minutes)
+              for each in range(1, PROCESSES + 1)]
+    told = asyncio.run(Floor(tables, seats, crowds).run(PORT, server, crowds))
     text = server.end()
     check_replay(text)
-    for name, lines in crowd.visits:
+    waits, delays, echoed, refused, visits = (sum(parts, []) for parts in zip(*told))
+    for name, lines in visits:
         check_view(text, name, lines)
-    acts = text.count(b"\nact ")
-    print(f"{tables} tables of {seats} at {doors} doors: {took:.0f} s, {acts} acts, {acts / took:.0f} a second")
-    print(f"coming to the hello's reply: median {at(crowd.waits, 0.5):.2f} ms, 99 of 100 {at(crowd.waits, 0.99):.2f}, "
-          f"worst {at(crowd.waits, 1):.2f}")
-    print(f"from there to the act's: median {at(crowd.delays, 0.5):.2f} ms, 99 of 100 {at(crowd.delays, 0.99):.2f}, "
-          f"worst {at(crowd.delays, 1):.2f}; an echo's median {at(echoed, 0.5):.2f} ms")
-    print(f"processor {used:.1f} s, peak of memory {peak} kB, {empty} kB before anybody entered, text {len(text)} bytes, "
-          f"refused {len(crowd.refused)}, {len(crowd.visits)} visits compared")
-    for each in crowd.refused[:5]:
+    print(f"{tables} tables of {seats} at {doors - PROCESSES} doors: {server.played(text)}")
+    print(f"coming to the hello's reply: {spread(waits)}")
+    print(f"from there to the act's: {spread(delays)}")
+    print(f"an echo asked after each visit: {spread(echoed)}")
+    print(f"{server.cost(text)}, refused {len(refused)}, {len(visits)} visits compared")
+    for each in refused[:5]:
         print("refused:", *each)
 
 
 if __name__ == "__main__":
-    asyncio.run(main(*map(int, sys.argv[1:4]), float(sys.argv[4])))
+    main(*map(int, sys.argv[1:4]), float(sys.argv[4]))

@@ -23,7 +23,8 @@ async def main(tables, sessions, seconds):
         assert await player.ask(f"hello p{each} w{each}") == "ok"
         player.say(f"watch {(each + 1) // 2}")
         players.append(player)
-    await asyncio.sleep(2)
+    # the server waits the longer for a client, the longer that one is silent
+    await asyncio.sleep(5)
     before = server.seconds()
     await asyncio.sleep(seconds)
     used = server.seconds() - before

@@ -3,6 +3,7 @@ import os
 import pathlib
 import subprocess
 import tempfile
+import time
 
 TOP = pathlib.Path(__file__).resolve().parents[2]
 # `./floor --unproved` serves for a look before any proof
@@ -34,16 +35,34 @@ class Server:
         stat = pathlib.Path(f"/proc/{self.process.pid}/stat").read_text().rsplit(")", 1)[1].split()
         return (int(stat[11]) + int(stat[12])) / os.sysconf("SC_CLK_TCK")
 
-    def peak(self):
-        """Gives the most memory that it had, in kB."""
+    def memory(self, which):
+        """Gives its memory in kB: the most that it had, `VmHWM`, or what it has, `VmRSS`."""
         status = pathlib.Path(f"/proc/{self.process.pid}/status").read_text()
-        return int(status.split("VmHWM:")[1].split()[0])
+        return int(status.split(which + ":")[1].split()[0])
+
+    def all_entered(self):
+        """Notes when it had let in everybody, and its memory then."""
+        self.began, self.first = time.time(), self.memory("VmRSS")
+
+    def ends(self):
+        """Notes what it used until now, before the stop."""
+        self.took, self.used = time.time() - self.began, self.seconds()
+        self.peak, self.last = self.memory("VmHWM"), self.memory("VmRSS")
 
     def end(self):
         said = self.process.stderr.read().decode()
         status = self.process.wait(60)
         assert (status, said) == (0, ""), (status, said)
         return self.text.read_bytes()
+
+    def played(self, text):
+        acts = text.count(b"\nact ") + text.count(b"\ntime ")
+        return f"{self.took:.0f} s, {acts} acts, {acts / self.took:.0f} a second"
+
+    def cost(self, text):
+        lines = text.count(b"\n")
+        return (f"processor {self.used:.1f} s, peak of memory {self.peak} kB, {self.first} kB once all had entered, "
+                f"{1024 * (self.last - self.first) / lines:.0f} bytes more for each of the text's {lines} lines")
 
 
 def floor(word, *more, text):
@@ -65,7 +84,7 @@ def check_view(text, name, lines):
     """Sees that a client was told what `view` tells: the floor's lines, and those of each table, from the first on."""
     whole = floor("view", name, text=text).decode().splitlines()
     parts = {}
-    for line in lines:
+    for line in map(bytes.decode, lines):
         parts.setdefault(line.split(" ", 1)[0], []).append(line)
     for part, told in parts.items():
         all_told = [line for line in whole if line.split(" ", 1)[0] == part]

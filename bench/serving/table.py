@@ -55,6 +55,7 @@ class Table:
         self.told_so_far += 1
         kind = words[0]
         if kind == "hand":
+            self.serial = int(words[1])
             self.begin(int(words[2]), int(words[4]))
         elif kind == "seat":
             self.seat(int(words[1]), words[2], int(words[3]))
