@@ -71,7 +71,7 @@ def main(tables, seats, minutes):
     refused = [each for player in told for each in player.refused]
     print(f"{tables} tables of {seats}: {server.played(text)}, {caller.out} out")
     print(f"line to reply: {spread([delay for player in told for delay in player.delays])}")
-    print(f"an echo asked after each act: {spread(echoed)}")
+    print(f"an echo asked with each act: {spread(echoed)}")
     print(f"line to another's news: {spread(players.news(told))}")
     print(f"a prober's line to reply: {spread(probed)}")
     print(f"an echo asked by the prober: {spread(probed_echo)}")

@@ -31,6 +31,7 @@ class Player:
     def __init__(self, number, echo):
         self.name, self.word, self.draw, self.echo = f"p{number}", f"w{number}", random.Random(number), echo
         self.link, self.tables, self.acted = Link(self.told), {}, {}
+        self.echo_first = False
         # the level, and that of each hand
         self.level, self.begun = 1, {}
         self.figures = Figures(self.name, self.link.lines, self.link.delays, {}, {}, {}, [])
@@ -82,12 +83,17 @@ class Player:
             self.act(number, table.choice(self.name, self.draw.randrange(100)))
 
     def act(self, number, act):
+        """Acts, and asks the echo in the same moment, before the act and behind it by turns."""
+        self.echo_first = not self.echo_first
+        if self.echo_first:
+            self.echo.say(LINE)
         sent = time.perf_counter()
         self.figures.sent[number].append(sent)
         self.link.say(f"act {number} {act}").add_done_callback(lambda reply: self.replied(number, act, sent, reply.result()))
+        if not self.echo_first:
+            self.echo.say(LINE)
 
     def replied(self, number, act, sent, reply):
-        self.echo.say(LINE)
         if reply != "ok":
             self.figures.sent[number].remove(sent)
         if reply.startswith("no") and reply not in ("no 14 NotPlaying", "no 21 NotTurn"):
@@ -109,7 +115,7 @@ async def sit(port, numbers, table, echo_port, pipe):
 
 
 def play(pipe, *share):
-    """Plays at doors behind a port, and asks an echo after each act."""
+    """Plays at doors behind a port, and asks an echo with each act."""
     asyncio.run(sit(*share, pipe))
 
 

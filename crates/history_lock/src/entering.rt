@@ -20,14 +20,24 @@ use std::marker::Brand;
 use std::snapshot::Snapshot;
 use std::sync::Wait;
 
-// Looks away for a moment, and after some of these sleeps until the bell is rung.
-fn rest<V: Grows, R: Wait>(rt: &R, steps: &Steps<V>, backoff: &Backoff, bell: usize, rings: u64)
+// How often a thread looks whether its ticket is served before it sleeps: for some fifty microseconds.
+const LOOKS: u32 = 24;
+
+// Spins for a moment, or sleeps until the bell is rung once it has looked so often.
+fn rest<V: Grows, R: Wait>(
+    rt: &R,
+    steps: &Steps<V>,
+    backoff: &Backoff,
+    looks: u32,
+    bell: usize,
+    rings: u64,
+)
     requires { bell < steps.now.table_id.words }
 {
-    if backoff.is_completed() {
-        sleep(rt, steps, bell, rings);
+    if looks < LOOKS {
+        backoff.spin();
     } else {
-        backoff.snooze();
+        sleep(rt, steps, bell, rings);
     }
 }
 
@@ -54,12 +64,14 @@ fn wait_turn<V: Grows, R: Wait>(rt: &R, steps: &Steps<V>, seat: &mut LockSeat<V>
 {
     let bell = bell_of(ticket);
     let backoff = Backoff::new();
+    let mut looks: u32 = 0;
     for _ in rt.forever() {
         let rings = steps.peek(bell);
         if steps.load::<Look>(seat, SERVING) == ticket {
             return steps.exchange(seat, SLOT, None).unwrap();
         }
-        rest(rt, steps, &backoff, bell, rings);
+        looks = looks.saturating_add(1);
+        rest(rt, steps, &backoff, looks, bell, rings);
     }
     unreachable!()
 }

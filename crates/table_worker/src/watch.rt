@@ -8,8 +8,8 @@ use std::time::Duration;
 const FIRST_PAUSE: u64 = 20;
 
 /// How long a pause is at most, in microseconds: so long after its last act a hand may wait to be settled, where its
-/// players thought for longer than that, and a table where nobody acts costs fifty looks a second.
-const LONGEST_PAUSE: u64 = 20_000;
+/// players thought for longer than that, and a table where nobody acts costs 25 looks a second.
+const LONGEST_PAUSE: u64 = 40_000;
 
 /// What a worker found at its last look at both locks, and how long it pauses next.
 #[derive(Drop)]
