@@ -4,7 +4,7 @@
 # share 123 doors by coming, acting and leaving, for so many; and what 64 tables and 128 sessions cost where nobody says
 # anything. Each served text is replayed, and what clients were told is compared with what `view` tells. The players are
 # several processes, so that they wait for the server and not for each other; beside their delays stand those of a plain
-# echo over loopback, asked by the same processes behind each act, and those of a prober with nothing else to do. Needs
+# echo over loopback, asked by the same processes with each act, and those of a prober with nothing else to do. Needs
 # python3.
 # Usage: bench/serving.sh [MINUTES [MINUTES]].
 set -euo pipefail
