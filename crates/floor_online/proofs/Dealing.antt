@@ -3,6 +3,7 @@ use Rattle.std.proofs.Common.{Global, ◌≡◌, ◌∙◌, refl, sym, ap, subst
 use Rattle.std.specs.Prelude.{All, IfSome, Vec, slice_get, vec_len}
 use Rattle.std.specs.List.{AllZip}
 use Rattle.std.proofs.lemmas.List.Elements.{All-pop}
+use Rattle.std.proofs.lemmas.Option.{slice_get_within}
 use Rattle.std.proofs.lemmas.Slice.Zip.{AllZip-long}
 use Rattle.history_lock.specs.declared.pass.Pass.{Pass}
 use Rattle.history_lock.specs.Passes.{AreFresh, IsFresh, LockId, lock_of, own}
@@ -17,12 +18,12 @@ use Rattle.book_dock.specs.declared.hold.BookHold.{BookHold}
 use Rattle.book_dock.specs.Docks.{book_id}
 use Rattle.session_desk.specs.declared.desk.Desk.{Desk}
 use Rattle.session_desk.specs.Desks.{of_table}
-use Rattle.session_desk.proofs.Rows.{at-table, if-some}
+use Rattle.session_desk.proofs.Rows.{at-table, has-index, if-some}
 use Rattle.floor_online.specs.declared.floor.Floor.{Floor}
 use Rattle.floor_online.specs.declared.jobs.Work.{Work}
 use Rattle.floor_online.specs.declared.passes.Pack.{Pack}
 use Rattle.floor_online.specs.AtHand.{IsPack}
-use Rattle.floor_online.specs.Working.{IsIdleAt, IsIdleDesk}
+use Rattle.floor_online.specs.Working.{HaveDoneNone, IsIdleAt, IsIdleDesk}
 use Rattle.floor_online.proofs.Zipped.{all-from, get-behind, get-front, get-last, if-found, zip-at, zip-push}
 
 -- The last pass of the book and the last row were dealt to a desk: it is one of the floor, and the others are a pack.
@@ -58,9 +59,24 @@ desk-dealt floor before after desk books rows pack =
           passes = its-passes number last;
         };
         none_at_book = split.1.1;
+        none_at_tables = its-none number last;
       },
     )
   where
+    its-none : (number : ℕ)
+        → AllZip (λ (dock : TableDock) pass. IsFresh (dock_id dock) number [] pass) floor.docks.items desk.tables.items
+        → HaveDoneNone desk
+    its-none number each zero = tt
+    its-none number each (suc index) =
+        if-some (slice_get desk.tables.items index) (λ pass. own pass ≡ [])
+        (λ pass there.
+        let within = slice_get_within desk.tables.items index pass there in
+        let many = AllZip-long (λ (dock : TableDock) pass. IsFresh (dock_id dock) number [] pass) floor.docks.items
+        desk.tables.items each in
+        let dock = has-index floor.docks.items index (omega (arith, within, many)) in
+        (zip-at (λ (d : TableDock) p. IsFresh (dock_id d) number [] p) floor.docks.items desk.tables.items each
+        index dock.0 pass dock.1 there).none_own)
+
     its-passes : (number : ℕ)
         → AllZip (λ (dock : TableDock) pass. IsFresh (dock_id dock) number [] pass) floor.docks.items desk.tables.items
         → (table : ℕ) (dock : TableDock) → of_table floor.docks.items table ≡ Some dock

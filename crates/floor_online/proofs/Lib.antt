@@ -21,3 +21,13 @@ pub mod Callers
 pub mod EvenDoors
 pub mod Fronts
 pub mod Statuses
+pub mod Weights
+pub mod Speakers
+pub mod AskedFor
+pub mod AskedAtDoors
+pub mod AskedHands
+pub mod AskedJournals
+pub mod AskedHeld
+pub mod UnowedMoves
+pub mod NamedMoves
+pub mod UnowedHeld

@@ -1,31 +1,48 @@
 -- The locks of the tables are opened, from the last table down.
-use Rattle.std.proofs.Common.{Global, ◌≡◌, ◌∙◌, refl, sym, ap, subst, ℕ, zero, suc, List, [], ◌∷◌, ◌++◌, Option, Some, None, length, append_assoc, append-nil, arith}
-use Rattle.std.specs.Prelude.{All, IfSome, Vec, slice_get}
+use Rattle.std.proofs.Common.{Global, ◌≡◌, ◌∙◌, refl, sym, ap, subst, ℕ, zero, suc, ◌<◌, List, [], ◌∷◌, ◌++◌, Option, Some, None, length, append_assoc, append-nil, arith}
+use Rattle.std.specs.Prelude.{All, Any, IfSome, Vec, slice_get}
 use Rattle.std.specs.List.{AllZip}
 use Rattle.std.specs.Option.{option_map_or}
+use Rattle.std.proofs.lemmas.List.Elements.{All-weaker}
 use Rattle.std.proofs.lemmas.Option.{slice_get_within}
 use Rattle.std.proofs.lemmas.Slice.Zip.{AllZip-long}
 use mathlib.Core.List.{IsPrefix}
 use Rattle.history_lock.specs.declared.pass.Pass.{Pass}
-use Rattle.history_lock.specs.Passes.{seen}
+use Rattle.history_lock.specs.Entries.{entries_by}
+use Rattle.history_lock.specs.Passes.{own, pass_number, seen}
 use Rattle.view_rules.specs.declared.entries.TableEntry.{TableEntry}
-use Rattle.dock_rules.specs.Tables.{IsLegalTableHistory}
+use Rattle.dock_rules.specs.Tables.{IsLegalTableHistory, table_caller}
 use Rattle.table_dock.specs.contracts.hold.TableHoldGrows.TheImpl as of_table_dock
 use Rattle.table_dock.specs.declared.hold.TableHold.{TableHold}
 use Rattle.table_dock.specs.declared.dock.TableDock.{TableDock}
 use Rattle.table_dock.specs.Docks.{dock_id, dock_passes}
 use Rattle.session_desk.specs.Desks.{of_table}
 use Rattle.session_desk.proofs.Rows.{has-index, if-some}
-use Rattle.floor_online.specs.AtHand.{AreOf}
+use Rattle.floor_online.specs.AtHand.{AreMakers, AreOf}
 use Rattle.floor_online.proofs.Zipped.{zip-at, zip-pop}
 
 -- The passes of a table's dock.
 abbrev pub Row : Type 0
 Row = Vec (Pass TableHold TableEntry of_table_dock.ghosts) Global
 
--- What the lock of a table comes to: a legal history, which begins with all that the passes have seen.
+-- What the lock of a table comes to: a legal history, which begins with all that the passes have seen, and which they
+-- made.
 abbrev pub IsHistory : Row → List TableEntry → Type 0
-IsHistory row history = IsLegalTableHistory history × All (λ pass. IsPrefix (seen pass) history) row.items
+IsHistory row history =
+    IsLegalTableHistory history × All (λ pass. IsPrefix (seen pass) history) row.items
+    × AreMakers table_caller row history
+
+-- The passes of a dock that have all its numbers made its history.
+pub makers-of : (row : Row) (history : List TableEntry) (count : ℕ)
+    → All (λ pass. entries_by table_caller (pass_number pass) history ≡ own pass) row.items
+    → ((k : ℕ) → k < count → Any (λ pass. pass_number pass ≡ k) row.items)
+    → All (λ entry. table_caller entry < count) history → AreMakers table_caller row history
+makers-of row history count each numbers below = record {
+  each = each;
+  all = All-weaker (λ (entry : TableEntry). table_caller entry < count)
+      (λ (entry : TableEntry). Any (λ pass. pass_number pass ≡ table_caller entry) row.items)
+      (λ entry less. numbers (table_caller entry) less) history below;
+}
 
 -- The locks of the last tables were opened, and those of the others are left.
 pub record AreClosing (left all : List Row) : Type 0 where
@@ -62,9 +79,10 @@ pub all-closed : (all left : List Row) → length left ≡ 0 → AreClosing left
     → (histories : ℕ → List TableEntry) × ((table : ℕ) → IsLegalTableHistory (histories table))
     × ((table : ℕ) → IfSome (of_table all table)
     (λ row. All (λ pass. IsPrefix (seen pass) (histories table)) row.items))
+    × ((table : ℕ) → IfSome (of_table all table) (λ row. AreMakers table_caller row (histories table)))
 all-closed all (row ∷ left) none closing = absurd (omega (arith, none))
 all-closed all [] none closing =
-    (history-at closing.histories, legal-at, seen-at)
+    (history-at closing.histories, legal-at, seen-at, made-at)
   where
     found : (index : ℕ) (row : Row) → slice_get all index ≡ Some row
         → (history : List TableEntry) × (slice_get closing.histories index ≡ Some history) × IsHistory row history
@@ -98,6 +116,17 @@ all-closed all [] none closing =
         let history = found index row at in
         subst (λ one. All (λ pass. IsPrefix (seen pass)
         (option_map_or (λ (h : List TableEntry). h) one [])) row.items) (sym history.1) history.2.1)
+
+    made-at : (table : ℕ) → IfSome (of_table all table)
+        (λ row. AreMakers table_caller row (history-at closing.histories table))
+    made-at zero = tt
+    made-at (suc index) =
+        if-some (slice_get all index)
+        (λ row. AreMakers table_caller row (history-at closing.histories (suc index)))
+        (λ row at.
+        let history = found index row at in
+        subst (λ one. AreMakers table_caller row (option_map_or (λ (h : List TableEntry). h) one []))
+        (sym history.1) history.2.2)
 
 -- The last dock has all its passes, and so have the others.
 pub pop-both : (docks fewer : List TableDock) (dock : TableDock) (tables others : List Row) (row : Row)

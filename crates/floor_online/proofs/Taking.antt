@@ -1,19 +1,27 @@
 -- What came back from the desks and from the workers is taken apart.
-use Rattle.std.proofs.Common.{◌≡◌, ◌∙◌, refl, sym, ap, subst, ℕ, ◌+◌, Bool, List, [], ◌∷◌, ◌++◌, Some, length, map, append_assoc, append-nil, length-append, arith}
-use Rattle.std.specs.Prelude.{All, vec_len}
+use Rattle.std.proofs.Common.{◌≡◌, ◌∙◌, refl, sym, ap, subst, ℕ, ◌+◌, Bool, List, [], ◌∷◌, ◌++◌, Option, None, Some, length, map, append_assoc, append-nil, length-append, arith}
+use Rattle.std.specs.Prelude.{All, option_to_list, vec_len}
+use Rattle.std.specs.List.{cons_option, filter_map}
 use Rattle.std.proofs.lemmas.List.{map-append}
-use Rattle.std.proofs.lemmas.List.Elements.{All-nil, All-pop, All-push}
+use Rattle.std.proofs.lemmas.List.Elements.{All-nil, All-pop, All-push, filter_map-append}
 use Rattle.history_lock.specs.declared.pass.Pass.{Pass}
 use Rattle.view_rules.specs.declared.entries.TableEntry.{TableEntry}
 use Rattle.table_dock.specs.contracts.hold.TableHoldGrows.TheImpl as of_table_dock
 use Rattle.table_dock.specs.declared.hold.TableHold.{TableHold}
-use Rattle.session_desk.specs.Desks.{AreLater, IsDeskOf, Sights, sights}
+use Rattle.session_desk.specs.Desks.{AreLater, IsDeskOf, Sights, of_table, sights}
+use Rattle.session_desk.proofs.Rows.{with-itself}
 use Rattle.floor_online.specs.declared.floor.Floor.{Floor}
 use Rattle.floor_online.specs.declared.jobs.Attended.{Attended}
 use Rattle.floor_online.specs.declared.jobs.Work.{Work}
 use Rattle.floor_online.specs.declared.passes.Passes.{Passes}
 use Rattle.floor_online.specs.AtHand.{AreCollected, AreSeen, HasRoom}
-use Rattle.floor_online.specs.Rows.{AreSpread}
+use Rattle.floor_online.specs.Rows.{AreSpread, HaveGrown}
+use Rattle.floor_online.proofs.Spreading.{grown-more}
+
+-- what is made of one item
+only-one : {A : Type 0} (found : Option A) → cons_option found [] ≡ option_to_list found
+only-one None = refl
+only-one (Some item) = refl
 
 module _ {D : Type 0} where
   -- The first desks were taken apart, and the others are left: their doors are here, and their passes were collected.
@@ -24,6 +32,8 @@ module _ {D : Type 0} where
     pub failed_are : failed ≡ map (λ (one : Attended D). one.failed) done
     pub count : vec_len passes.tables ≡ vec_len first.tables
     pub books_are : passes.books.items ≡ first.books.items ++ map (λ (one : Attended D). one.desk.book) done
+    pub rows : HaveGrown first.tables.items passes.tables.items
+        (λ table. filter_map (λ (one : Attended D). of_table one.desk.tables.items table) done)
     pub room : (books each : ℕ) → HasRoom (books + length done) (each + length done) first → HasRoom books each passes
     pub collected : (floor : Floor) (books each : ℕ)
         → All (λ (one : Attended D). IsDeskOf floor.book floor.docks.items one.desk) done
@@ -41,6 +51,9 @@ module _ {D : Type 0} where
     failed_are = none;
     count = refl;
     books_are = sym (append-nil first.books.items);
+    rows = λ table.
+        with-itself (λ one other. other.items ≡ one.items ++ []) (λ row. sym (append-nil row.items))
+        (of_table first.tables.items table);
     room = λ books each room.
         let same : books + 0 ≡ books = omega arith in let also : each + 0 ≡ each = omega arith in
         subst (λ (n : ℕ × ℕ). HasRoom n.0 n.1 first) (λ i. (same i, also i)) room;
@@ -54,13 +67,15 @@ module _ {D : Type 0} where
   pub taking-one : (first : Passes) (all done left : List (Attended D)) (one : Attended D) (doors : List D)
       (failed : List Bool) (before after : Passes) → vec_len after.tables ≡ vec_len before.tables
       → after.books.items ≡ before.books.items ++ one.desk.book ∷ []
+      → HaveGrown before.tables.items after.tables.items
+      (λ table. option_to_list (of_table one.desk.tables.items table))
       → ((books each : ℕ) → HasRoom (books + 1) (each + 1) before → HasRoom books each after)
       → ((floor : Floor) (books each : ℕ) → IsDeskOf floor.book floor.docks.items one.desk
       → AreCollected floor books each before → AreCollected floor (books + 1) (each + 1) after)
       → ((end : Sights) → AreSeen end after → AreLater (sights one.desk) end × AreSeen end before)
       → IsTaking first all done (one ∷ left) doors failed before
       → IsTaking first all (done ++ one ∷ []) left (doors ++ one.door ∷ []) (failed ++ one.failed ∷ []) after
-  taking-one first all done left one doors failed before after count books room collected seen taking =
+  taking-one first all done left one doors failed before after count books rows room collected seen taking =
       let longer : length (done ++ one ∷ []) ≡ length done + 1 = length-append done (one ∷ []) in
       record {
         split = taking.split ∙ sym (append_assoc done (one ∷ []) left);
@@ -75,6 +90,11 @@ module _ {D : Type 0} where
             ∙ (ap (λ l. l ++ one.desk.book ∷ []) taking.books_are
             ∙ (append_assoc first.books.items (map (λ (a : Attended D). a.desk.book) done) (one.desk.book ∷ [])
             ∙ ap (λ l. first.books.items ++ l) (sym (map-append (λ (a : Attended D). a.desk.book) done (one ∷ [])))));
+        rows = subst (HaveGrown first.tables.items after.tables.items) (λ i. λ table. rows-of table i)
+            (grown-more first.tables.items before.tables.items after.tables.items
+            (λ table. filter_map (λ (a : Attended D). of_table a.desk.tables.items table) done)
+            (λ table. option_to_list (of_table one.desk.tables.items table))
+            (omega (arith, taking.count, before.tables.ok.0, first.tables.ok.0)) taking.rows rows);
         room = λ books each had.
             let same : books + length (done ++ one ∷ []) ≡ (books + 1) + length done = omega (arith, longer) in
             let also : each + length (done ++ one ∷ []) ≡ (each + 1) + length done = omega (arith, longer) in
@@ -94,6 +114,15 @@ module _ {D : Type 0} where
             let before = taking.seen end now.1 in
             (All-push (λ (a : Attended D). AreLater (sights a.desk) end) done one before.0 now.0, before.1);
       }
+    where
+      rows-of : (table : ℕ)
+          → filter_map (λ (a : Attended D). of_table a.desk.tables.items table) done
+          ++ option_to_list (of_table one.desk.tables.items table)
+          ≡ filter_map (λ (a : Attended D). of_table a.desk.tables.items table) (done ++ one ∷ [])
+      rows-of table =
+          ap (λ l. filter_map (λ (a : Attended D). of_table a.desk.tables.items table) done ++ l)
+          (sym (only-one (of_table one.desk.tables.items table)))
+          ∙ sym (filter_map-append (λ (a : Attended D). of_table a.desk.tables.items table) done (one ∷ []))
 
   -- all were taken apart
   pub taken-all : (all done left : List (Attended D)) → all ≡ done ++ left → length left ≡ 0 → done ≡ all

@@ -1,10 +1,11 @@
 -- The passes at hand, before they are dealt and once they are collected. This project's own.
-use Rattle.std.specs.Prelude.{◌≡◌, ◌+◌, ◌≤◌, ℕ, [], All, IfSome, Vec, slice_get, vec_capacity, vec_len}
+use Rattle.std.specs.Prelude.{◌≡◌, ◌+◌, ◌≤◌, ℕ, List, [], All, Any, IfSome, Vec, slice_get, vec_capacity, vec_len}
 use Rattle.std.specs.List.{AllZip}
 use mathlib.Core.List.{IsPrefix}
 use Rattle.history_lock.specs.declared.grows.Grows.{Ghosts}
 use Rattle.history_lock.specs.declared.pass.Pass.{Pass}
-use Rattle.history_lock.specs.Passes.{IsFresh, LockId, lock_of, own, seen}
+use Rattle.history_lock.specs.Entries.{entries_by}
+use Rattle.history_lock.specs.Passes.{IsFresh, LockId, lock_of, own, pass_number, seen}
 use Rattle.table_dock.specs.Docks.{dock_id}
 use Rattle.book_dock.specs.Docks.{book_id}
 use Rattle.session_desk.specs.Desks.{Sights, of_table}
@@ -31,6 +32,12 @@ pub record AreOf {Val E A : Type 0} {g : Ghosts Val E} (lock : LockId) (count : 
     : Type 0 where
   pub locks : All (λ pass. lock_of pass ≡ lock) passes.items
   pub counted : vec_len passes ≡ count
+
+-- Passes made a history: its entries that have a pass's number are those that it made, and each entry is one of them.
+pub record AreMakers {Val E A : Type 0} {g : Ghosts Val E} (caller_of : E → ℕ) (passes : Vec (Pass Val E g) A)
+    (history : List E) : Type 0 where
+  pub each : All (λ pass. entries_by caller_of (pass_number pass) history ≡ own pass) passes.items
+  pub all : All (λ entry. Any (λ pass. pass_number pass ≡ caller_of entry) passes.items) history
 
 -- So many passes of a floor's book were collected, and so many of each of its docks.
 pub record AreCollected (floor : Floor) (books each : ℕ) (passes : Passes) : Type 0 where

@@ -1,4 +1,6 @@
 pub mod Doors
+pub mod Asks
+pub mod Wishes
 pub mod FloorPart
 pub mod Tournaments
 pub mod Sessions

@@ -8,9 +8,11 @@ use Rattle.view_rules.specs.declared.entries.TableEntry.{TableEntry}
 use Rattle.tournament_rules.specs.Replay.{tournament_text}
 use Rattle.dock_rules.specs.Journals.{expand}
 use Rattle.dock_rules.specs.Tables.{IsLegalTableHistory}
+use Rattle.floor_online.specs.Asks.{asks_at}
 use Rattle.floor_online.specs.Doors.{AreDoorsBack, DoorRun, IsFailure, failed_text}
 use Rattle.floor_online.specs.Sessions.{WasAttended}
 use Rattle.floor_online.specs.Tournaments.{IsWholeJournal}
+use Rattle.floor_online.specs.Wishes.{WasAsked}
 
 -- The plan and the session words are those of the file that a source was, where it tells.
 abbrev pub IsFile : Option (List ℕ) → PlanTerms → WordTerms → Type 0
@@ -40,6 +42,8 @@ module _ {D L : Type 0} (door_told : D → Option (DoorTelling L)) (door_faults 
         (record { journal = journal; tables = histories })) doors
     -- which doors failed
     pub failed : All (IsFailure door_faults) doors
+    -- where the doors and their links tell, what the journal's events come of was asked for on them
+    pub asked : IfSome (asks_at door_told link_told words doors) (WasAsked journal)
 
   -- A tournament was held at the doors that a hall gave, one for each desk, and all of them are back; which of them
   -- failed.

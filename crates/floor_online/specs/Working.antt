@@ -1,5 +1,5 @@
 -- Those who work at a floor, before and after. This project's own.
-use Rattle.std.specs.Prelude.{◌≡◌, ◌+◌, ◌<◌, ℕ, true, false, List, [], All, length, vec_len, Option, Some}
+use Rattle.std.specs.Prelude.{◌≡◌, ◌+◌, ◌<◌, ℕ, true, false, List, [], All, IfSome, length, vec_len, Option, Some}
 use Rattle.std.specs.List.{AllZip}
 use Rattle.floor_text.specs.Outside.{Rose}
 use Rattle.level_plan.specs.Plans.{PlanTerms}
@@ -30,11 +30,16 @@ pub record IsFloorOf (plan : PlanTerms) (seed : List ℕ) (desks : ℕ) (floor :
   pub of_book : book_passes floor.book ≡ plan.tables + desks
   pub of_tables : All (λ dock. dock_passes dock ≡ desks + 1) floor.docks.items
 
+-- A desk's passes of the tables have done nothing.
+abbrev pub HaveDoneNone : Desk → Type 0
+HaveDoneNone desk = (table : ℕ) → IfSome (of_table desk.tables.items table) (λ pass. own pass ≡ [])
+
 -- A worker has worked up to the stop, with the same passes at the same table.
 pub record HasDone (before after : Work) : Type 0 where
   pub its_table : after.table ≡ before.table
   pub its_dock : lock_of after.dock ≡ lock_of before.dock
   pub its_book : lock_of after.book ≡ lock_of before.book
+  pub first : pass_number after.dock ≡ 0
   pub brought : IsBrought (pass_number after.book) after.table (seen after.book) (seen after.dock)
 
 module _ (floor : Floor) where
@@ -55,10 +60,11 @@ module _ (floor : Floor) where
   abbrev pub IsIdle : Work → Type 0
   IsIdle work = (dock : TableDock) × IsIdleAt dock work
 
-  -- A desk of the floor whose pass of the book has done nothing.
+  -- A desk of the floor whose passes have done nothing.
   pub record IsIdleDesk (desk : Desk) : Type 0 where
     pub its : IsDeskOf floor.book floor.docks.items desk
     pub none_at_book : own desk.book ≡ []
+    pub none_at_tables : HaveDoneNone desk
 
   -- Those who are to work: a worker for each table, in order, and so many desks.
   pub record IsCrewOf (desks : ℕ) (crew : Crew) : Type 0 where
@@ -73,6 +79,7 @@ module _ (floor : Floor) where
     pub record HasAttended (door : D) (attended : Attended D) : Type 0 where
       pub start : Desk
       pub none_at_book : own start.book ≡ []
+      pub none_at_tables : HaveDoneNone start
       pub its : IsDeskOf floor.book floor.docks.items attended.desk
       pub worked : HasWorked door_told link_told link_faults words (vec_len floor.docks) door attended.door start
           attended.desk

@@ -1,21 +1,21 @@
 //! Everybody is back: passes are collected, and the locks are opened for good.
 
-ghost use Rattle.std.specs.Prelude.{◌≡◌, ◌+◌, ◌++◌, ◌<◌, ◌≤◌, ℕ, List, All, Any, IfSome, length, map, vec_capacity, vec_len};
-ghost use Rattle.std.specs.List.{AllZip};
+ghost use Rattle.std.specs.Prelude.{◌≡◌, ◌+◌, ◌++◌, ◌<◌, ◌≤◌, ℕ, List, All, Any, IfSome, length, map, option_to_list, vec_capacity, vec_len};
+ghost use Rattle.std.specs.List.{AllZip, filter_map};
 ghost use mathlib.Core.List.{IsPrefix};
 ghost use Rattle.history_lock.specs.Entries.{IsGrownByPasses, entries_by};
 ghost use Rattle.history_lock.specs.Passes.{own, pass_number, seen};
 ghost use Rattle.view_rules.specs.declared.entries.TableEntry.{TableEntry};
 ghost use Rattle.dock_rules.specs.Journals.{IsLegalJournal, journal_caller};
-ghost use Rattle.dock_rules.specs.Tables.{IsLegalTableHistory};
+ghost use Rattle.dock_rules.specs.Tables.{IsLegalTableHistory, table_caller};
 ghost use Rattle.table_dock.specs.Docks.{dock_id, dock_passes};
 ghost use Rattle.book_dock.specs.Docks.{book_id, book_opening, book_passes};
 ghost use Rattle.book_dock.specs.Ends.{journal_of};
 ghost use Rattle.session_desk.specs.Desks.{AreLater, IsDeskOf, Sights, of_table, sights};
 ghost use Rattle.floor_online.specs.declared.floor.Floor.{Floor};
-ghost use Rattle.floor_online.specs.AtHand.{AreCollected, AreOf, AreSeen, HasRoom, IsWorkSeen};
+ghost use Rattle.floor_online.specs.AtHand.{AreCollected, AreMakers, AreOf, AreSeen, HasRoom, IsWorkSeen};
 ghost use Rattle.floor_online.specs.Closed.{HasClosed};
-ghost use Rattle.floor_online.specs.Rows.{IsEmptyFor};
+ghost use Rattle.floor_online.specs.Rows.{HaveGrown, IsEmptyFor};
 ghost use Rattle.floor_online.specs.Working.{IsWorkAt};
 
 use crate::floor::Floor;
@@ -48,6 +48,8 @@ pub(crate) fn take_doors<D: Drop>(
     ensures count { vec_len passes.new.tables ≡ vec_len passes.old.tables }
     ensures books { passes.new.books.items
         ≡ passes.old.books.items ++ map (λ one. one.desk.book) attended.items }
+    ensures rows { HaveGrown passes.old.tables.items passes.new.tables.items
+        (λ table. filter_map (λ one. of_table one.desk.tables.items table) attended.items) }
     ensures room { (books each : ℕ) → HasRoom (books + vec_len attended) (each + vec_len attended) passes.old
         → HasRoom books each passes.new }
     ensures collected { (floor : Floor) (books each : ℕ)
@@ -73,6 +75,9 @@ pub(crate) fn collect_works(works: Vec<Work>, row: Vec<TablePass>, passes: &mut 
     requires count { vec_len works ≡ vec_len passes.old.tables }
     requires room { HasRoom (vec_len works) 1 passes.old }
     ensures books { passes.new.books.items ≡ passes.old.books.items ++ map (λ work. work.book) works.items }
+    ensures count { vec_len passes.new.tables ≡ vec_len passes.old.tables }
+    ensures rows { HaveGrown passes.old.tables.items passes.new.tables.items
+        (λ table. option_to_list (of_table (map (λ work. work.dock) works.items) table)) }
     ensures collected { (floor : Floor) (books each : ℕ) → AllZip (IsWorkAt floor) floor.docks.items works.items
         → AreCollected floor books each passes.old
         → AreCollected floor (books + vec_len works) (each + 1) passes.new }
@@ -112,6 +117,9 @@ fn close_book(book: BookDock, passes: Vec<BookPass>) -> BookEnd
 fn close_table(dock: TableDock, passes: Vec<TablePass>) -> TableEnd
     requires { AreOf (dock_id dock) (dock_passes dock) passes }
     ensures seen { All (λ pass. IsPrefix (seen pass) result.entries) passes.items }
+    ensures own { All (λ pass. entries_by table_caller (pass_number pass) result.entries ≡ own pass) passes.items }
+    ensures numbers { (k : ℕ) → k < dock_passes dock → Any (λ pass. pass_number pass ≡ k) passes.items }
+    ensures others { All (λ entry. table_caller entry < dock_passes dock) result.entries }
     ensures legal { IsLegalTableHistory result.entries }
 {
     match dock.close(passes) {
@@ -125,7 +133,9 @@ fn close_tables(docks: Vec<TableDock>, tables: Vec<Vec<TablePass>>)
     requires { AllZip (λ dock row. AreOf (dock_id dock) (dock_passes dock) row) docks.items tables.items }
     ensures { (histories : ℕ → List TableEntry) × ((table : ℕ) → IsLegalTableHistory (histories table))
         × ((table : ℕ) → IfSome (of_table tables.items table)
-        (λ row. All (λ pass. IsPrefix (seen pass) (histories table)) row.items)) }
+        (λ row. All (λ pass. IsPrefix (seen pass) (histories table)) row.items))
+        × ((table : ℕ) → IfSome (of_table tables.items table)
+        (λ row. AreMakers table_caller row (histories table))) }
 {
     let mut docks = docks;
     let mut tables = tables;

@@ -1,13 +1,14 @@
 //! Passes are dealt to those who work, and collected from them.
 
-ghost use Rattle.std.specs.Prelude.{◌≡◌, ◌+◌, ◌++◌, ◌<◌, ◌≤◌, ◌∷◌, [], ℕ, All, IfOk, OnOk, length, vec_len};
+ghost use Rattle.std.specs.Prelude.{◌≡◌, ◌+◌, ◌++◌, ◌<◌, ◌≤◌, ◌∷◌, [], ℕ, All, IfOk, OnOk, length, option_to_list, vec_len};
 ghost use Rattle.std.specs.List.{AllZip};
 ghost use Rattle.history_lock.specs.Passes.{IsFresh, lock_of, own};
 ghost use Rattle.table_dock.specs.Docks.{dock_id};
 ghost use Rattle.book_dock.specs.Docks.{book_id};
-ghost use Rattle.session_desk.specs.Desks.{AreLater, IsDeskOf, Sights, sights};
+ghost use Rattle.session_desk.specs.Desks.{AreLater, IsDeskOf, Sights, of_table, sights};
 ghost use Rattle.floor_online.specs.declared.floor.Floor.{Floor};
 ghost use Rattle.floor_online.specs.AtHand.{AreCollected, AreSeen, HasRoom, IsPack};
+ghost use Rattle.floor_online.specs.Rows.{HaveGrown};
 ghost use Rattle.floor_online.specs.Working.{IsIdleAt, IsIdleDesk};
 
 use crate::jobs::Work;
@@ -84,6 +85,8 @@ impl Passes {
         requires room { HasRoom 1 1 self.old }
         ensures count { vec_len self.new.tables ≡ vec_len self.old.tables }
         ensures books { self.new.books.items ≡ self.old.books.items ++ desk.book ∷ [] }
+        ensures rows { HaveGrown self.old.tables.items self.new.tables.items
+            (λ table. option_to_list (of_table desk.tables.items table)) }
         ensures room { (books each : ℕ) → HasRoom (books + 1) (each + 1) self.old → HasRoom books each self.new }
         ensures collected { (floor : Floor) (books each : ℕ) → IsDeskOf floor.book floor.docks.items desk
             → AreCollected floor books each self.old → AreCollected floor (books + 1) (each + 1) self.new }

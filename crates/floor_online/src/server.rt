@@ -131,8 +131,9 @@ pub fn serve<R: Threads + Wait + Sync, I: Source, O: Sink, E: Sink, H: Hall, G: 
 ) -> u8
     ensures statuses { Contains (0 ∷ 2 ∷ 3 ∷ 4 ∷ 5 ∷ 6 ∷ 7 ∷ 8 ∷ []) result }
 
-    // Status 0: the input was read to its end, and a whole tournament over its plan was served: out has its text, each
-    // client was told of it, all doors and links are back, and err holds just the lines of the doors that failed.
+    // Status 0: the input was read to its end, and a whole tournament over its plan was served: out has its text, what
+    // stands there was asked for at the doors, each client was told of it, all doors and links are back, and err holds
+    // just the lines of the doors that failed.
     ensures read_to_end { result ≡ 0 → IfSome (I.left input.old) (λ _. I.left input.new ≡ Some []) }
     ensures within_limit { result ≡ 0 → IfSome (I.left input.old) (λ bytes. length bytes ≤ plan_limit) }
     ensures served { result ≡ 0 → (asked : Service) → service_of (map string_bytes words.now.items) ≡ Some asked

@@ -1,9 +1,9 @@
 -- A desk works at a door, one client after another.
 use Rattle.std.proofs.Common.{◌≡◌, ◌⊎◌, ◌∙◌, inl, inr, refl, sym, ap, subst, ℕ, List, [], ◌∷◌, ◌++◌, Option, Some, None, Ok, append-nil, arith}
-use Rattle.std.specs.Prelude.{IfSome, option_map}
+use Rattle.std.specs.Prelude.{All, IfSome, option_map}
 use Rattle.std.specs.List.{flat_map}
 use Rattle.std.proofs.lemmas.Grind.{flat_map-append}
-use Rattle.std.proofs.lemmas.List.Elements.{All-append, All-cons, All-nil}
+use Rattle.std.proofs.lemmas.List.Elements.{All-append, All-cons, All-head, All-nil, All-tail}
 use Rattle.floor_text.specs.Memory.{count_up}
 use Rattle.history_lock.specs.declared.grows.Grows.{Ghosts}
 use Rattle.history_lock.specs.declared.pass.Pass.{Pass}
@@ -13,12 +13,12 @@ use Rattle.links.specs.Links.{after_knock, with_back}
 use Rattle.links.specs.Telling.{DoorTelling, Telling}
 use Rattle.session_desk.specs.declared.desk.Desk.{Desk}
 use Rattle.session_desk.specs.declared.session.SessionEnd.{SessionEnd}
-use Rattle.session_desk.specs.Desks.{Brought, HasDeskMoved, acted_at, nothing, numbers_of, of_table, sights}
+use Rattle.session_desk.specs.Desks.{AreLater, Brought, HasDeskMoved, Numbers, Sights, acted_at, nothing, numbers_of, of_table, sights}
 use Rattle.session_desk.specs.Exchanges.{Exchange}
 use Rattle.session_desk.specs.Moves.{HasMoved}
-use Rattle.session_desk.specs.Talks.{IsServed, Served, WasServed, book_looks_in, brought_in, table_looks_in}
-use Rattle.session_desk.specs.Works.{HasWorked}
-use Rattle.session_desk.proofs.DeskMoves.{both-moved, moved-still, same-desk}
+use Rattle.session_desk.specs.Talks.{IsServed, Served, WasServed, book_looks_in, brought_in, sights_through, table_looks_in}
+use Rattle.session_desk.specs.Works.{AreInTurn, HasWorked}
+use Rattle.session_desk.proofs.DeskMoves.{both-moved, later-self, later-sights, later-trans, moved-still, same-desk}
 use Rattle.session_desk.proofs.Doors.{back-both, back-none, back-one}
 use Rattle.session_desk.proofs.Moving.{moved-fewer}
 use Rattle.session_desk.proofs.ServedOn.{all-later, all-since}
@@ -70,6 +70,20 @@ module _ {L : Type 0} where
 
 module _ {D L : Type 0} (told : D → Option (DoorTelling L)) (told_by : L → Option Telling) (faults : L → ℕ)
     (words : WordTerms) (count : ℕ) where
+  -- Sessions in turn, and others behind them.
+  turns-both : (numbers : Numbers) (first seen mid : Sights) (some others : List (Served L)) → AreLater seen mid
+      → All (WasServed told_by faults words count numbers first mid) some → AreInTurn seen some
+      → AreInTurn mid others → AreInTurn seen (some ++ others)
+  turns-both numbers first seen mid [] [] longer each turns later = tt
+  turns-both numbers first seen mid [] (other ∷ others) longer each turns later =
+      (later-trans seen mid other.began longer later.0, later.1)
+  turns-both numbers first seen mid (one ∷ some) others longer each turns later =
+      let Is : Served L → Type 0 = WasServed told_by faults words count numbers first mid in (
+        turns.0,
+        turns-both numbers first (sights_through one.began one.log) mid some others (All-head Is one some each).earlier
+            (All-tail Is one some each) turns.1 later,
+      )
+
   -- Nobody came.
   pub worked-none : (first last : D) (desk : Desk)
       → told last ≡ option_map (λ (t : DoorTelling L). record t { knocks = count_up t.knocks }) (told first)
@@ -77,6 +91,7 @@ module _ {D L : Type 0} (told : D → Option (DoorTelling L)) (told_by : L → O
   worked-none first last desk knocked = record {
     sessions = [];
     each = All-nil (WasServed told_by faults words count (numbers_of desk) (sights desk) (sights desk));
+    turns = tt;
     moved = moved-still (λ table. 0) desk desk (λ table. refl) (same-desk desk);
     door = back-none (told first) (told last) knocked;
   }
@@ -94,6 +109,7 @@ module _ {D L : Type 0} (told : D → Option (DoorTelling L)) (told_by : L → O
       record {
         sessions = one ∷ [];
         each = All-cons Is one [] served.served (All-nil Is);
+        turns = (later-self (sights start), tt);
         moved = subst (λ (log : List Exchange). HasDeskMoved 0 (λ table. 0) (brought_in log) start now)
             (sym (append-nil served.log))
             (moved-least (book_looks_in words count served.log) (table_looks_in words count served.log)
@@ -114,6 +130,8 @@ module _ {D L : Type 0} (told : D → Option (DoorTelling L)) (told_by : L → O
         two.moved one.each)
         (all-since told_by faults words count 0 (λ table. 0) (brought_by one.sessions) start between now two.sessions
         one.moved two.each);
+    turns = turns-both (numbers_of start) (sights start) (sights start) (sights between) one.sessions two.sessions
+        (later-sights 0 (λ table. 0) (brought_by one.sessions) start between one.moved) one.each one.turns two.turns;
     moved = subst (λ (b : Brought). HasDeskMoved 0 (λ table. 0) b start now)
         (sym (brought-both one.sessions two.sessions))
         (both-moved 0 0 (λ table. 0) (λ table. 0) (brought_by one.sessions) (brought_by two.sessions) start between now
@@ -132,6 +150,7 @@ module _ {D L : Type 0} (told : D → Option (DoorTelling L)) (told_by : L → O
         sessions = worked.sessions;
         each = all-later told_by faults words count looks table_looks nothing start mid now worked.sessions moved
             worked.each;
+        turns = worked.turns;
         moved = subst (λ (b : Brought). HasDeskMoved 0 (λ table. 0) b start now)
             (λ i. record { acts = append-nil brought.acts i; orders = append-nil brought.orders i })
             (both-moved 0 0 (λ table. 0) (λ table. 0) brought nothing start mid now worked.moved

@@ -10,5 +10,6 @@ returns c =
       numbers = c.close_book.ensures.numbers;
       histories = opened.0;
       tables = opened.1;
+      made = opened.3;
       seen = record { of_book = c.close_book.ensures.seen; of_tables = opened.2 };
     }

@@ -4,7 +4,7 @@ use Rattle.std.proofs.lemmas.Slice.Zip.{AllZip-long}
 use Rattle.table_dock.specs.declared.dock.TableDock.{TableDock}
 use Rattle.table_dock.specs.Docks.{dock_id, dock_passes}
 use Rattle.floor_online.specs.AtHand.{AreOf}
-use Rattle.floor_online.proofs.OpenedLocks.{Row, all-closed, none-closed, one-closed, pop-both}
+use Rattle.floor_online.proofs.OpenedLocks.{Row, all-closed, makers-of, none-closed, one-closed, pop-both}
 use Rattle.floor_online.proofs.closing.close_tables.Goals as goal
 
 pub each-init : goal.each-init
@@ -22,8 +22,12 @@ each-preserved c =
     record {
       its = both.0;
       closing = one-closed c.args.tables.items c.take_last.new.row.items c.each.tables.items c.take_last.result
-          c.close_table.result.entries c.take_last.ensures.last
-          (c.close_table.ensures.legal, c.close_table.ensures.seen) c.each.invariant.closing;
+          c.close_table.result.entries c.take_last.ensures.last (
+            c.close_table.ensures.legal,
+            c.close_table.ensures.seen,
+            makers-of c.take_last.result c.close_table.result.entries (dock_passes c.in-Some.dock)
+                c.close_table.ensures.own c.close_table.ensures.numbers c.close_table.ensures.others,
+          ) c.each.invariant.closing;
     }
 
 pub returns : goal.returns

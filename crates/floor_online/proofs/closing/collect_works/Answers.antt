@@ -1,8 +1,11 @@
-use Rattle.std.proofs.Common.{◌≡◌, ◌+◌, ◌∙◌, [], sym, ap, subst, length, arith}
+use Rattle.std.proofs.Common.{◌≡◌, ◌+◌, ◌∙◌, [], sym, ap, subst, length, map, arith}
 use Rattle.std.specs.Vec.Iter.{into_iter_items}
+use Rattle.std.proofs.lemmas.List.{length-map}
+use Rattle.floor_online.specs.declared.jobs.Work.{Work}
 use Rattle.floor_online.specs.declared.passes.Passes.{Passes}
 use Rattle.floor_online.specs.AtHand.{AreCollected}
 use Rattle.floor_online.proofs.Collecting.{works-collected, works-seen}
+use Rattle.floor_online.proofs.Spreading.{spread-grown}
 use Rattle.floor_online.proofs.Taking.{IsGathering, gathered-all, gathered-spread, gathering-none}
 use Rattle.floor_online.proofs.closing.collect_works.Goals as goal
 
@@ -36,6 +39,10 @@ returns c =
     omega (arith, c.requires.count, c.args.works.ok.0, c.args.passes.now.tables.ok.0) in
     record {
       books = all.books_are;
+      count = omega (arith, spread.count, after.tables.ok.0, c.args.passes.now.tables.ok.0);
+      rows = spread-grown c.args.passes.now.tables.items after.tables.items
+          (map (λ (work : Work). work.dock) c.args.works.items) spread
+          (length-map c.args.works.items (λ (work : Work). work.dock) ∙ as_many);
       collected = λ floor books each its had.
           subst (λ n. AreCollected floor (books + n) (each + 1) after) (sym c.args.works.ok.0)
           (works-collected c.args.passes.now after c.args.works.items all.books_are spread as_many floor books each its

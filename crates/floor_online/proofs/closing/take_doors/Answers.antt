@@ -1,9 +1,11 @@
 use Rattle.std.proofs.Common.{◌≡◌, ◌+◌, ◌≤◌, sym, ap, subst, length, map, arith, ◌∙◌, [], ◌∷◌, ◌++◌}
 use Rattle.std.specs.Prelude.{All, Bool, List, vec_len}
 use Rattle.std.specs.Vec.Iter.{into_iter_items, into_iter_len}
-use Rattle.session_desk.specs.Desks.{AreLater, IsDeskOf, sights}
+use Rattle.std.specs.List.{filter_map}
+use Rattle.session_desk.specs.Desks.{AreLater, IsDeskOf, of_table, sights}
 use Rattle.floor_online.specs.declared.jobs.Attended.{Attended}
 use Rattle.floor_online.specs.AtHand.{AreCollected, HasRoom}
+use Rattle.floor_online.specs.Rows.{HaveGrown}
 use Rattle.floor_online.proofs.Collecting.{room-fewer}
 use Rattle.floor_online.proofs.Taking.{IsTaking, split-long, taken-all, taking-none, taking-one}
 use Rattle.floor_online.proofs.closing.take_doors.Goals as goal
@@ -64,7 +66,8 @@ loop-one-preserved g c =
             (λ i. (sym c.push_reserved.ensures.items i, sym c.push_reserved-in-loop-one.ensures.items i))
             (taking-one c.args.passes.now (into_iter_items c.into_iter-one-iterator.result) c.loop-one.yielded left
             c.in-Some.one c.loop-one.back.doors.items c.loop-one.back.failed.items c.loop-one.passes
-            c.collect_desk.new.self c.collect_desk.ensures.count c.collect_desk.ensures.books c.collect_desk.ensures.room
+            c.collect_desk.new.self c.collect_desk.ensures.count c.collect_desk.ensures.books c.collect_desk.ensures.rows
+            c.collect_desk.ensures.room
             c.collect_desk.ensures.collected c.collect_desk.ensures.seen
             (subst (λ l. IsTaking c.args.passes.now (into_iter_items c.into_iter-one-iterator.result) c.loop-one.yielded
             l c.loop-one.back.doors.items c.loop-one.back.failed.items c.loop-one.passes) took.0 was.taking));
@@ -84,6 +87,9 @@ returns g c =
       count = was.taking.count;
       books = was.taking.books_are
           ∙ ap (λ l. c.args.passes.now.books.items ++ map (λ (one : Attended g.row.D.Denot). one.desk.book) l) all;
+      rows = subst (λ l. HaveGrown c.args.passes.now.tables.items c.loop-one.passes.tables.items
+          (λ table. filter_map (λ (one : Attended g.row.D.Denot). of_table one.desk.tables.items table) l)) all
+          was.taking.rows;
       room = λ books each room. was.taking.room books each
           (subst (λ n. HasRoom (books + n) (each + n) c.args.passes.now) (c.args.attended.ok.0 ∙ sym many) room);
       collected = λ floor books each its had.

@@ -1,5 +1,6 @@
 use Rattle.std.proofs.Common.{◌≡◌, ◌∙◌, ◌+◌, refl, sym, subst, length, map, arith}
-use Rattle.std.specs.Prelude.{vec_len}
+use Rattle.std.specs.Prelude.{option_to_list, vec_len}
+use Rattle.std.specs.List.{filter_map}
 use Rattle.std.proofs.lemmas.List.Elements.{All-weaker}
 use Rattle.std.proofs.lemmas.Slice.Zip.{AllZip-long}
 use Rattle.history_lock.specs.Entries.{IsGrownByPasses}
@@ -7,17 +8,19 @@ use Rattle.history_lock.specs.Passes.{seen}
 use Rattle.dock_rules.specs.Journals.{journal_caller}
 use Rattle.book_dock.specs.Docks.{book_passes}
 use Rattle.book_dock.specs.Ends.{journal_of}
-use Rattle.session_desk.specs.Desks.{IsDeskOf, Sights}
+use Rattle.session_desk.specs.Desks.{IsDeskOf, Sights, of_table}
 use Rattle.session_desk.proofs.Rows.{has-index}
 use Rattle.floor_online.specs.declared.jobs.Attended.{Attended}
 use Rattle.floor_online.specs.declared.jobs.Work.{Work}
 use Rattle.floor_online.specs.AtHand.{IsWorkSeen}
 use Rattle.floor_online.specs.Rows.{IsEmptyFor}
 use Rattle.floor_online.specs.Working.{HasAttended, HasDone, IsIdleAt}
+use Rattle.floor_online.proofs.AskedHeld.{AreBackAt, held-asked}
 use Rattle.floor_online.proofs.Callers.{caller-known}
 use Rattle.floor_online.proofs.Crews.{all-there, done-at, none-collected, passes-are, room-for}
 use Rattle.floor_online.proofs.HeldRuns.{are-runs, runs-held, runs_of}
 use Rattle.floor_online.proofs.LawfulSettles.{lawful_by_passes}
+use Rattle.floor_online.proofs.Spreading.{grown-all}
 use Rattle.floor_online.proofs.WholeJournals.{whole-journal}
 use Rattle.floor_online.proofs.Zipped.{all-at, all-right}
 use Rattle.floor_online.proofs.holding.hold.Goals as goal
@@ -189,6 +192,45 @@ returns g c = record {
       let held = runs-held g.D.Door.told g.D.Door.faults g.D.L.Link.told g.D.L.Link.faults c.args.words.now end
       plan.tables c.args.floor (c.args.floor.docks.ok.0 ∙ floor.count) c.args.doors.items attended
       c.run_all-works.ensures.doors desks.0 in
+      let back : AreBackAt g.D.Door.told g.D.Door.faults g.D.L.Link.told g.D.L.Link.faults c.args.words.now c.args.floor
+      c.args.doors.items attended c.args.crew.works.items c.run_all-works.result.works.items
+      c.collect_works.new.passes =
+      record {
+        order = floor.order;
+        desks = c.run_all-works.ensures.doors;
+        done = c.run_all-works.ensures.works;
+        works = done-at c.args.floor c.args.floor.docks.items c.args.crew.works.items
+            c.run_all-works.result.works.items c.requires.crew.works c.run_all-works.ensures.works;
+        books = books;
+        many = omega (
+          arith,
+          c.collect_works.new.passes.tables.ok.0,
+          c.collect_works.ensures.count,
+          c.take_doors-doors.ensures.count,
+          c.requires.room.each_table,
+        );
+        rows = grown-all c.args.room.passes.tables.items c.take_doors-doors.new.passes.tables.items
+            c.collect_works.new.passes.tables.items
+            (λ table. filter_map (λ (one : Attended g.row.D.Denot). of_table one.desk.tables.items table) attended)
+            (λ table. option_to_list
+            (of_table (map (λ (work : Work). work.dock) c.run_all-works.result.works.items) table))
+            (omega (
+              arith,
+              c.take_doors-doors.ensures.count,
+              c.take_doors-doors.new.passes.tables.ok.0,
+              c.args.room.passes.tables.ok.0,
+            ))
+            (omega (
+              arith,
+              c.take_doors-doors.ensures.count,
+              c.collect_works.ensures.count,
+              c.collect_works.new.passes.tables.ok.0,
+              c.args.room.passes.tables.ok.0,
+            ))
+            (λ index row at.
+            (all-at (IsEmptyFor (vec_len c.args.doors + 1)) c.args.room.passes.tables.items c.requires.room.of_tables index
+            row at).none) c.take_doors-doors.ensures.rows c.collect_works.ensures.rows;
+      } in
       let runs = are-runs c.args.doors.items attended doors in (
         runs_of c.args.doors.items attended,
         record {
@@ -203,6 +245,9 @@ returns g c = record {
           tables = closed.tables;
           attended = held.0;
           failed = held.1;
+          asked = held-asked g.D.Door.told g.D.Door.faults g.D.L.Link.told g.D.L.Link.faults c.args.words.now
+              c.args.floor c.args.doors.items attended c.args.crew.works.items c.run_all-works.result.works.items
+              c.collect_works.new.passes back end.journal closed plan seed grown;
         },
       );
 }

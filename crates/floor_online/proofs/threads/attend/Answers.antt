@@ -6,6 +6,7 @@ returns g c =
     record {
       start = c.args.desk;
       none_at_book = c.requires.desk.none_at_book;
+      none_at_tables = c.requires.desk.none_at_tables;
       its = worked.desk;
       worked = worked.worked;
       rose = worked.failed;

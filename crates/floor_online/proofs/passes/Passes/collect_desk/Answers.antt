@@ -1,6 +1,11 @@
 use Rattle.std.proofs.Common.{rules}
 use Rattle.floor_online.proofs.Collecting.{desk-collected, desk-seen, room-left}
+use Rattle.floor_online.proofs.Spreading.{spread-grown}
 use Rattle.floor_online.proofs.passes.Passes.collect_desk.Goals as goal
+
+pub returns-clause-rows : goal.returns-clause-rows
+returns-clause-rows c =
+    spread-grown c.args.self.now.tables.items _ c.args.desk.tables.items (search rules) (search rules)
 
 pub returns-clause-room : goal.returns-clause-room
 returns-clause-room c books each =
