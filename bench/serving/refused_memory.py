@@ -12,9 +12,11 @@ import tempfile
 import time
 
 from serving.hostile import Client
-from serving.server import PROGRAM, TOP, check_replay, plan
+from serving.server import TOP, check_replay, plan
 
 PORT = 25000
+# the program itself, since a script that begins it would want memory too
+SERVER = os.environ.get("SERVER", str(TOP / "crates/floor_desk/out/floor_desk"))
 # how many seconds a client waits for a line
 PATIENCE = 5
 # fails the one allocation of the program itself that has this number, and keeps in a file how many it made
@@ -115,7 +117,7 @@ def serve(preload, number, folder, seen):
     (folder / "made").write_bytes(bytes(8))
     environment = dict(os.environ, LD_PRELOAD=str(preload), REFUSED=str(number), MADE=str(folder / "made"))
     with open(folder / "text", "wb") as out:
-        server = subprocess.Popen(PROGRAM + ["serve", str(PORT), "2"], stdin=subprocess.PIPE, stdout=out,
+        server = subprocess.Popen([SERVER, "serve", str(PORT), "2"], stdin=subprocess.PIPE, stdout=out,
                                   stderr=subprocess.PIPE, env=environment, cwd=TOP)
     try:
         server.stdin.write(plan(1, 2))
