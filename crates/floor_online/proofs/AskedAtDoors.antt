@@ -1,11 +1,10 @@
 -- What the sessions at a door brought was asked for on the links that the door gave.
-use Rattle.std.proofs.Common.{◌≡◌, ◌∙◌, refl, sym, ap, subst, ℕ, ◌+◌, ◌≤◌, Bool, true, false, cond, List, [], ◌∷◌, ◌++◌, Option, Some, None, append-nil, append_assoc, length, map, arith}
+use Rattle.std.proofs.Common.{◌≡◌, ◌∙◌, refl, sym, ap, subst, ℕ, ◌+◌, ◌≤◌, Bool, true, false, List, [], ◌∷◌, ◌++◌, Option, Some, None, append-nil, append_assoc, length, map, arith}
 use Rattle.std.specs.Prelude.{IfSome, drop, option_to_list, if◌then◌else◌}
-use Rattle.std.specs.List.{AllByRecursion, flat_map}
+use Rattle.std.specs.List.{AllByRecursion, flat_map, slice_split}
 use Rattle.std.proofs.lemmas.Option.{same_Some}
 use Rattle.std.proofs.lemmas.List.{map-append}
 use Rattle.floor_text.specs.Lines.{all_but_last, cut_line, ended_lines, is_line_feed, lines_of_bytes, without_empty_last}
-use Rattle.std.specs.List.{slice_split}
 use Rattle.history_lock.proofs.Prefixes.{drop_append}
 use Rattle.plan_files.specs.Words.{WordTerms}
 use Rattle.links.specs.Telling.{DoorTelling, Telling}
@@ -15,7 +14,7 @@ use Rattle.session_desk.specs.declared.session.SessionEnd.{SessionEnd}
 use Rattle.session_desk.specs.declared.session.SessionEnd.TheVariants as ends
 use Rattle.session_desk.specs.declared.desk.Asked.{Asked}
 use Rattle.view_rules.specs.declared.entries.JournalEntry.{JournalEntry}
-use Rattle.session_desk.specs.Desks.{Brought, Numbers, Sights}
+use Rattle.session_desk.specs.Desks.{Numbers, Sights}
 use Rattle.session_desk.specs.Exchanges.{Exchange}
 use Rattle.session_desk.specs.Standings.{is_quit, speaker_after}
 use Rattle.session_desk.specs.Talks.{AreGoing, AreLinesOf, AreMomentsBehind, EndsBy, IsSpoken, Served, WasServed, brought_in, lines_in, lines_taken}

@@ -1,10 +1,8 @@
 -- What the lines of a session brought was asked for by them.
-use Rattle.std.proofs.Common.{◌≡◌, ◌∙◌, refl, sym, ap, subst, ℕ, ◌+◌, ◌≤◌, Bool, true, false, cond, List, [], ◌∷◌, ◌++◌, Option, Some, None, inl, inr, fold, length, map, arith}
-use Rattle.std.specs.Prelude.{IfSome, drop, is_none, option_map, option_to_list, unwrap_or, if◌then◌else◌}
-use Rattle.std.specs.List.{flat_map}
+use Rattle.std.proofs.Common.{◌≡◌, ◌∙◌, refl, sym, ap, subst, ℕ, ◌+◌, ◌≤◌, Bool, true, false, List, [], ◌∷◌, ◌++◌, Option, Some, None, inl, inr, arith}
+use Rattle.std.specs.Prelude.{option_map, option_to_list, unwrap_or, if◌then◌else◌, codes}
 use Rattle.std.specs.Option.{option_map_or}
 use Rattle.std.specs.Str.{bytes_eq}
-use Rattle.std.specs.Prelude.{codes}
 use Rattle.std.proofs.lemmas.List.Sums.{fold-append}
 use Rattle.level_plan.specs.Items.{is_between}
 use Rattle.plan_files.specs.Words.{WordTerms}
@@ -17,7 +15,6 @@ use Rattle.view_rules.specs.declared.entries.JournalEntry.{JournalEntry}
 use Rattle.view_rules.specs.declared.entries.TableEntry.{TableEntry}
 use Rattle.dock_rules.specs.declared.asks.Ask.{Ask}
 use Rattle.dock_rules.specs.declared.asks.Ask.TheVariants as asks
-use Rattle.dock_rules.specs.declared.asks.AskAnswer.{AskAnswer}
 use Rattle.dock_rules.specs.declared.asks.AskAnswer.TheVariants as answers
 use Rattle.dock_rules.specs.Added.{only_if}
 use Rattle.dock_rules.specs.Journals.{Tale, act_event, book_of, entry_told, tale_of}
@@ -29,7 +26,6 @@ use Rattle.session_lines.specs.declared.hello.Speaker.TheVariants.{Floor, Player
 use Rattle.session_lines.specs.declared.meaning.Meaning.{Meaning}
 use Rattle.session_lines.specs.declared.meaning.Meaning.TheVariants as meanings
 use Rattle.session_lines.specs.declared.reply.Reply.{Reply}
-use Rattle.session_lines.specs.declared.reply.Reply.TheVariants as replies
 use Rattle.session_lines.specs.declared.request.Request.{Request}
 use Rattle.session_lines.specs.declared.request.Request.TheVariants as requests
 use Rattle.session_lines.specs.Hellos.{hello_of}

@@ -1,8 +1,7 @@
 -- The acts that a journal settles stand in the histories of the tables, each once.
 use Rattle.std.proofs.Common.{◌≡◌, ◌∙◌, refl, sym, ap, subst, ◌==◌, ℕ, ◌+◌, ◌*◌, ◌≤◌, zero, suc, Bool, true, false, cond, List, [], ◌∷◌, ◌++◌, append-nil, append_assoc, fold, length, map, take, arith}
-use Rattle.std.specs.Prelude.{filter, Option, None, Some, option_map, option_to_list}
+use Rattle.std.specs.Prelude.{filter, Option, None, Some, option_to_list}
 use Rattle.std.specs.List.{AllByRecursion}
-use Rattle.std.proofs.lemmas.Bool.Decides.{nat_tests}
 use Rattle.std.proofs.lemmas.List.{map-append}
 use Rattle.std.proofs.lemmas.List.Elements.{filter-append}
 use Rattle.table_engine.specs.declared.start.HandStart.{HandStart}
@@ -11,18 +10,16 @@ use Rattle.table_engine.specs.Hands.{HandTerms}
 use Rattle.floor_events.specs.declared.event.Event.{Event}
 use Rattle.floor_events.specs.declared.event.Event.TheVariants as events
 use Rattle.tournament_rules.specs.Books.{BookState, start_at}
-use Rattle.tournament_rules.specs.States.{PlayState, first_state, refusal_of}
+use Rattle.tournament_rules.specs.States.{PlayState, refusal_of}
 use Rattle.tournament_rules.specs.Valid.{IsValidState}
 use Rattle.tournament_rules.proofs.Steps.{valid_events, valid_run}
 use Rattle.history_lock.specs.Entries.{entries_by}
 use Rattle.view_rules.specs.declared.entries.JournalEntry.{JournalEntry}
 use Rattle.view_rules.specs.declared.entries.TableEntry.{TableEntry}
 use Rattle.view_rules.specs.declared.entries.TableEntry.TheVariants.{Opened, Acted, Closed}
-use Rattle.view_rules.specs.Entries.{begun, with_act}
 use Rattle.dock_rules.specs.Journals.{Settled, Tale, act_event, acts_before, are_accepted, book_of, events_of, first_tale, journal_caller, may_come, seeded, settled_by, tale_of, told_one}
-use Rattle.dock_rules.specs.Points.{order_owed}
 use Rattle.dock_rules.specs.Whole.{TableHands, hands_after, hands_of, no_hands}
-use Rattle.dock_rules.proofs.JournalTales.{legal-before, tale_append, tale_from}
+use Rattle.dock_rules.proofs.JournalTales.{tale_from}
 use Rattle.whole_laws.proofs.EntriesTaken.{book-told, event-taken, first-may}
 use Rattle.whole_laws.proofs.Planning.{by_plan}
 use Rattle.whole_laws.proofs.Starts.{settled-at}
@@ -30,7 +27,7 @@ use Rattle.whole_laws.proofs.Told.{settled-one}
 use Rattle.std.proofs.lemmas.Bool.{and_parts, eqb-true}
 use Rattle.table_worker.specs.Ties.{AreWork, IsBrought, hands_closed, hands_settled, work_owed}
 use Rattle.table_worker.proofs.Owed.{IsMove, owed-move}
-use Rattle.floor_online.specs.Wishes.{Wish, wish_of}
+use Rattle.floor_online.specs.Wishes.{Wish}
 use Rattle.floor_online.proofs.Weights.{by-first, one_if, weigh, weigh-append, weigh-both, weigh-map}
 use Rattle.floor_online.proofs.AskedFor.{entry_weight, event_weight}
 

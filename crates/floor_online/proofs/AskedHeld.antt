@@ -1,12 +1,12 @@
 -- What the events of a tournament come of that was held at doors: the lines that were said at them.
-use Rattle.std.proofs.Common.{Global, ◌≡◌, ◌∙◌, refl, sym, ap, subst, ◌==◌, ℕ, zero, suc, ◌+◌, ◌<◌, ◌≤◌, Bool, true, false, List, [], ◌∷◌, ◌++◌, Option, Some, None, length, map, arith}
-use Rattle.std.specs.Prelude.{◌||◌, All, Any, IfSome, Vec, count_by, filter, option_map, option_to_list, slice_get, slice_index_or, vec_len}
-use Rattle.std.specs.List.{AllByRecursion, AllZip, cons_option, filter_map, flat_map, list_any}
+use Rattle.std.proofs.Common.{◌≡◌, ◌∙◌, refl, sym, ap, subst, ◌==◌, ℕ, zero, suc, ◌+◌, ◌<◌, ◌≤◌, Bool, true, List, [], ◌∷◌, ◌++◌, Option, Some, None, length, map, arith}
+use Rattle.std.specs.Prelude.{◌||◌, All, Any, IfSome, filter, option_map, option_to_list, slice_get, slice_index_or, vec_len}
+use Rattle.std.specs.List.{AllByRecursion, AllZip, cons_option, filter_map, flat_map}
 use Rattle.std.specs.Option.{option_map_or}
 use Rattle.std.proofs.lemmas.Bool.{or_right}
 use Rattle.std.proofs.lemmas.Bool.Decides.{nat_tests}
 use Rattle.std.proofs.lemmas.List.{length-map, map-append}
-use Rattle.std.proofs.lemmas.List.Elements.{All-map, All-pop, All-same, All-weaker, recursion_from_All}
+use Rattle.std.proofs.lemmas.List.Elements.{All-map, All-pop, All-weaker, recursion_from_All}
 use Rattle.std.proofs.lemmas.Option.{slice_get-map, slice_get_within}
 use Rattle.std.proofs.lemmas.Slice.Zip.{AllZip-long}
 use Rattle.history_lock.specs.Entries.{IsGrownByPasses, entries_by}
@@ -24,8 +24,6 @@ use Rattle.dock_rules.specs.Tables.{table_caller}
 use Rattle.dock_rules.proofs.JournalTales.{legal-before, tale_append}
 use Rattle.table_dock.specs.contracts.hold.TableHoldGrows.TheImpl as of_table_dock
 use Rattle.table_dock.specs.declared.hold.TableHold.{TableHold}
-use Rattle.table_dock.specs.declared.dock.TableDock.{TableDock}
-use Rattle.table_dock.specs.Docks.{table_of}
 use Rattle.table_worker.specs.Ties.{IsBrought, is_act}
 use Rattle.book_dock.specs.Docks.{book_passes}
 use Rattle.book_dock.specs.Opening.{opening}

@@ -1,18 +1,17 @@
 -- Who asks for what: a player for his own acts, and the floor for called times and orders.
-use Rattle.std.proofs.Common.{◌≡◌, refl, sym, ap, subst, ℕ, Bool, true, false, cond, List, [], ◌∷◌, Option, Some, None}
-use Rattle.std.specs.Bool.{then_some}
+use Rattle.std.proofs.Common.{◌≡◌, refl, subst, ℕ, Bool, true, false, cond, List, [], ◌∷◌, Some}
 use Rattle.std.specs.List.{AllByRecursion}
 use Rattle.std.specs.Str.{bytes_eq}
 use Rattle.std.proofs.lemmas.Option.{same_Some}
 use Rattle.card_set.proofs.Steps.{bind_found, map_found}
 use Rattle.line_words.specs.Fields.{act_of, few_of, last_by, next_by}
-use Rattle.line_words.specs.Rows.{Fields, no_field, last, ◌▸◌, an_act, few, Maker, Row, read_at, read_by, read_fields, read_words, row_at, value_of}
-use Rattle.line_words.specs.Words.{no_word, words_of_line}
+use Rattle.line_words.specs.Rows.{Fields, no_field, last, ◌▸◌, an_act, few, Maker, Row, read_at, read_fields, read_words, row_at, value_of}
+use Rattle.line_words.specs.Words.{words_of_line}
 use Rattle.session_lines.specs.declared.hello.Speaker.{Speaker}
 use Rattle.session_lines.specs.declared.hello.Speaker.TheVariants.{Floor, Player}
 use Rattle.session_lines.specs.declared.request.Request.{Request}
 use Rattle.session_lines.specs.declared.request.Request.TheVariants as requests
-use Rattle.session_lines.specs.Requests.{floor_rows, player_rows, request_of, rows_of}
+use Rattle.session_lines.specs.Requests.{floor_rows, player_rows, request_of}
 
 module _ {A : Type 0} (P : A → Type 0) where
   -- All that the fields of a row make is so.

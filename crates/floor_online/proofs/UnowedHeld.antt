@@ -1,6 +1,6 @@
 -- The balances and breaks of a tournament that was held at doors are owed, but for those that were asked for by name.
 use Rattle.std.proofs.Common.{◌≡◌, ◌∙◌, refl, sym, ap, subst, ◌==◌, ℕ, ◌+◌, ◌≤◌, true, List, [], ◌∷◌, ◌++◌, Option, Some, length, length-append, map, arith}
-use Rattle.std.specs.Prelude.{filter, vec_len}
+use Rattle.std.specs.Prelude.{vec_len}
 use Rattle.std.specs.List.{AllByRecursion, AllZip, flat_map}
 use Rattle.std.proofs.lemmas.Grind.{flat_map-append}
 use Rattle.std.proofs.lemmas.List.Elements.{filter-append, recursion_from_All}
@@ -13,7 +13,6 @@ use Rattle.level_plan.specs.Plans.{PlanTerms}
 use Rattle.level_plan.specs.declared.line.PlanLine.{PlanLine}
 use Rattle.plan_files.specs.PlanLines.{lines_of_plan}
 use Rattle.plan_files.specs.Words.{WordTerms}
-use Rattle.floor_events.specs.declared.event.Event.{Event}
 use Rattle.floor_events.specs.declared.event.Event.TheVariants as events
 use Rattle.links.specs.Telling.{DoorTelling, Telling}
 use Rattle.view_rules.specs.declared.entries.JournalEntry.{JournalEntry}
@@ -33,7 +32,6 @@ use Rattle.floor_online.specs.Working.{HasAttended, HasDone}
 use Rattle.floor_online.proofs.AskedAtDoors.{both-parts, door-asked}
 use Rattle.floor_online.proofs.AskedFor.{said_weight}
 use Rattle.floor_online.proofs.AskedJournals.{is_among}
-use Rattle.floor_online.proofs.Callers.{Book}
 use Rattle.floor_online.proofs.DeskOrders.{orders_in}
 use Rattle.floor_online.proofs.HeldRuns.{runs_of}
 use Rattle.floor_online.proofs.NamedMoves.{log-named, move_wished}

@@ -1,7 +1,6 @@
 -- How many balances and breaks are not the order that is owed, by who brought them.
-use Rattle.std.proofs.Common.{◌≡◌, ◌∙◌, refl, sym, ap, subst, ◌==◌, ℕ, ◌+◌, ◌*◌, ◌≤◌, Bool, true, false, cond, List, [], ◌∷◌, ◌++◌, append_assoc, Option, Some, None, inl, inr, fold, length, length-append, append-nil, map, arith}
-use Rattle.std.specs.Prelude.{◌&&◌, not, filter, option_to_list, unwrap_or, if◌then◌else◌}
-use Rattle.std.specs.List.{AllByRecursion}
+use Rattle.std.proofs.Common.{◌≡◌, ◌∙◌, refl, sym, ap, subst, ◌==◌, ℕ, ◌+◌, ◌*◌, ◌≤◌, Bool, true, false, cond, List, [], ◌∷◌, ◌++◌, append_assoc, Option, Some, None, inl, inr, fold, length, length-append, append-nil, arith}
+use Rattle.std.specs.Prelude.{◌&&◌, not, unwrap_or, if◌then◌else◌}
 use Rattle.std.specs.Option.{option_map_or}
 use Rattle.std.specs.Str.{bytes_eq}
 use Rattle.std.proofs.lemmas.Bool.{and_from, eqb-true}
@@ -12,24 +11,19 @@ use Rattle.std.proofs.lemmas.Slice.Eq.{bytes_eq-Decides}
 use lib.Pointwise.{pointwise}
 use mathlib.Core.List.{IsPrefix}
 use Rattle.level_plan.specs.Items.{is_between}
-use Rattle.level_plan.specs.Plans.{PlanTerms}
-use Rattle.level_plan.specs.declared.line.PlanLine.{PlanLine}
-use Rattle.plan_files.specs.PlanLines.{lines_of_plan}
 use Rattle.plan_files.specs.Words.{WordTerms}
 use Rattle.seat_book.specs.declared.place.Place.{Place}
 use Rattle.floor_events.specs.declared.event.Event.{Event}
 use Rattle.floor_events.specs.declared.event.Event.TheVariants as events
 use Rattle.history_lock.specs.Entries.{entries_by}
-use Rattle.history_lock.specs.Limits.{opener}
 use Rattle.view_rules.specs.declared.entries.JournalEntry.{JournalEntry}
 use Rattle.dock_rules.specs.declared.asks.Ask.{Ask}
 use Rattle.dock_rules.specs.declared.asks.Ask.TheVariants as asks
 use Rattle.dock_rules.specs.declared.asks.AskAnswer.TheVariants as answers
 use Rattle.dock_rules.specs.Added.{only_if}
-use Rattle.dock_rules.specs.Journals.{Tale, book_of, entry_told, first_tale, journal_caller, plain_entry, tale_of, told_one}
+use Rattle.dock_rules.specs.Journals.{Tale, book_of, entry_told, first_tale, journal_caller, tale_of, told_one}
 use Rattle.dock_rules.specs.Points.{ask_answer, event_answer, event_done, order_owed}
-use Rattle.dock_rules.proofs.JournalTales.{tale_append, tale_from, tale_nil, tale_push}
-use Rattle.book_dock.specs.Opening.{opening}
+use Rattle.dock_rules.proofs.JournalTales.{tale_from, tale_nil, tale_push}
 use Rattle.floor_text.specs.declared.refusal.Refusal.TheVariants.{Stopped}
 use Rattle.table_worker.specs.Ties.{AreWork, work_owed}
 use Rattle.table_worker.proofs.Owed.{IsMove, owed-move}
@@ -39,13 +33,12 @@ use Rattle.session_lines.specs.declared.reply.Reply.{Reply}
 use Rattle.session_lines.specs.declared.request.Request.{Request}
 use Rattle.session_lines.specs.declared.request.Request.TheVariants as requests
 use Rattle.session_desk.specs.Answers.{IsReply, IsReplyTo, IsRightAnswer, is_done, order_reply}
-use Rattle.session_desk.specs.Desks.{AreLater, Brought, Numbers, Sights}
+use Rattle.session_desk.specs.Desks.{Brought, Numbers, Sights}
 use Rattle.session_desk.specs.Exchanges.{Answered, Exchange}
 use Rattle.session_desk.specs.Standings.{Standing, first_standing, meaning_said, standing_after, standing_through}
 use Rattle.session_desk.specs.Talks.{AreMomentsBehind, sights_through, sum_from}
-use Rattle.floor_online.specs.Wishes.{is_move, is_unowed, same_move, same_place, unowed, unowed_from}
-use Rattle.floor_online.proofs.AskedJournals.{is_among}
-use Rattle.floor_online.proofs.Weights.{by-first, one_if, weigh, weigh-append, weigh-callers, weigh-le}
+use Rattle.floor_online.specs.Wishes.{is_move, is_unowed, same_move, same_place, unowed_from}
+use Rattle.floor_online.proofs.Weights.{by-first, one_if, weigh, weigh-append}
 
 -- An entry of a journal, with the tale before it.
 pub record Step : Type 0 where
