@@ -6,6 +6,7 @@ use crate::grows::Grows;
 use crate::plays::Ring;
 use crate::rule::{BELLS, FIRST_BELL, LockSeat, Steps};
 use std::sync::Wait;
+use std::time::Duration;
 
 // A sleep compares the low 32 bits.
 const LOW: u64 = 0xffff_ffff;
@@ -17,11 +18,22 @@ pub(crate) fn bell_of(ticket: u64) -> usize
     FIRST_BELL + (ticket % BELLS) as usize
 }
 
-/// Sleeps until the bell is rung, unless it was rung since `rings` was read from it. It may wake earlier.
-pub(crate) fn sleep<V: Grows, R: Wait>(rt: &R, steps: &Steps<V>, bell: usize, rings: u64)
+/// Sleeps until the bell is rung, unless it was rung since `rings` was read from it, and for so long at most if that is
+/// given. It may wake earlier.
+pub(crate) fn sleep<V: Grows, R: Wait>(
+    rt: &R,
+    steps: &Steps<V>,
+    bell: usize,
+    rings: u64,
+    most: Option<Duration>,
+)
     requires { bell < steps.now.table_id.words }
 {
-    steps.park(rt, bell, (rings & LOW) as u32);
+    let rings = (rings & LOW) as u32;
+    match most {
+        None => steps.park(rt, bell, rings),
+        Some(most) => steps.park_timeout(rt, bell, rings, most),
+    }
 }
 
 /// Rings a bell, and wakes all who sleep on it.

@@ -37,7 +37,7 @@ fn rest<V: Grows, R: Wait>(
     if looks < LOOKS {
         backoff.spin();
     } else {
-        sleep(rt, steps, bell, rings);
+        sleep(rt, steps, bell, rings, None);
     }
 }
 

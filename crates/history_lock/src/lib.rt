@@ -10,7 +10,8 @@
 //! | `HistoryLock::enter` | what the value that is found has to do with the pass |
 //! | `HistoryLock::leave` | the pass has seen the history that it left, and its own list has grown by what it added |
 //! | `HistoryLock::news` | the count that it loaded is what the pass knows |
-//! | `HistoryLock::await_news` | what the pass knows is below neither what it knew nor what it has seen, and it is else unchanged |
+//! | `HistoryLock::await_news`, `await_news_within` | what the pass knows is below neither what it knew nor what it has seen, and it is else unchanged |
+//! | `HistoryLock::wake` | nothing: it wakes who awaits news |
 //! | `HistoryLock::close` | the value comes exactly where all passes are given, its history fits each of them, and behind the opening it is theirs alone |
 //! | `Inside::value`, `Inside::value_mut` | the value inside, and what a write through it leaves |
 //!

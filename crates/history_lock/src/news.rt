@@ -9,6 +9,7 @@ use crate::pass::Pass;
 use crate::plays::{Arrive, Count};
 use crate::rule::{COUNT, NEWS_BELL};
 use std::sync::Wait;
+use std::time::Duration;
 
 impl<V: Grows> HistoryLock<V> {
     /// Loads the count of entries now. It waits for nobody, and takes no memory.
@@ -40,12 +41,27 @@ impl<V: Grows> HistoryLock<V> {
 
         ensures same { IsSameButKnown pass result }
     {
+        self.await_news_within(rt, pass, None)
+    }
+
+    /// Waits as `await_news` does, and for so long at most if that is given.
+    pub fn await_news_within<R: Wait>(
+        &self,
+        rt: &R,
+        pass: Pass<V>,
+        most: Option<Duration>,
+    ) -> Pass<V>
+        requires { lock_of pass ≡ lock_id self.now }
+        ensures not_below_known { known pass ≤ known result }
+        ensures not_below_seen { length (seen pass) ≤ known result }
+        ensures same { IsSameButKnown pass result }
+    {
         let mut pass = pass;
         let steps = &self.table.shared;
         let rings = steps.peek(NEWS_BELL);
         let known = pass.known;
         if self.news(&mut pass) == known {
-            sleep(rt, steps, NEWS_BELL, rings);
+            sleep(rt, steps, NEWS_BELL, rings, most);
             self.news(&mut pass);
         }
         pass
