@@ -13,13 +13,13 @@ use std::time::Duration;
 const LEAST_PATIENCE: u64 = 20;
 
 /// How many milliseconds a read waits for bytes at most.
-const MOST_PATIENCE: u64 = 80;
+const MOST_PATIENCE: u64 = 160;
 
 /// How many seconds a write waits for a client who takes nothing.
 const WRITE_PATIENCE: u64 = 10;
 
 /// A link over a TCP stream. Its reads wait for 20 milliseconds right after bytes were taken or put. Each Idle makes
-/// them wait for one more, up to 80, so that a silent client needs little of a processor.
+/// them wait for one more, up to 160, so that a silent client needs little of a processor.
 #[derive(Drop)]
 pub struct TcpLink {
     link: StreamLink<TcpStream>,
