@@ -24,7 +24,7 @@ async def main(tables, sessions, seconds):
         player.say(f"watch {(each + 1) // 2}")
         players.append(player)
     # the server waits the longer for a client, the longer that one is silent
-    await asyncio.sleep(5)
+    await asyncio.sleep(15)
     before = server.seconds()
     await asyncio.sleep(seconds)
     used = server.seconds() - before

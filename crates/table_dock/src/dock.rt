@@ -20,6 +20,7 @@ use floor_text::Name;
 use history_lock::{HistoryLock, NotAll, Pass};
 use player_view::TableTeller;
 use std::sync::Wait;
+use std::time::Duration;
 use table_engine::{ActFault, ActOf, Hand};
 
 /// The right to enter the lock of a table.
@@ -92,7 +93,10 @@ impl TableDock {
         gate.held(self.table);
         let caller = inside.number();
         let answer = inside.value_mut().act(caller, name, act);
-        (self.lock.leave(inside), answer)
+        let over = inside.value().is_over();
+        let pass = self.lock.leave(inside);
+        self.wake_if(over);
+        (pass, answer)
     }
 
     /// Calls time on the player who is due in the hand that lies there.
@@ -107,7 +111,10 @@ impl TableDock {
         let mut inside = self.lock.enter(rt, pass);
         let caller = inside.number();
         let answer = inside.value_mut().time(caller);
-        (self.lock.leave(inside), answer)
+        let over = inside.value().is_over();
+        let pass = self.lock.leave(inside);
+        self.wake_if(over);
+        (pass, answer)
     }
 
     /// Calls time as `time` does, and gives the act that this makes for the player who is due.
@@ -128,7 +135,9 @@ impl TableDock {
         let caller = inside.number();
         let act = inside.value().called();
         let answer = inside.value_mut().time(caller);
+        let over = inside.value().is_over();
         let pass = self.lock.leave(inside);
+        self.wake_if(over);
         match (answer, act) {
             (Ok(_), Some(act)) => (pass, Ok(act)),
             (Ok(_), None) => unreachable!(),
@@ -201,6 +210,24 @@ impl TableDock {
         ensures same { IsSameButKnown pass.old pass.new }
     {
         self.lock.news(pass)
+    }
+
+    /// Waits until the history has more entries than the pass knows of, or the hand that lies there is over, for so
+    /// long at most, and may answer earlier. It makes no hold, and takes no memory.
+    pub fn await_news<R: Wait>(&self, rt: &R, pass: TablePass, most: Duration) -> TablePass
+        requires { lock_of pass ≡ dock_id self.now }
+        ensures not_below_known { known pass ≤ known result }
+        ensures not_below_seen { length (seen pass) ≤ known result }
+        ensures same { IsSameButKnown pass result }
+    {
+        self.lock.await_news_within(rt, pass, Some(most))
+    }
+
+    /// Ends the wait of the worker where the hand is over.
+    fn wake_if(&self, over: bool) {
+        if over {
+            self.lock.wake();
+        }
     }
 
     /// Opens the lock for good, where all passes are given. Else the dock and the passes that were given come back. It

@@ -131,6 +131,11 @@ impl TableHold {
         called_act(self.hand.as_ref()?).ok()
     }
 
+    /// Tells whether a hand lies there that is over.
+    pub(crate) fn is_over(&self) -> bool {
+        self.hand.as_ref().is_some_and(|hand| hand.is_over())
+    }
+
     /// Takes the hand away, if one lies there. It takes no memory.
     pub(crate) fn void(&mut self) -> Option<Hand>
         ensures hand { result ≡ lying_hand self.old }

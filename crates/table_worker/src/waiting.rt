@@ -3,13 +3,23 @@
 ghost use Rattle.std.specs.Prelude.{◌≡◌};
 ghost use Rattle.history_lock.specs.Passes.{lock_of};
 ghost use Rattle.book_dock.specs.Docks.{book_id};
+ghost use Rattle.table_dock.specs.Docks.{dock_id};
 ghost use Rattle.table_worker.specs.Workers.{IsSameWorker, IsWorkerOf, has_ended};
 
 use crate::watch::Watch;
 use crate::worker::Worker;
 use book_dock::BookDock;
 use std::sync::Wait;
+use std::thread::Parker;
+use std::time::Duration;
 use table_dock::TableDock;
+
+/// How many milliseconds a worker waits between two looks at most. So late it may learn of the stop while its hand lies
+/// at the table.
+const LONGEST_WAIT: u64 = 500;
+
+/// How many milliseconds a worker pauses after want of memory.
+const PAUSE: u64 = 20;
 
 impl Worker {
     /// Waits until the journal has news, and may go on earlier.
@@ -56,8 +66,28 @@ impl Worker {
         (worker, watch.is_new(journal, history))
     }
 
-    /// Waits until the journal or the table's history has grown since the last look, and pauses longer and longer
-    /// between two looks.
+    /// Waits until the hand at the table is over, for half a second at most, and may go on earlier.
+    fn await_table<R: Wait>(self, rt: &R, dock: &TableDock) -> Worker
+        requires { lock_of self.dock ≡ dock_id dock.now }
+        ensures same { IsSameWorker self result }
+        ensures ended { has_ended result ≡ has_ended self }
+    {
+        let Worker {
+            table,
+            book,
+            dock: pass,
+            stage,
+        } = self;
+        let pass = dock.await_news(rt, pass, Duration::from_millis(LONGEST_WAIT));
+        Worker {
+            table,
+            book,
+            dock: pass,
+            stage,
+        }
+    }
+
+    /// Waits until the journal or the table's history has grown since the last look.
     pub(crate) fn await_either<R: Wait>(
         self,
         rt: &R,
@@ -75,9 +105,13 @@ impl Worker {
             if is_news {
                 return looked;
             }
-            watch.pause(rt);
-            worker = looked;
+            worker = looked.await_table(rt, dock);
         }
         unreachable!()
     }
+}
+
+/// Waits for a moment, after which memory may be there again.
+pub(crate) fn pause<R: Wait>(rt: &R) {
+    Parker::new().park_timeout(rt, Duration::from_millis(PAUSE));
 }

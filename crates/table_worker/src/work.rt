@@ -7,6 +7,7 @@ ghost use Rattle.book_dock.specs.Docks.{book_id};
 ghost use Rattle.table_worker.specs.Ties.{IsBrought};
 
 use crate::turn::Turn;
+use crate::waiting::pause;
 use crate::watch::Watch;
 use crate::worker::Worker;
 use book_dock::{BookDock, BookPass};
@@ -40,7 +41,7 @@ pub fn work_table<R: Wait>(
             Turn::NotNow(_) => worker = next.await_book(rt, book),
             Turn::Lying => worker = next.await_either(rt, book, dock, &mut watch),
             Turn::NoMemory => {
-                watch.pause(rt);
+                pause(rt);
                 worker = next;
             }
             _ => worker = next,
