@@ -3,8 +3,8 @@
 ghost use Rattle.std.specs.Prelude.{◌≡◌, Some, IfOk, OnOk};
 ghost use Rattle.tournament_rules.specs.Books.{start_at};
 
-use crate::book_scripts::{BOOK_SCRIPTS, BookScript};
-use crate::tests::{add_words, with_answer};
+use super::book_scripts::{BOOK_SCRIPTS, BookScript};
+use super::runs::{add_words, with_answer};
 use floor_core::{Book, Tournament};
 use floor_events::{Answer, Event, Item, Report, read_item, write_answer, write_report};
 use level_plan::{Plan, PlanDraft};

@@ -1,9 +1,7 @@
 //! Scripts that are played twice, by a book with hands outside of it and by a tournament. A line is answered by what
 //! stands behind ` : `, and else `ok`. `SORTED` and `ACES` stand for rows.
 
-use crate::over_transcripts::THREE_LEVELS;
-use crate::round_transcripts::TWO_TWICE;
-use crate::transcripts::{PLAN, THREE};
+use super::plans::{PLAN, THREE, THREE_LEVELS, TWO_TWICE};
 
 /// A plan, what comes after it in parts, whether the tournament is over then, and the report at the end. A part that
 /// begins with a `begin` is one hand, to its `settle` or to the `stop` that voids it; another is lines that the book
