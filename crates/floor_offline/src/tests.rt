@@ -3,6 +3,7 @@
 
 mod book_scripts;
 mod books;
+mod faults;
 mod outside;
 mod plans;
 mod rows;

@@ -6,6 +6,53 @@ use floor_text::{Failed, MemSource, Sink, Source};
 use std::alloc::Global;
 use std::test::Fail;
 
+/// The most bytes that the source gives at once.
+const DROP: usize = 7;
+
+/// A source that gives its bytes a few at a time, and fails at one call, by its number from 1. It tells nothing.
+#[derive(Drop)]
+pub struct Drops {
+    bytes: Vec<u8>,
+    given: usize,
+    failing: u64,
+    calls: u64,
+    faults: u64,
+}
+
+impl Drops {
+    /// Makes a source of these bytes.
+    pub fn new(bytes: Vec<u8>, failing: u64) -> Drops {
+        Drops {
+            bytes,
+            given: 0,
+            failing,
+            calls: 0,
+            faults: 0,
+        }
+    }
+}
+
+impl Source for Drops {
+    ghost use Rattle.std.specs.Prelude.{None};
+
+    ghost left = { λ _. None };
+
+    ghost faults = { λ s. s.faults };
+
+    fn take(&mut self, buffer: &mut [u8]) -> Result<usize, Failed> {
+        self.calls = self.calls.saturating_add(1);
+        if self.calls == self.failing {
+            self.faults = self.faults.saturating_add(1);
+            return Err(Failed);
+        }
+        let left = self.bytes.get(self.given..).unwrap_or(&[]);
+        let count = left.len().min(buffer.len()).min(DROP);
+        buffer[..count].copy_from_slice(&left[..count]);
+        self.given = self.given.saturating_add(count);
+        Ok(count)
+    }
+}
+
 /// A sink that has `put` alone. It keeps what was put, with a bar behind each put.
 #[derive(Drop)]
 struct OwnSink {
