@@ -25,7 +25,7 @@ use Rattle.floor_online.specs.Wishes.{Wish}
 use Rattle.floor_online.proofs.Weights.{one_if, weigh, weigh-append, weigh-both, weigh-callers, weigh-flat, weigh-le, weigh-map, weigh-swap}
 use Rattle.floor_online.proofs.AskedFor.{asked_weight, brought_weight, entry_weight, event_weight}
 use Rattle.floor_online.proofs.AskedHands.{act_weight, settle_weight, table_weight, whole_weight}
-use Rattle.floor_online.proofs.DeskOrders.{settles}
+use Rattle.floor_online.proofs.OfHands.{settles}
 
 -- A desk in brief: the numbers of its passes, and what it brought.
 pub record DeskBrief : Type 0 where

@@ -21,8 +21,9 @@ use Rattle.floor_online.specs.declared.jobs.Attended.{Attended}
 use Rattle.floor_online.specs.declared.jobs.Work.{Work}
 use Rattle.floor_online.specs.AtHand.{IsWorkSeen}
 use Rattle.floor_online.specs.Working.{HasAttended, HasDone}
-use Rattle.floor_online.proofs.DeskOrders.{desk-none, orders_in, settles}
+use Rattle.floor_online.proofs.DeskOrders.{desk-none, orders_in}
 use Rattle.floor_online.proofs.LawfulSettles.{IsWorkers, SettlesNone}
+use Rattle.floor_online.proofs.OfHands.{settles}
 
 -- A pass of the book.
 abbrev pub Book : Type 0

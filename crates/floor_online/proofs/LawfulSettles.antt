@@ -27,7 +27,7 @@ use Rattle.whole_laws.proofs.LawfulHands.{played-lawful}
 use Rattle.table_worker.specs.Ties.{IsBrought, hands_closed, hands_settled}
 use Rattle.table_worker.proofs.Others.{same-by}
 use Rattle.floor_online.specs.Tournaments.{AreLawful}
-use Rattle.floor_online.proofs.DeskOrders.{settles}
+use Rattle.floor_online.proofs.OfHands.{settles}
 
 -- All entries of a caller are those of the worker of a table, who was done when it had seen a beginning of the journal
 -- and this legal history of its table.

@@ -15,6 +15,7 @@ pub mod OneText
 pub mod Putting
 pub mod FloorLines
 pub mod FloorTold
+pub mod OfHands
 pub mod DeskOrders
 pub mod LawfulSettles
 pub mod Callers
