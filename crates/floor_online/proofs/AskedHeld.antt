@@ -5,7 +5,7 @@ use Rattle.std.specs.List.{AllByRecursion, AllZip, cons_option, filter_map, flat
 use Rattle.std.specs.Option.{option_map_or}
 use Rattle.std.proofs.lemmas.Bool.{or_right}
 use Rattle.std.proofs.lemmas.Bool.Decides.{nat_tests}
-use Rattle.std.proofs.lemmas.List.{length-map, map-append}
+use Rattle.std.proofs.lemmas.List.{map-append}
 use Rattle.std.proofs.lemmas.List.Elements.{All-map, All-pop, All-weaker, recursion_from_All}
 use Rattle.std.proofs.lemmas.Option.{slice_get-map, slice_get_within}
 use Rattle.std.proofs.lemmas.Slice.Zip.{AllZip-long}
@@ -45,6 +45,7 @@ use Rattle.floor_online.proofs.AskedAtDoors.{both-parts, brought-weight, door-as
 use Rattle.floor_online.proofs.AskedFor.{brought_weight, event_weight, log-asked, log_weight, said_weight}
 use Rattle.floor_online.proofs.AskedHands.{table_weight, whole_weight, worker-weight}
 use Rattle.floor_online.proofs.AskedJournals.{AreRising, DeskBrief, IsBriefOf, IsTableOf, WorkBrief, is_among, journal-weight}
+use Rattle.floor_online.proofs.BackAt.{desk-at, table-is, work-at}
 use Rattle.floor_online.proofs.Callers.{Book}
 use Rattle.floor_online.proofs.DeskOrders.{desk-none}
 use Rattle.floor_online.proofs.HeldRuns.{runs_of}
@@ -53,7 +54,7 @@ use Rattle.floor_online.proofs.OpenedLocks.{Row}
 use Rattle.floor_online.proofs.UnowedHeld.{desks-unowed, journal-unowed, works-unowed}
 use Rattle.floor_online.proofs.UnowedMoves.{bad_in}
 use Rattle.floor_online.proofs.Weights.{count-weigh, one_if, weigh, weigh-append, weigh-filter_map, weigh-map}
-use Rattle.floor_online.proofs.Zipped.{all-at, all-from, get-before, get-beyond, if-found, zip-at}
+use Rattle.floor_online.proofs.Zipped.{all-at, all-from, if-found, zip-at}
 
 -- A pass of a table.
 abbrev TablePass : Type 0
@@ -307,15 +308,6 @@ module _ {D L : Type 0} (door_told : D → Option (DoorTelling L)) (door_faults 
     abbrev HasOwn : Book → Type 0
     HasOwn pass = entries_by journal_caller (pass_number pass) journal ≡ own pass
 
-    -- the worker of each table has its number
-    table-is : (index : ℕ) (work : Work) → slice_get after index ≡ Some work → work.table ≡ suc index
-    table-is index work at =
-        let many = AllZip-long (IsWorkAt floor) floor.docks.items after back.works in
-        let within = slice_get_within after index work at in
-        let dock = has-index floor.docks.items index (omega (arith, within, many)) in
-        let its = zip-at (IsWorkAt floor) floor.docks.items after back.works index dock.0 work dock.1 at in
-        sym (back.order work.table dock.0 its.its_table) ∙ back.order (suc index) dock.0 dock.1
-
     tables-rise : AreRising 1 (map (λ (work : WorkBrief). work.table) (work_briefs after))
     tables-rise =
         rising-from 1 (map (λ (work : WorkBrief). work.table) (work_briefs after))
@@ -332,7 +324,7 @@ module _ {D L : Type 0} (door_told : D → Option (DoorTelling L)) (door_faults 
         by_work index n None at is = absurd cc
         by_work index n (Some work) at is =
             let same : work.table ≡ n = cc in
-            let number = table-is index work at in
+            let number = table-is floor after back.order back.works index work at in
             omega (arith, same, number)
 
     -- Each desk's pass of the book made what the journal has of its number.
@@ -340,45 +332,25 @@ module _ {D L : Type 0} (door_told : D → Option (DoorTelling L)) (door_faults 
     own-desks = recursion_from_All (λ (one : Attended D). HasOwn one.desk.book) attended
         (all-from (λ (one : Attended D). HasOwn one.desk.book) attended
         (λ index one at. all-at HasOwn passes.books.items closed.own index one.desk.book
-        (ap (λ l. slice_get l index) back.books
-        ∙ get-before (map (λ (a : Attended D). a.desk.book) attended) (map (λ (w : Work). w.book) after) index
-        one.desk.book
-        (slice_get-map (λ (a : Attended D). a.desk.book) attended index
-        ∙ ap (option_map (λ (a : Attended D). a.desk.book)) at))))
+        (desk-at attended after passes.books.items back.books index one at)))
 
     desks-noted : AllByRecursion (λ (one : Attended D). IsPrefix (seen one.desk.book) journal) attended
     desks-noted = recursion_from_All (λ (one : Attended D). IsPrefix (seen one.desk.book) journal) attended
         (all-from (λ (one : Attended D). IsPrefix (seen one.desk.book) journal) attended
         (λ index one at. all-at (λ (p : Book). IsPrefix (seen p) journal) passes.books.items closed.seen.of_book index
-        one.desk.book
-        (ap (λ l. slice_get l index) back.books
-        ∙ get-before (map (λ (a : Attended D). a.desk.book) attended) (map (λ (w : Work). w.book) after) index
-        one.desk.book
-        (slice_get-map (λ (a : Attended D). a.desk.book) attended index
-        ∙ ap (option_map (λ (a : Attended D). a.desk.book)) at))))
-
-    -- a worker's pass stands behind those of the desks
-    work-at : (index : ℕ) (work : Work) → slice_get after index ≡ Some work
-        → slice_get passes.books.items (length attended + index) ≡ Some work.book
-    work-at index work at =
-        ap (λ l. slice_get l (length attended + index)) back.books
-        ∙ (ap (slice_get (map (λ (one : Attended D). one.desk.book) attended ++ map (λ (w : Work). w.book) after))
-        (ap (λ (n : ℕ). n + index) (sym (length-map attended (λ (one : Attended D). one.desk.book))))
-        ∙ get-beyond (map (λ (one : Attended D). one.desk.book) attended) (map (λ (w : Work). w.book) after) index
-        work.book
-        (slice_get-map (λ (w : Work). w.book) after index ∙ ap (option_map (λ (w : Work). w.book)) at))
+        one.desk.book (desk-at attended after passes.books.items back.books index one at)))
 
     own-works : AllByRecursion (λ (work : Work). HasOwn work.book) after
     own-works = recursion_from_All (λ (work : Work). HasOwn work.book) after
         (all-from (λ (work : Work). HasOwn work.book) after
         (λ index work at. all-at HasOwn passes.books.items closed.own (length attended + index) work.book
-        (work-at index work at)))
+        (work-at attended after passes.books.items back.books index work at)))
 
     works-noted : AllByRecursion (λ (work : Work). IsPrefix (seen work.book) journal) after
     works-noted = recursion_from_All (λ (work : Work). IsPrefix (seen work.book) journal) after
         (all-from (λ (work : Work). IsPrefix (seen work.book) journal) after
         (λ index work at. all-at (λ (p : Book). IsPrefix (seen p) journal) passes.books.items closed.seen.of_book
-        (length attended + index) work.book (work-at index work at)))
+        (length attended + index) work.book (work-at attended after passes.books.items back.books index work at)))
 
     briefs-map : (doors : List D) (attended : List (Attended D)) (each : AllZip Has doors attended)
         → map book_number (map (λ (one : Attended D). one.desk.book) attended)
@@ -424,7 +396,7 @@ module _ {D L : Type 0} (door_told : D → Option (DoorTelling L)) (door_faults 
           → IsTableOf f journal closed.histories (briefs doors attended back.desks)
           (record { book = pass_number work.book; table = work.table })
       table-of index work at =
-          let number = table-is index work at in
+          let number = table-is floor after back.order back.works index work at in
           let within = slice_get_within after index work at in
           let many = AllZip-long (IsWorkAt floor) floor.docks.items after back.works in
           let here : index < length floor.docks.items = omega (arith, within, many) in
@@ -442,7 +414,7 @@ module _ {D L : Type 0} (door_told : D → Option (DoorTelling L)) (door_faults 
           let saw = if-found (λ r. All (λ pass. IsPrefix (seen pass) (closed.histories (suc index))) r.items)
           (of_table passes.tables.items (suc index)) row.0 row.1 (closed.seen.of_tables (suc index)) in
           let place = length attended + index in
-          let there = work-at index work at in
+          let there = work-at attended after passes.books.items back.books index work at in
           let has = all-at HasOwn passes.books.items closed.own place work.book there in
           let noted = all-at (λ (p : Book). IsPrefix (seen p) journal) passes.books.items closed.seen.of_book place
           work.book there in

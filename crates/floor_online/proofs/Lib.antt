@@ -19,6 +19,7 @@ pub mod OfHands
 pub mod DeskOrders
 pub mod LawfulSettles
 pub mod Callers
+pub mod BackAt
 pub mod EvenDoors
 pub mod Fronts
 pub mod Statuses
