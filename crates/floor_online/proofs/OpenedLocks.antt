@@ -80,9 +80,10 @@ pub all-closed : (all left : List Row) → length left ≡ 0 → AreClosing left
     × ((table : ℕ) → IfSome (of_table all table)
     (λ row. All (λ pass. IsPrefix (seen pass) (histories table)) row.items))
     × ((table : ℕ) → IfSome (of_table all table) (λ row. AreMakers table_caller row (histories table)))
+    × ((table : ℕ) → of_table all table ≡ None → histories table ≡ [])
 all-closed all (row ∷ left) none closing = absurd (omega (arith, none))
 all-closed all [] none closing =
-    (history-at closing.histories, legal-at, seen-at, made-at)
+    (history-at closing.histories, legal-at, seen-at, made-at, nowhere)
   where
     found : (index : ℕ) (row : Row) → slice_get all index ≡ Some row
         → (history : List TableEntry) × (slice_get closing.histories index ≡ Some history) × IsHistory row history
@@ -127,6 +128,20 @@ all-closed all [] none closing =
         let history = found index row at in
         subst (λ one. AreMakers table_caller row (option_map_or (λ (h : List TableEntry). h) one []))
         (sym history.1) history.2.2)
+
+    nowhere-of : (index : ℕ) (one : Option (List TableEntry)) → slice_get closing.histories index ≡ one
+        → slice_get all index ≡ None → option_map_or (λ (history : List TableEntry). history) one [] ≡ []
+    nowhere-of index None is gone = refl
+    nowhere-of index (Some history) is gone =
+        let within = slice_get_within closing.histories index history is in
+        let many = AllZip-long IsHistory closing.back closing.histories closing.closed in
+        let row = has-index closing.back index (omega (arith, within, many)) in
+        let never : None ≡ Some row.0 = sym gone ∙ subst (λ l. slice_get l index ≡ Some row.0) (sym closing.split) row.1 in
+        absurd cc
+
+    nowhere : (table : ℕ) → of_table all table ≡ None → history-at closing.histories table ≡ []
+    nowhere zero gone = refl
+    nowhere (suc index) gone = nowhere-of index (slice_get closing.histories index) refl gone
 
 -- The last dock has all its passes, and so have the others.
 pub pop-both : (docks fewer : List TableDock) (dock : TableDock) (tables others : List Row) (row : Row)

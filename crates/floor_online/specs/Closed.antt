@@ -1,5 +1,5 @@
 -- What the locks of a floor come to once they are opened. This project's own.
-use Rattle.std.specs.Prelude.{◌≡◌, ◌<◌, ℕ, List, All, Any, IfSome}
+use Rattle.std.specs.Prelude.{◌≡◌, ◌<◌, ℕ, List, [], All, Any, IfSome, None}
 use Rattle.history_lock.specs.Entries.{IsGrownByPasses, entries_by}
 use Rattle.history_lock.specs.Passes.{own, pass_number}
 use Rattle.view_rules.specs.declared.entries.JournalEntry.{JournalEntry}
@@ -14,7 +14,8 @@ use Rattle.floor_online.specs.AtHand.{AreMakers, AreSeen}
 
 -- The locks of a floor were opened with these passes, and this is the journal: it is legal, and is the opening with
 -- entries of the passes alone behind it, each with those that it made. The histories of the tables are legal as well,
--- and were made by the passes of their docks; and all of them begin with what the passes have seen.
+-- and were made by the passes of their docks, and where no table is there is none; and all of them begin with what the
+-- passes have seen.
 pub record HasClosed (floor : Floor) (passes : Passes) (journal : List JournalEntry) : Type 0 where
   pub legal : IsLegalJournal journal
   pub grown : IsGrownByPasses journal_caller (book_passes floor.book) (book_opening floor.book) journal
@@ -24,4 +25,5 @@ pub record HasClosed (floor : Floor) (passes : Passes) (journal : List JournalEn
   pub tables : (table : ℕ) → IsLegalTableHistory (histories table)
   pub made : (table : ℕ) → IfSome (of_table passes.tables.items table)
       (λ row. AreMakers table_caller row (histories table))
+  pub nowhere : (table : ℕ) → of_table passes.tables.items table ≡ None → histories table ≡ []
   pub seen : AreSeen (record { journal = journal; tables = histories }) passes

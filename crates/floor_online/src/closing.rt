@@ -1,6 +1,6 @@
 //! Everybody is back: passes are collected, and the locks are opened for good.
 
-ghost use Rattle.std.specs.Prelude.{◌≡◌, ◌+◌, ◌++◌, ◌<◌, ◌≤◌, ℕ, List, All, Any, IfSome, length, map, option_to_list, vec_capacity, vec_len};
+ghost use Rattle.std.specs.Prelude.{◌≡◌, ◌+◌, ◌++◌, ◌<◌, ◌≤◌, ℕ, List, [], All, Any, IfSome, None, length, map, option_to_list, vec_capacity, vec_len};
 ghost use Rattle.std.specs.List.{AllZip, filter_map};
 ghost use mathlib.Core.List.{IsPrefix};
 ghost use Rattle.history_lock.specs.Entries.{IsGrownByPasses, entries_by};
@@ -128,14 +128,15 @@ fn close_table(dock: TableDock, passes: Vec<TablePass>) -> TableEnd
     }
 }
 
-/// Opens the lock of each table, of which all passes are there.
+/// Opens the lock of each table, of which all passes are there. A number that no table has has no history.
 fn close_tables(docks: Vec<TableDock>, tables: Vec<Vec<TablePass>>)
     requires { AllZip (λ dock row. AreOf (dock_id dock) (dock_passes dock) row) docks.items tables.items }
     ensures { (histories : ℕ → List TableEntry) × ((table : ℕ) → IsLegalTableHistory (histories table))
         × ((table : ℕ) → IfSome (of_table tables.items table)
         (λ row. All (λ pass. IsPrefix (seen pass) (histories table)) row.items))
         × ((table : ℕ) → IfSome (of_table tables.items table)
-        (λ row. AreMakers table_caller row (histories table))) }
+        (λ row. AreMakers table_caller row (histories table)))
+        × ((table : ℕ) → of_table tables.items table ≡ None → histories table ≡ []) }
 {
     let mut docks = docks;
     let mut tables = tables;

@@ -11,5 +11,6 @@ returns c =
       histories = opened.0;
       tables = opened.1;
       made = opened.3;
+      nowhere = opened.4;
       seen = record { of_book = c.close_book.ensures.seen; of_tables = opened.2 };
     }
