@@ -57,7 +57,7 @@ lawful-take (suc n) [] all = tt
 lawful-take (suc n) (hand ∷ hands) all = (all.0, lawful-take n hands all.1)
 
 -- What stands behind a list of which a test picks the same is picked nowhere.
-none-behind : {A : Type 0} (test : A → Bool) (front back : List A) → filter test (front ++ back) ≡ filter test front
+pub none-behind : {A : Type 0} (test : A → Bool) (front back : List A) → filter test (front ++ back) ≡ filter test front
     → filter test back ≡ []
 none-behind {A} test front back same =
     cancelled (filter test front) (filter test back) (sym (filter-append test front back) ∙ same)

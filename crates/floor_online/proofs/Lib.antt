@@ -20,6 +20,8 @@ pub mod DeskOrders
 pub mod LawfulSettles
 pub mod Callers
 pub mod BackAt
+pub mod WorkersMatch
+pub mod Matched
 pub mod EvenDoors
 pub mod Fronts
 pub mod Statuses

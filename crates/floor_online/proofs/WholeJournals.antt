@@ -90,17 +90,22 @@ stop-last journal stopped =
           )
     ]
 
--- A journal that begins with one that ends with the stop is that one, and the whole of its tournament.
+-- A legal journal that begins with one that ends with the stop is that one.
+pub stopped-all : (noted journal : List JournalEntry) → IsPrefix noted journal → (tale_of journal).legal ≡ true
+    → (tale_of noted).ended ≡ true → noted ≡ journal
+stopped-all noted journal prefix legal ended =
+    let allowed : (tale_of (noted ++ prefix.0)).legal ≡ true =
+    subst (λ (l : List JournalEntry). (tale_of l).legal ≡ true) (sym prefix.1) legal in
+    let none = none-behind_stop noted prefix.0 allowed ended in
+    sym (append-nil noted) ∙ (ap (λ (l : List JournalEntry). noted ++ l) (sym none) ∙ prefix.1)
+
+-- So it is the whole journal of its tournament.
 pub whole-journal : (plan : PlanTerms) (seed : List ℕ) (count : ℕ) (before journal : List JournalEntry)
     → IsLegalJournal journal → IsGrownByPasses journal_caller count (opening seed plan) journal
     → IsPrefix before journal → (tale_of before).ended ≡ true → AllByRecursion IsWritable (expand journal)
     → AreLawful journal → IsWholeJournal plan seed journal
 whole-journal plan seed count before journal legal grown prefix ended writable lawful =
-    let allowed : (tale_of (before ++ prefix.0)).legal ≡ true =
-    subst (λ (l : List JournalEntry). (tale_of l).legal ≡ true) (sym prefix.1) legal.allowed in
-    let none = none-behind_stop before prefix.0 allowed ended in
-    let same : before ≡ journal =
-    sym (append-nil before) ∙ (ap (λ (l : List JournalEntry). before ++ l) (sym none) ∙ prefix.1) in
+    let same = stopped-all before journal prefix legal.allowed ended in
     let stopped : (tale_of journal).ended ≡ true =
     subst (λ (l : List JournalEntry). (tale_of l).ended ≡ true) same ended in
     let opened = plan_events plan in

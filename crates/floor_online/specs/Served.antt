@@ -7,7 +7,7 @@ use Rattle.view_rules.specs.declared.entries.JournalEntry.{JournalEntry}
 use Rattle.view_rules.specs.declared.entries.TableEntry.{TableEntry}
 use Rattle.tournament_rules.specs.Replay.{tournament_text}
 use Rattle.dock_rules.specs.Journals.{expand}
-use Rattle.dock_rules.specs.Tables.{IsLegalTableHistory}
+use Rattle.dock_rules.specs.Whole.{DoMatch}
 use Rattle.floor_online.specs.Asks.{asks_at}
 use Rattle.floor_online.specs.Doors.{AreDoorsBack, DoorRun, IsFailure, failed_text}
 use Rattle.floor_online.specs.Sessions.{WasAttended}
@@ -34,9 +34,9 @@ module _ {D L : Type 0} (door_told : D → Option (DoorTelling L)) (door_faults 
   pub record HasHeld (plan : PlanTerms) (words : WordTerms) (seed : List ℕ) (journal : List JournalEntry)
       (doors : List (DoorRun D)) : Type 0 where
     pub whole : IsWholeJournal plan seed journal
-    -- the histories of its tables, by number
+    -- the histories of its tables, by number: the journal and they are legal, and match
     pub histories : ℕ → List TableEntry
-    pub tables : (table : ℕ) → IsLegalTableHistory (histories table)
+    pub matched : DoMatch journal histories
     -- the clients of each door were served in it
     pub attended : All (WasAttended door_told link_told link_faults words plan.tables
         (record { journal = journal; tables = histories })) doors

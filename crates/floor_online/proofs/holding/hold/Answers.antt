@@ -1,11 +1,12 @@
-use Rattle.std.proofs.Common.{◌≡◌, ◌∙◌, ◌+◌, refl, sym, subst, length, map, arith}
+use Rattle.std.proofs.Common.{◌≡◌, ◌∙◌, ◌+◌, refl, sym, subst, List, true, length, map, arith}
 use Rattle.std.specs.Prelude.{option_to_list, vec_len}
 use Rattle.std.specs.List.{filter_map}
 use Rattle.std.proofs.lemmas.List.Elements.{All-weaker}
 use Rattle.std.proofs.lemmas.Slice.Zip.{AllZip-long}
 use Rattle.history_lock.specs.Entries.{IsGrownByPasses}
 use Rattle.history_lock.specs.Passes.{seen}
-use Rattle.dock_rules.specs.Journals.{journal_caller}
+use Rattle.view_rules.specs.declared.entries.JournalEntry.{JournalEntry}
+use Rattle.dock_rules.specs.Journals.{journal_caller, tale_of}
 use Rattle.book_dock.specs.Docks.{book_passes}
 use Rattle.book_dock.specs.Ends.{journal_of}
 use Rattle.session_desk.specs.Desks.{IsDeskOf, Sights, of_table}
@@ -20,8 +21,9 @@ use Rattle.floor_online.proofs.Callers.{caller-known}
 use Rattle.floor_online.proofs.Crews.{all-there, done-at, none-collected, passes-are, room-for}
 use Rattle.floor_online.proofs.HeldRuns.{are-runs, runs-held, runs_of}
 use Rattle.floor_online.proofs.LawfulSettles.{lawful_by_passes}
+use Rattle.floor_online.proofs.Matched.{held-matched}
 use Rattle.floor_online.proofs.Spreading.{grown-all}
-use Rattle.floor_online.proofs.WholeJournals.{whole-journal}
+use Rattle.floor_online.proofs.WholeJournals.{stopped-all, whole-journal}
 use Rattle.floor_online.proofs.Zipped.{all-at, all-right}
 use Rattle.floor_online.proofs.holding.hold.Goals as goal
 
@@ -242,7 +244,12 @@ returns g c = record {
           whole = whole-journal plan seed (book_passes c.args.floor.book) (seen work.0.book) end.journal closed.legal
               grown prefix done.1.brought.stopped (c.events_are_writable.ensures closed.legal) lawful;
           histories = closed.histories;
-          tables = closed.tables;
+          matched = held-matched g.D.Door.told g.D.Door.faults g.D.L.Link.told g.D.L.Link.faults c.args.words.now
+              c.args.floor c.args.doors.items attended c.args.crew.works.items c.run_all-works.result.works.items
+              c.collect_works.new.passes back end.journal closed plan seed grown
+              (subst (λ (l : List JournalEntry). (tale_of l).ended ≡ true)
+              (stopped-all (seen work.0.book) end.journal prefix closed.legal.allowed done.1.brought.stopped)
+              done.1.brought.stopped);
           attended = held.0;
           failed = held.1;
           asked = held-asked g.D.Door.told g.D.Door.faults g.D.L.Link.told g.D.L.Link.faults c.args.words.now
