@@ -21,6 +21,7 @@ pub mod LawfulSettles
 pub mod Callers
 pub mod BackAt
 pub mod WorkersMatch
+pub mod ActsHeld
 pub mod Matched
 pub mod EvenDoors
 pub mod Fronts

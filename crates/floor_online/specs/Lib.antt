@@ -3,6 +3,7 @@ pub mod Asks
 pub mod Wishes
 pub mod FloorPart
 pub mod Tournaments
+pub mod Acted
 pub mod Sessions
 pub mod Served
 pub mod Working

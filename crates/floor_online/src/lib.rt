@@ -1,7 +1,7 @@
 //! Tournaments run online: clients come through the doors of a hall, tables play, and in the end the text of all events
 //! is written.
 //!
-//! It stands on command_lines, plan_files, links, session_desk, table_worker and what these stand on. `serve` is the
+//! It stands on command_lines, plan_files, links, listening_laws, table_worker and what these stand on. `serve` is the
 //! whole server over any source, sinks and hall, and its contract says what the server promises: what it wrote is the
 //! text of one legal tournament, of which each client was told.
 //!
@@ -14,7 +14,7 @@
 //! | `holding.rt` | a tournament is held at the doors of a hall |
 //! | `text.rt`, `doors.rt` | what is written of the journal, and of the doors that failed |
 //! | `writable.rt` | the events of a journal may be written as lines |
-//! | `laws.rt` | a served text is of one tournament, and replays; what clients are told is told of its events |
+//! | `laws.rt` | laws of the served text, of what was held as a whole, and of what clients are told of it |
 #![tactic(auto)]
 
 mod closing;
@@ -31,7 +31,9 @@ mod threads;
 mod writable;
 
 pub use laws::{
-    a_served_text_is_of_one_tournament, a_served_text_replays, the_floor_tells_of_each_event,
+    a_served_text_is_of_one_tournament, a_served_text_replays,
+    each_client_is_told_its_part_of_what_was_held, the_floor_tells_of_each_event,
+    what_was_held_is_one_tournament,
 };
 pub use server::serve;
 
