@@ -1,7 +1,7 @@
 //! A table goes on while the lock of another table is held.
 
-use crate::support::{Does, TURNS, lines_with, link_of, put_on, run_over};
-use floor_text::{Failed, MemSource};
+use crate::support::{Does, NONE, TURNS, lines_with, link_of, put_on, run_over};
+use floor_text::Failed;
 use links::{Door, Hall, HallFault, Link, MemLink, Taken, Tape};
 use std::alloc::{AllocError, Global};
 use std::sync::Wait;
@@ -254,9 +254,7 @@ fn serve_both<R: Threads + Wait + Sync>(
     ]?;
     let mut hall = DoorsAtHand { doors };
     let gate = Slow { flags };
-    let input = MemSource::new(PLAN.as_bytes().to_vec(alloc)?, Vec::new(alloc));
-    let none = Vec::new(alloc);
-    let ran = run_over(rt, alloc, "serve 7000 3", input, none, &mut hall, &gate)?;
+    let ran = run_over(rt, alloc, "serve 7000 3", PLAN, NONE, &mut hall, &gate)?;
     Ok((ran.status, of_ann, of_bob))
 }
 

@@ -38,6 +38,8 @@ pub use laws::{
 pub use server::serve;
 
 #[cfg(test)]
+mod fault_tests;
+#[cfg(test)]
 mod gate_tests;
 #[cfg(test)]
 mod support;

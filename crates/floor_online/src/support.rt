@@ -1,10 +1,11 @@
-//! What the tests of the server share: plans, clients in memory, and what a run came to.
+//! What the tests of the server share: a plan and its text, clients in memory, and what a run came to.
 
 use crate::serve;
 use card_set::CardRow;
+use floor_director::deck_of;
 use floor_offline::run_offline;
 use floor_text::{MemSink, MemSource};
-use links::{Hall, MemDoor, MemHall, MemLink, Say, Tape};
+use links::{Hall, MemDoor, MemLink, Say, Tape};
 use std::alloc::{AllocError, Global};
 use std::process::Abort;
 use std::sync::Wait;
@@ -16,6 +17,23 @@ pub(crate) const SEED: [u8; 32] = [7; 32];
 
 /// The turns of a wait, where no other number is said.
 pub(crate) const TURNS: u64 = 10_000_000;
+
+/// One table of two seats.
+pub(crate) const PLAN: &str =
+    "game = \"holdem\"\ntables = 1\nseats = 2\nstack = 1000\nbuyin = 100\nlate = 1\n\
+    blinds = [[100, 200, 100]]\nshares = [700, 300]\nfloor_word = \"f\"\n[words]\nann = \"a\"\n";
+
+/// The lines of that plan, and their end.
+const PLAN_LINES: &str = "game holdem\ntables 1\nseats 2\nstack 1000\nbuyin 100\nlate 1\n\
+    blinds 100 200 100\nshares 700 300\ngo\n";
+
+/// The entries of both players.
+const ENTRIES: &str = "enter ann 1 1\nenter bob 1 2\n";
+
+/// The report where both players have what they came with.
+pub(crate) const UNPLAYED: &str =
+    "* report\n* level 1\n* sold 2000\n* removed 0\n* added 0\n* rest 2000\n* play 0\n\
+    * seat 1 1 ann 1000\n* seat 1 2 bob 1000\n* end\n";
 
 /// What a client does.
 #[derive(Clone, Copy)]
@@ -88,6 +106,22 @@ pub(crate) fn lines_with(alloc: Global, bytes: &[u8], front: &[u8]) -> Result<Ve
     Ok(lines)
 }
 
+/// The numbers, from 1 on, of the calls that fail in a run: a take of the plan file, a put of out, and one of err. With
+/// 0 none fails.
+#[derive(Clone, Copy)]
+pub(crate) struct Failing {
+    pub(crate) take: u64,
+    pub(crate) put: u64,
+    pub(crate) tell: u64,
+}
+
+/// No call fails.
+pub(crate) const NONE: Failing = Failing {
+    take: 0,
+    put: 0,
+    tell: 0,
+};
+
 /// What a run came to.
 #[derive(Drop)]
 pub(crate) struct Ran {
@@ -105,37 +139,25 @@ fn words_of(alloc: Global, command: &str) -> Result<Vec<String>, AllocError> {
     Ok(words)
 }
 
-/// Runs a command of the server over a plan file and a hall. The puts of out of these numbers fail.
+/// Runs a command of the server over a plan file and a hall, where these calls fail.
 pub(crate) fn run_over<R: Threads + Wait + Sync, H: Hall, G: Gate + Sync>(
     rt: &R,
     alloc: Global,
     command: &str,
-    input: MemSource,
-    failing: Vec<u64>,
+    plan: &str,
+    failing: Failing,
     hall: &mut H,
     gate: &G,
 ) -> Result<Ran, AllocError> {
     let words = words_of(alloc, command)?;
-    let mut input = input;
-    let mut out = MemSink::new(alloc, 1 << 16, failing)?;
-    let mut err = MemSink::new(alloc, 1 << 12, Vec::new(alloc))?;
+    let plan = plan.as_bytes().to_vec(alloc)?;
+    let mut input = MemSource::new(plan, vec![in alloc; failing.take]?);
+    let mut out = MemSink::new(alloc, 1 << 16, vec![in alloc; failing.put]?)?;
+    let mut err = MemSink::new(alloc, 1 << 12, vec![in alloc; failing.tell]?)?;
     let status = serve(
         rt, alloc, &words, &mut input, &mut out, &mut err, hall, gate, SEED,
     );
     Ok(Ran { status, out, err })
-}
-
-/// Serves a plan at doors in memory.
-pub(crate) fn serve_at<R: Threads + Wait + Sync>(
-    rt: &R,
-    alloc: Global,
-    command: &str,
-    plan: &str,
-    doors: Vec<MemDoor>,
-) -> Result<Ran, AllocError> {
-    let input = MemSource::new(plan.as_bytes().to_vec(alloc)?, Vec::new(alloc));
-    let mut hall = MemHall::new(doors, Vec::new(alloc));
-    run_over(rt, alloc, command, input, Vec::new(alloc), &mut hall, &Open)
 }
 
 /// Compares what was put with the text wanted.
@@ -175,4 +197,20 @@ pub(crate) fn begin_line(alloc: Global, table: &str, row: &CardRow) -> Result<Ve
     }
     line.push(b'\n')?;
     Ok(line)
+}
+
+/// Gives the text that is served up to the begin of the first hand: the plan's lines, both entries, and its deck.
+pub(crate) fn text_begun(alloc: Global) -> Result<Vec<u8>, AllocError> {
+    let mut text = PLAN_LINES.as_bytes().to_vec(alloc)?;
+    text.extend_from_slice(ENTRIES.as_bytes())?;
+    text.extend_from_slice(&begin_line(alloc, "1", &deck_of(SEED, 11))?)?;
+    Ok(text)
+}
+
+/// Gives the text that is served where the first hand has begun and then the tournament is stopped.
+pub(crate) fn text_unplayed(alloc: Global) -> Result<Vec<u8>, AllocError> {
+    let mut text = text_begun(alloc)?;
+    text.extend_from_slice(b"stop\n")?;
+    text.extend_from_slice(UNPLAYED.as_bytes())?;
+    Ok(text)
 }
