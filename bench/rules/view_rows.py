@@ -60,9 +60,9 @@ def try_other_worlds():
 
 def try_view_examples():
     """Each view that stands beside an example: its player is the word before `view`."""
-    for path in sorted(EXAMPLES.glob("*.view")):
+    for path in sorted(EXAMPLES.rglob("*.view")):
         example, player, _ = path.name.split(".")
-        told = View((EXAMPLES / f"{example}.txt").read_bytes()).lines_for(player)
+        told = View(path.with_name(f"{example}.txt").read_bytes()).lines_for(player)
         same(path.name, told, path.read_text(encoding="ascii").splitlines())
 
 
