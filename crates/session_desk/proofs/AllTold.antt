@@ -1,6 +1,6 @@
 -- The tables are told of one after another.
-use Rattle.std.proofs.Common.{◌≡◌, ◌≢◌, ◌∙◌, refl, sym, ap, subst, ℕ, ◌+◌, zero, suc, ◌<◌, ◌≤◌, Bool, true, false, List, [], ◌∷◌, ◌++◌, Option, length, append_assoc, append-nil, arith}
-use Rattle.std.specs.Prelude.{◌==◌, ◌&&◌, ◌||◌, IfSome, is_some, if◌then◌else◌}
+use Rattle.std.proofs.Common.{◌≡◌, ◌≢◌, ◌∙◌, refl, sym, ap, subst, ℕ, ◌+◌, zero, suc, ◌<◌, ◌≤◌, Bool, true, false, List, [], ◌∷◌, ◌++◌, Option, None, Some, length, append_assoc, append-nil, arith}
+use Rattle.std.specs.Prelude.{◌==◌, ◌||◌, IfSome, is_some, if◌then◌else◌}
 use Rattle.std.specs.List.{flat_map, range_with_len}
 use Rattle.std.proofs.lemmas.Bool.Decides.{nat_tests}
 use Rattle.std.proofs.lemmas.Grind.{flat_map-append}
@@ -9,12 +9,17 @@ use mathlib.Core.Logic.{dite}
 use native.Mathlib.Decide.{ℕ_discrete}
 use Rattle.view_rules.specs.Shown.{Viewer}
 use Rattle.view_rules.specs.Spelling.{ViewLine, lines_text}
+use Rattle.dock_rules.specs.Tables.{entries_lines}
+use Rattle.table_dock.specs.Telling.{entries_between}
 use Rattle.session_desk.specs.declared.desk.Desk.{Desk}
 use Rattle.session_desk.specs.declared.told.Watch.{Watch}
 use Rattle.session_desk.specs.Desks.{HasDeskMoved, IsSameBut, nothing, of_table, sights}
+use Rattle.session_desk.specs.Moves.{HasMoved}
 use Rattle.session_desk.specs.Standings.{count_of}
-use Rattle.session_desk.specs.Telling.{HasToldOne, IsAllTold, IsTableTold, IsWatch, Reach, watch_of}
+use Rattle.session_desk.specs.Telling.{HasToldTable, IsAllTold, IsTableTold, IsWatch, Reach, watch_of}
 use Rattle.session_desk.proofs.DeskMoves.{IsMovedAt}
+use Rattle.session_desk.proofs.Moving.{moved-none}
+use Rattle.session_desk.proofs.Rows.{with-itself}
 
 -- How often the pass of a table is used that is watched so: once, where it is.
 abbrev pub watch_looks : Option Watch → ℕ → ℕ
@@ -40,6 +45,22 @@ one-kept table who start desk next before after lines behind later same weaker o
   all = λ none. rw same (one.all (weaker none));
   watch = rw same one.watch;
 }
+
+-- It is so of a table that is not watched, while nothing is done there.
+one-skipped : (table : ℕ) (who : Viewer) (start desk : Desk) (before after : Option Watch) (lines : List ViewLine)
+    (behind : Bool) → before ≡ None → after ≡ None → lines ≡ []
+    → of_table desk.tables.items table ≡ of_table start.tables.items table
+    → IsOneTold table who start desk before after lines behind
+one-skipped table who start desk before after lines behind was is none row =
+    let whole : IsOneTold table who start desk None None [] behind = record {
+      moved = rw row
+          (with-itself (λ one other. HasMoved 0 [] one other) moved-none (of_table start.tables.items table));
+      told = refl;
+      all = λ _. tt;
+      watch = tt;
+    } in
+    subst (λ (x : Option Watch × Option Watch × List ViewLine). IsOneTold table who start desk x.0 x.1 x.2 behind)
+    (λ i. (sym was i, sym is i, sym none i)) whole
 
 -- The lines of each table, with those of one more.
 abbrev pub lines_with : ℕ → List ViewLine → (ℕ → List ViewLine) → ℕ → List ViewLine
@@ -94,6 +115,20 @@ text-more index lines more =
     ap lines_text (lines-elsewhere (index + 1) n more lines (λ same. absurd (omega (arith, same, below))))) i
     ++ one-text f (1 + index) (lines_text more) (ap f last ∙ ap lines_text (lines-here (index + 1) more lines)) i)))
 
+-- With one table more that has none they are as they were.
+text-none : (index : ℕ) (lines : ℕ → List ViewLine) → lines (index + 1) ≡ []
+    → text_to (index + 1) lines ≡ text_to index lines
+text-none index lines none =
+    let f : ℕ → List ℕ = λ table. lines_text (lines table) in
+    let next : index + 1 ≡ suc index = omega arith in
+    let last : 1 + index ≡ index + 1 = omega arith in
+    ap (λ (k : ℕ). flat_map f (range_with_len 1 k)) next
+    ∙ (ap (flat_map f) (range-more 1 index)
+    ∙ (flat_map-append f (range_with_len 1 index) ((1 + index) ∷ [])
+    ∙ (ap (λ (more : List ℕ). flat_map f (range_with_len 1 index) ++ more)
+    (one-text f (1 + index) [] (ap f last ∙ ap lines_text none))
+    ∙ append-nil (flat_map f (range_with_len 1 index)))))
+
 -- Of the tables up to one, the lines were told; those behind it are as they were.
 pub record AreToldTo (index : ℕ) (who : Viewer) (start desk : Desk) (first now : Reach) (floor behind : Bool)
     (had has : List ℕ) : Type 0 where
@@ -143,19 +178,51 @@ told-none who desk first floor had = record {
   text = sym (append-nil had);
 }
 
--- And with one more.
+-- And with one more that is not watched.
+pub told-skipped : (index : ℕ) (who : Viewer) (start desk : Desk) (first now : Reach) (floor behind : Bool)
+    (had has : List ℕ) → AreToldTo index who start desk first now floor behind had has
+    → watch_of now (index + 1) ≡ None → AreToldTo (index + 1) who start desk first now floor behind had has
+told-skipped index who start desk first now floor behind had has so_far none =
+    let untouched = so_far.rest (index + 1) (omega arith) in
+    let here : IsOneTold (index + 1) who start desk (watch_of first (index + 1)) (watch_of now (index + 1))
+    (so_far.lines (index + 1)) behind =
+    one-skipped (index + 1) who start desk (watch_of first (index + 1)) (watch_of now (index + 1))
+    (so_far.lines (index + 1)) behind (sym untouched.0 ∙ none) none untouched.2 untouched.1 in
+    record {
+      book = so_far.book;
+      count = so_far.count;
+      asked = so_far.asked;
+      speaker = so_far.speaker;
+      journal = so_far.journal;
+      watches = so_far.watches;
+      floor_told = so_far.floor_told;
+      lines = so_far.lines;
+      done = λ table most.
+          dite (ℕ_discrete table (index + 1))
+          (λ same. subst (λ (t : ℕ). IsOneTold t who start desk (watch_of first t) (watch_of now t) (so_far.lines t)
+          behind) (sym same) here)
+          (λ ne. so_far.done table (omega (arith, ne, most)));
+      rest = λ table above. so_far.rest table (omega (arith, above));
+      text = so_far.text ∙ ap (λ (rest : List ℕ). had ++ rest) (sym (text-none index so_far.lines untouched.2));
+    }
+
+-- And with one more that is watched.
 module _ (index : ℕ) (who : Viewer) (start desk next : Desk) (first now later : Reach) (floor behind more : Bool)
-    (had has then_has : List ℕ) (before after : Option Watch)
+    (had has then_has : List ℕ) (before after : Watch)
     (so_far : AreToldTo index who start desk first now floor behind had has)
-    (moved : HasDeskMoved 0 (λ table. count_of ((table == index + 1) && is_some before)) nothing desk next)
+    (moved : HasDeskMoved 0 (λ table. count_of (table == index + 1)) nothing desk next)
     (others : IsSameBut (index + 1) desk next)
-    (told : HasToldOne ((sights next).tables (index + 1)) before after more has then_has)
-    (watch : IfSome after (IsWatch who (index + 1) ((sights next).tables (index + 1))))
-    (was : watch_of now (index + 1) ≡ before) (is : watch_of later (index + 1) ≡ after)
+    (told : HasToldTable ((sights next).tables (index + 1)) before after more has then_has)
+    (watch : IsWatch who (index + 1) ((sights next).tables (index + 1)) after)
+    (was : watch_of now (index + 1) ≡ Some before) (is : watch_of later (index + 1) ≡ Some after)
     (same : (table : ℕ) → table ≢ index + 1 → watch_of later table ≡ watch_of now table) where
-  -- the lines of each table then
+  -- the lines of the table, and of each table then
+  abbrev its_lines : List ViewLine
+  its_lines =
+      entries_lines before.teller (entries_between before.told after.told ((sights next).tables (index + 1)))
+
   abbrev then_lines : ℕ → List ViewLine
-  then_lines = lines_with (index + 1) told.lines so_far.lines
+  then_lines = lines_with (index + 1) its_lines so_far.lines
 
   -- the table itself
   one-here : IsOneTold (index + 1) who start next (watch_of first (index + 1)) (watch_of later (index + 1))
@@ -163,13 +230,14 @@ module _ (index : ℕ) (who : Viewer) (start desk next : Desk) (first now later 
   one-here =
       let untouched = so_far.rest (index + 1) (omega arith) in
       let row : of_table desk.tables.items (index + 1) ≡ of_table start.tables.items (index + 1) = untouched.1 in
-      let was_first : watch_of first (index + 1) ≡ before = sym untouched.0 ∙ was in
-      let its : then_lines (index + 1) ≡ told.lines = lines-here (index + 1) told.lines so_far.lines in
+      let was_first : watch_of first (index + 1) ≡ Some before = sym untouched.0 ∙ was in
+      let its : then_lines (index + 1) ≡ its_lines = lines-here (index + 1) its_lines so_far.lines in
       let here : (index + 1 == index + 1) ≡ true = grind (arith, nat_tests) in
-      let move : IsMovedAt (watch_looks before) [] desk next (index + 1) = rw here at (moved.tables (index + 1)) in
-      let whole : IsOneTold (index + 1) who start next before after told.lines (behind || more) = record {
+      let move : IsMovedAt (watch_looks (Some before)) [] desk next (index + 1) =
+      rw here at (moved.tables (index + 1)) in
+      let whole : IsOneTold (index + 1) who start next (Some before) (Some after) its_lines (behind || more) = record {
         moved = rw (← row) move;
-        told = told.told;
+        told = record { in_order = told.in_order; within = told.within; lines_are = refl };
         all = λ none. told.all (or-right behind more none);
         watch = watch;
       } in
@@ -185,7 +253,7 @@ module _ (index : ℕ) (who : Viewer) (start desk next : Desk) (first now later 
       let apart : table ≢ index + 1 = λ here. omega (arith, here, below) in
       subst (λ (x : Option Watch × List ViewLine).
       IsOneTold table who start next (watch_of first table) x.0 x.1 (behind || more))
-      (λ i. (sym (same table apart) i, sym (lines-elsewhere (index + 1) table told.lines so_far.lines apart) i))
+      (λ i. (sym (same table apart) i, sym (lines-elsewhere (index + 1) table its_lines so_far.lines apart) i))
       (one-kept table who start desk next (watch_of first table) (watch_of now table) (so_far.lines table) behind
       (behind || more) (others.others table apart) (or-left behind more) (so_far.done table below))
 
@@ -211,11 +279,11 @@ module _ (index : ℕ) (who : Viewer) (start desk next : Desk) (first now later 
         let apart : table ≢ index + 1 = λ here. omega (arith, here, above) in (
           same table apart ∙ untouched.0,
           others.others table apart ∙ untouched.1,
-          lines-elsewhere (index + 1) table told.lines so_far.lines apart ∙ untouched.2,
+          lines-elsewhere (index + 1) table its_lines so_far.lines apart ∙ untouched.2,
         );
     text =
         told.text
-        ∙ (ap (λ (front : List ℕ). front ++ lines_text told.lines) so_far.text
-        ∙ (append_assoc had (text_to index so_far.lines) (lines_text told.lines)
-        ∙ ap (λ (rest : List ℕ). had ++ rest) (sym (text-more index so_far.lines told.lines))));
+        ∙ (ap (λ (front : List ℕ). front ++ lines_text its_lines) so_far.text
+        ∙ (append_assoc had (text_to index so_far.lines) (lines_text its_lines)
+        ∙ ap (λ (rest : List ℕ). had ++ rest) (sym (text-more index so_far.lines its_lines))));
   }

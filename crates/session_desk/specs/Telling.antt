@@ -141,14 +141,6 @@ pub record HasToldTable (history : List TableEntry) (before after : Watching) (b
   pub text : has ≡ had ++ lines_text (entries_lines before.teller (entries_between before.told after.told history))
   pub all : behind ≡ false → after.told ≡ length history
 
--- A table's lines were told where the client watches it: all of them unless memory ran out.
-pub record HasToldOne (history : List TableEntry) (before after : Option Watching) (behind : Bool) (had has : List ℕ)
-    : Type 0 where
-  pub lines : List ViewLine
-  pub told : IsTableTold history before after lines
-  pub all : behind ≡ false → IsAllTold history after
-  pub text : has ≡ had ++ lines_text lines
-
 -- News were told, and this is their text.
 pub record HasToldNews (count : ℕ) (seen : Sights) (before after : Reach) (behind : Bool) (had has : List ℕ)
     : Type 0 where

@@ -1,6 +1,6 @@
 //! News are told.
 
-ghost use Rattle.std.specs.Prelude.{◌≡◌, ◌==◌, ◌&&◌, ◌<◌, ◌≤◌, ◌+◌, IfSome, is_some, length, slice_get, vec_len};
+ghost use Rattle.std.specs.Prelude.{◌≡◌, ◌==◌, ◌<◌, ◌≤◌, ◌+◌, IfSome, is_some, length, slice_get, vec_len};
 ghost use Rattle.history_lock.specs.Passes.{lock_of, seen};
 ghost use Rattle.view_rules.specs.Shown.{Viewer};
 ghost use Rattle.dock_rules.specs.Journals.{tale_of};
@@ -9,7 +9,7 @@ ghost use Rattle.table_dock.specs.Docks.{dock_id, table_of};
 ghost use Rattle.table_dock.specs.Telling.{number_told};
 ghost use Rattle.session_desk.specs.Desks.{AreInOrder, HasDeskMoved, IsSameBut, IsDeskOf, nothing, sights};
 ghost use Rattle.session_desk.specs.Standings.{count_of};
-ghost use Rattle.session_desk.specs.Telling.{HasToldFloor, HasToldNews, HasToldOne, HasToldTable, IsToldOf, IsWatch, reach_of, watch_of};
+ghost use Rattle.session_desk.specs.Telling.{HasToldFloor, HasToldNews, HasToldTable, IsToldOf, IsWatch, reach_of, watch_of};
 
 use crate::asking::{put_back, take_out};
 use crate::desk::Desk;
@@ -109,35 +109,6 @@ impl Desk {
         (desk, behind)
     }
 
-    /// Writes the lines of a table that were not told yet, where it is watched. Answers whether memory ran out before
-    /// all were.
-    fn tell_watch<R: Wait>(
-        self,
-        rt: &R,
-        dock: &TableDock,
-        index: usize,
-        watch: &mut Option<Watch>,
-        out: &mut Vec<u8>,
-    ) -> (Desk, bool)
-        requires index { index < vec_len self.tables }
-        requires pass { IfSome (slice_get self.tables.items index) (λ pass. lock_of pass ≡ dock_id dock.now) }
-        requires table { table_of dock.now ≡ index + 1 }
-        requires watch { (who : Viewer) × IfSome watch.old (IsWatch who (index + 1)
-            ((sights self).tables (index + 1))) }
-        ensures moved { HasDeskMoved 0 (λ table. count_of ((table == index + 1) && is_some watch.old)) nothing self
-            result.0 }
-        ensures others { IsSameBut (index + 1) self result.0 }
-        ensures told { HasToldOne ((sights result.0).tables (index + 1)) watch.old watch.new result.1 out.old.items
-            out.new.items }
-        ensures watch { (who : Viewer) → IfSome watch.old (IsWatch who (index + 1) ((sights self).tables (index + 1)))
-            → IfSome watch.new (IsWatch who (index + 1) ((sights result.0).tables (index + 1))) }
-    {
-        match watch {
-            Some(watch) => self.tell_table(rt, dock, index, watch, out),
-            None => (self, false),
-        }
-    }
-
     /// Writes what the client was not told yet: the lines of the journal, and then those of each table that he watches,
     /// in rising number.
     pub(crate) fn tell<R: Wait>(
@@ -162,8 +133,10 @@ impl Desk {
     {
         let (mut desk, mut found) = self.tell_floor(rt, book, told, out);
         for index in 0..told.watches.len() {
-            let watch = &mut told.watches[index];
-            let (next, behind) = desk.tell_watch(rt, &docks[index], index, watch, out);
+            let Some(watch) = &mut told.watches[index] else {
+                continue;
+            };
+            let (next, behind) = desk.tell_table(rt, &docks[index], index, watch, out);
             desk = next;
             found.behind = found.behind || behind;
         }
