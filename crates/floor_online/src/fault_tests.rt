@@ -76,7 +76,7 @@ fn is_what_was_put(out: &[u8], status: u8, breaks: Breaks, whole: &[u8]) -> bool
     match breaks {
         Breaks::Put(number) if status == 4 => {
             let lines = out.iter().filter(|byte| **byte == b'\n').count();
-            whole.starts_with(out) && lines as u64 + 1 == number
+            whole.starts_with(out) && (lines as u64).saturating_add(1) == number
         }
         _ if status == 0 => out == whole,
         _ => out.is_empty(),
