@@ -1,8 +1,8 @@
 #!/usr/bin/env bash
-# How long `best_holdem`, `best_omaha`, the plain walk through the 60 choices of Omaha, and `award` for ten live players in
-# hold'em take, over streams of hands made before, as LLVM builds them. Where the path of a plain Rust program is given
-# that prints what a hand of seven cards takes it, in ns, it is built by `rustc -O` and run over as many hands before and
-# after, and the ratio to the lesser of its times is said.
+# How long `best_holdem`, `best_omaha`, the plain walk through the 60 choices of Omaha, `best_low`, and `award` for ten
+# live players in hold'em take, over streams of hands made before, as LLVM builds them. Where the path of a plain Rust
+# program is given that prints what a hand of seven cards takes it, in ns, it is built by `rustc -O` and run over as many
+# hands before and after, and the ratio to the lesser of its times is said.
 # Usage: bench/values.sh [BASELINE.rs]. Needs python3, and rustc for the baseline.
 set -euo pipefail
 cd "$(dirname "$0")/.."
@@ -10,7 +10,7 @@ cd "$(dirname "$0")/.."
 
 baseline() { "$work/baseline" 20000000 | sed -E 's/.* ([0-9.]+) ns\/eval.*/\1/'; }
 
-scratch values card_set card_choices hand_rank
+scratch values card_set card_choices rulebook hand_rank low_rank
 before= after=
 if [ $# -ge 1 ]; then
     rustc -O -o "$work/baseline" "$1"

@@ -1,2 +1,6 @@
-pub mod ChangeLaws
-pub mod LowLaws
+mod BitLaws
+mod ChangeLaws
+mod ChoiceLaws
+mod CountLaws
+mod LowLaws
+mod ShownLaws

@@ -1,1 +1,2 @@
+pub mod LowRanks
 pub mod Lows

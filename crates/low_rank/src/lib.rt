@@ -6,8 +6,8 @@
 #![tactic(auto)]
 
 mod best;
-mod five_cards;
 mod laws;
+mod low_ranks;
 mod low_value;
 #[cfg(test)]
 mod tests;

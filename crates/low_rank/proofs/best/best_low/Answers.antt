@@ -1,28 +1,30 @@
-use Rattle.std.proofs.Common.{◌≡◌, ◌∙◌, ◌++◌, length, ap, sym, rules, arith}
-use Rattle.std.specs.Prelude.{map}
-use Rattle.std.specs.List.{flat_map}
-use Rattle.card_choices.specs.Choices.{choices}
-use Rattle.low_rank.specs.Lows.{best_low_of}
-use Rattle.low_rank.proofs.LowLaws.{best_low_of-none, best_low_of-pair, best_low_of-all}
+use Rattle.std.proofs.Common.{◌∙◌, ◌&&◌, ◌||◌, not, ap₂, sym}
+use Rattle.low_rank.specs.LowRanks.{has_rank, has_low, shown}
+use Rattle.low_rank.proofs.CountLaws.{five_least-same, least-same}
+use Rattle.low_rank.proofs.ShownLaws.{best-shown}
 use Rattle.low_rank.proofs.best.best_low.Goals as goal
 
-pub loop-pair-init : goal.loop-pair-init
-loop-pair-init c = sym best_low_of-none
-
-pub loop-pair-preserved : goal.loop-pair-preserved
-loop-pair-preserved c =
-    c.better-best.ensures
-    ∙ best_low_of-pair (λ pair. map (λ three. pair ++ three) (choices 3 c.args.board)) c.pairs-pairs.result
-    c.loop-pair.pair-index c.pair-item.result c.loop-pair.best c.best_of_pair.result
-    (omega (arith, c.type_inv.pair-items, c.loop-pair-test.true)) c.pair-item.is c.loop-pair.invariant
-    (c.best_of_pair.ensures
-    ∙ ap (λ pair. best_low_of (map (λ three. pair ++ three) (choices 3 c.args.board))) (sym c.pair-item.is))
-
 pub returns : goal.returns
+unfolding shown
 returns c =
-    let six : length c.pairs-pairs.result ≡ 6 = search rules in
+    let hole = has_low c.args.hole in
+    let board = has_low c.args.board in
     record {
-      best = best_low_of-all (flat_map (λ pair. map (λ three. pair ++ three) (choices 3 c.args.board)))
-          c.pairs-pairs.result _ c.loop-pair.pair-index c.loop-pair.best
-          (omega (arith, six, c.loop-pair-test.false)) c.pairs-pairs.ensures c.loop-pair.invariant;
+      best = c.five_least.ensures
+          ∙ five_least-same (has_rank c.union.result.bits) (shown hole board) (λ rank below.
+          c.union.ensures rank
+          ∙ ap₂ (λ either both. either || both)
+          (c.union-of_either.ensures rank
+          ∙ ap₂ (λ one other. one || other)
+          (c.least-of_hole.ensures rank below
+          ∙ least-same 2 (has_rank c.minus.result.bits) (λ rank. hole rank && not (board rank)) 9 (λ rank low.
+          c.minus.ensures rank low
+          ∙ ap₂ (λ one other. one && not other) (c.of-hole.ensures rank low) (c.of-board.ensures rank low)) rank below)
+          (c.least-of_board.ensures rank below
+          ∙ least-same 3 (has_rank c.minus-2.result.bits) (λ rank. board rank && not (hole rank)) 9 (λ rank low.
+          c.minus-2.ensures rank low
+          ∙ ap₂ (λ one other. one && not other) (c.of-board.ensures rank low) (c.of-hole.ensures rank low)) rank below))
+          (c.meet.ensures rank
+          ∙ ap₂ (λ one other. one && other) (c.of-hole.ensures rank below) (c.of-board.ensures rank below)))
+          ∙ sym (best-shown c.args.hole c.args.board);
     }

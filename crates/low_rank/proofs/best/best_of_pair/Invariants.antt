@@ -1,7 +1,0 @@
-use Rattle.std.proofs.Common.{◌≡◌, ◌++◌, take}
-use Rattle.std.specs.Prelude.{map}
-use Rattle.low_rank.specs.Lows.{best_low_of}
-use Rattle.low_rank.proofs.best.best_of_pair.Given as goal
-
-abbrev pub invariant-loop-three : goal.invariant-loop-three
-invariant-loop-three l = l.best ≡ best_low_of (map (λ three. l.pair ++ three) (take l.three-index l.three-items))
