@@ -11,24 +11,27 @@ use Rattle.card_choices.specs.Choices.{choices, omaha_choices}
 use Rattle.card_choices.proofs.ListOrder.{Upto, upto_itself}
 use Rattle.rulebook.proofs.Sides.{first_alone, others_alone}
 use Rattle.low_rank.specs.Lows.{low_rank, low_value, best_low_of}
-use Rattle.low_rank.specs.LowRanks.{has_low, count_below, least, falling, five_least, shown}
+use Rattle.low_rank.specs.LowRanks.{has_low, count_below, least, falling, five_least, alone, shown}
 use Rattle.low_rank.proofs.CountLaws.{count-same, count-within, count-two, count-parts, count-lower, count-least, counts-upto, falling-same, low-many, low_value-counts, low_value-whole}
 use Rattle.low_rank.proofs.LowLaws.{IsNoWorse, best_by, best-omaha, no_worse-none, no_worse-upto, no_worse-same}
 use Rattle.low_rank.proofs.ChoiceLaws.{AreAmong, choices-bound, choices-reach}
 
+-- the ranks that pass both tests
+abbrev within : (ℕ → Bool) → (ℕ → Bool) → ℕ → Bool
+within low mine rank = low rank && mine rank
+
 -- five ranks can be shown of those of a hole and of a board: two at most of the hole alone, and three of the board
 record CanBeShown (hole board low : ℕ → Bool) : Type 0 where
   held : (rank : ℕ) → low rank ≡ true → (hole rank || board rank) ≡ true
-  of_hole : count_below (λ rank. low rank && (hole rank && not (board rank))) 9 ≤ 2
-  of_board : count_below (λ rank. low rank && (board rank && not (hole rank))) 9 ≤ 3
+  of_hole : count_below (within low (alone hole board)) 9 ≤ 2
+  of_board : count_below (within low (alone board hole)) 9 ≤ 3
   five : count_below low 9 ≡ 5
 
 -- the ranks of a low are of the hole alone, of the board alone, or of both
 low-parts : (hole board low : ℕ → Bool) (n : ℕ)
     → ((rank : ℕ) → low rank ≡ true → (hole rank || board rank) ≡ true)
-    → count_below low n ≡ count_below (λ rank. low rank && (hole rank && not (board rank))) n
-    + (count_below (λ rank. low rank && (board rank && not (hole rank))) n
-    + count_below (λ rank. low rank && (hole rank && board rank)) n)
+    → count_below low n ≡ count_below (within low (alone hole board)) n
+    + (count_below (within low (alone board hole)) n + count_below (within low (within hole board)) n)
 low-parts hole board low n held =
     count-parts low _ _ _ n (λ rank. parts (low rank) (hole rank) (board rank) (held rank))
   where
@@ -44,16 +47,14 @@ low-parts hole board low n held =
 
 -- what can be shown is of the hole alone, two at most, of the board alone, three at most, or of both
 shown-parts : (hole board : ℕ → Bool) (n : ℕ)
-    → count_below (shown hole board) n ≡ min 2 (count_below (λ rank. hole rank && not (board rank)) n)
-    + (min 3 (count_below (λ rank. board rank && not (hole rank)) n)
-    + count_below (λ rank. hole rank && board rank) n)
+    → count_below (shown hole board) n ≡ min 2 (count_below (alone hole board) n)
+    + (min 3 (count_below (alone board hole) n) + count_below (within hole board) n)
 unfolding shown least
 shown-parts hole board n =
-    let of_hole = count-least 2 (λ rank. hole rank && not (board rank)) n in
-    let of_board = count-least 3 (λ rank. board rank && not (hole rank)) n in
-    let all = count-parts (shown hole board) (least 2 (λ rank. hole rank && not (board rank)))
-    (least 3 (λ rank. board rank && not (hole rank))) (λ rank. hole rank && board rank) n
-    (λ rank. parts (hole rank) (board rank) _ _) in
+    let of_hole = count-least 2 (alone hole board) n in
+    let of_board = count-least 3 (alone board hole) n in
+    let all = count-parts (shown hole board) (least 2 (alone hole board)) (least 3 (alone board hole))
+    (within hole board) n (λ rank. parts (hole rank) (board rank) _ _) in
     omega (arith, all, of_hole, of_board)
   where
     parts : (hole board two three : Bool)
@@ -78,13 +79,12 @@ choice-shown : (hole board pair three : List Card) → AreAmong pair hole → Ar
     → length three ≡ 3 → count_below (has_low (pair ++ three)) 9 ≡ 5
     → CanBeShown (has_low hole) (has_low board) (has_low (pair ++ three))
 choice-shown hole board pair three in_hole on_board two many whole =
-    let of_hole = count-within (λ rank. has_low (pair ++ three) rank && (has_low hole rank && not (has_low board rank)))
+    let of_hole = count-within (within (has_low (pair ++ three)) (alone (has_low hole) (has_low board)))
     (has_low pair) 9 (λ rank below is.
     let all = and_parts (has_low (pair ++ three) rank) (has_low hole rank && not (has_low board rank)) is in
     first_alone (has_low pair rank) (has_low three rank) (sym (low-joined pair three rank) ∙ all.0)
     (off (has_low three rank) (has_low board rank) (on_board rank) (and_parts (has_low hole rank) _ all.1).1)) in
-    let of_board = count-within
-    (λ rank. has_low (pair ++ three) rank && (has_low board rank && not (has_low hole rank)))
+    let of_board = count-within (within (has_low (pair ++ three)) (alone (has_low board) (has_low hole)))
     (has_low three) 9 (λ rank below is.
     let all = and_parts (has_low (pair ++ three) rank) (has_low board rank && not (has_low hole rank)) is in
     others_alone (has_low pair rank) (has_low three rank) (sym (low-joined pair three rank) ∙ all.0)
@@ -113,25 +113,24 @@ least-shown : (hole board low : ℕ → Bool) → CanBeShown hole board low
     → (leb 5 (count_below (shown hole board) 9) ≡ true)
     × Upto (falling (least 5 (shown hole board)) 9) (falling low 9)
 least-shown hole board low shows =
-    let fewer : (n : ℕ) → n ≤ 9 → count_below low n ≤ min 5 (count_below (shown hole board) n) = λ n within.
+    let fewer : (n : ℕ) → n ≤ 9 → count_below low n ≤ min 5 (count_below (shown hole board) n) = λ n upto.
     let parts = low-parts hole board low n shows.held in
     let all = shown-parts hole board n in
-    let one = count-within (λ rank. low rank && (hole rank && not (board rank)))
-    (λ rank. hole rank && not (board rank)) n (λ rank below is. (and_parts (low rank) _ is).1) in
-    let other = count-within (λ rank. low rank && (board rank && not (hole rank)))
-    (λ rank. board rank && not (hole rank)) n (λ rank below is. (and_parts (low rank) _ is).1) in
-    let both = count-within (λ rank. low rank && (hole rank && board rank)) (λ rank. hole rank && board rank) n
-    (λ rank below is. (and_parts (low rank) _ is).1) in
-    let two = count-lower (λ rank. low rank && (hole rank && not (board rank))) n 9 within in
-    let three = count-lower (λ rank. low rank && (board rank && not (hole rank))) n 9 within in
-    let five = count-lower low n 9 within in
+    let behind : (mine : ℕ → Bool) → count_below (within low mine) n ≤ count_below mine n =
+    λ mine. count-within (within low mine) mine n (λ rank below is. (and_parts (low rank) _ is).1) in
+    let one = behind (alone hole board) in
+    let other = behind (alone board hole) in
+    let both = behind (within hole board) in
+    let two = count-lower (within low (alone hole board)) n 9 upto in
+    let three = count-lower (within low (alone board hole)) n 9 upto in
+    let five = count-lower low n 9 upto in
     omega (arith, parts, all, one, other, both, two, three, five, shows.of_hole, shows.of_board, shows.five) in
     let last = fewer 9 (omega arith) in
     let whole = count-least 5 (shown hole board) 9 in
     let five = shows.five in (
       le-leb 5 (count_below (shown hole board) 9) (omega arith),
       counts-upto (least 5 (shown hole board)) low 9
-          (λ rank within. rw (count-least 5 (shown hole board) rank) (fewer rank within)) (omega arith),
+          (λ rank upto. rw (count-least 5 (shown hole board) rank) (fewer rank upto)) (omega arith),
     )
 
 -- and they can be shown themselves, where there are five
@@ -141,16 +140,14 @@ unfolding least shown
 shown-shown hole board enough =
     let some : (rank : ℕ) → least 5 (shown hole board) rank ≡ true → shown hole board rank ≡ true =
     λ rank is. (and_parts (shown hole board rank) _ is).0 in
-    let of_hole = count-within (λ rank. least 5 (shown hole board) rank && (hole rank && not (board rank)))
-    (least 2 (λ rank. hole rank && not (board rank))) 9 (λ rank below is.
-    let all = and_parts (least 5 (shown hole board) rank) _ is in
-    alone (hole rank) (board rank) _ _ (some rank all.0) all.1) in
-    let of_board = count-within (λ rank. least 5 (shown hole board) rank && (board rank && not (hole rank)))
-    (least 3 (λ rank. board rank && not (hole rank))) 9 (λ rank below is.
-    let all = and_parts (least 5 (shown hole board) rank) _ is in
-    behind (hole rank) (board rank) _ _ (some rank all.0) all.1) in
-    let two = count-least 2 (λ rank. hole rank && not (board rank)) 9 in
-    let three = count-least 3 (λ rank. board rank && not (hole rank)) 9 in
+    let of_hole = count-within (within (least 5 (shown hole board)) (alone hole board)) (least 2 (alone hole board)) 9
+    (λ rank below is. let all = and_parts (least 5 (shown hole board) rank) _ is in
+    hole_alone (hole rank) (board rank) _ _ (some rank all.0) all.1) in
+    let of_board = count-within (within (least 5 (shown hole board)) (alone board hole)) (least 3 (alone board hole)) 9
+    (λ rank below is. let all = and_parts (least 5 (shown hole board) rank) _ is in
+    board_alone (hole rank) (board rank) _ _ (some rank all.0) all.1) in
+    let two = count-least 2 (alone hole board) 9 in
+    let three = count-least 3 (alone board hole) 9 in
     let five = count-least 5 (shown hole board) 9 in
     let more = leb-true 5 (count_below (shown hole board) 9) enough in
     record {
@@ -167,48 +164,47 @@ shown-shown hole board enough =
     held false true two three is = refl
     held false false two three is = is
 
-    alone : (hole board two three : Bool)
+    hole_alone : (hole board two three : Bool)
         → ((hole && not board && two) || (board && not hole && three) || (hole && board)) ≡ true
         → (hole && not board) ≡ true → (hole && not board && two) ≡ true
-    alone true true two three is only = only
-    alone true false true three is only = refl
-    alone true false false three is only = is
-    alone false board two three is only = only
+    hole_alone true true two three is only = only
+    hole_alone true false true three is only = refl
+    hole_alone true false false three is only = is
+    hole_alone false board two three is only = only
 
-    behind : (hole board two three : Bool)
+    board_alone : (hole board two three : Bool)
         → ((hole && not board && two) || (board && not hole && three) || (hole && board)) ≡ true
         → (board && not hole) ≡ true → (board && not hole && three) ≡ true
-    behind true true two three is only = only
-    behind true false two three is only = only
-    behind false true two true is only = refl
-    behind false true two false is only = is
-    behind false false two three is only = only
+    board_alone true true two three is only = only
+    board_alone true false two three is only = only
+    board_alone false true two true is only = refl
+    board_alone false true two false is only = is
+    board_alone false false two three is only = only
 
 -- what can be shown is the low of some choice, so the best low is no worse
 low-reached : (hole board : List Card) (low : ℕ → Bool) → CanBeShown (has_low hole) (has_low board) low
     → IsNoWorse (best_low_of (omaha_choices hole board)) (Some (falling low 9))
 unfolding least
 low-reached hole board low shows =
-    let only : ℕ → Bool = λ rank. low rank && (has_low hole rank && not (has_low board rank)) in
-    let both : ℕ → Bool = λ rank. low rank && (has_low hole rank && has_low board rank) in
+    let only : ℕ → Bool = within low (alone (has_low hole) (has_low board)) in
+    let both : ℕ → Bool = within low (within (has_low hole) (has_low board)) in
     let spare = 2 - count_below only 9 in
     let mine : ℕ → Bool =
     λ rank. has_low hole rank && (not (has_low board rank) || ltb (count_below both rank) spare) in
-    let ours = count-two (λ rank. low rank && mine rank) only (least spare both) 9
+    let ours = count-two (within low mine) only (least spare both) 9
     (λ rank. split (low rank) (has_low hole rank) (has_low board rank) _) in
-    let all = count-two low (λ rank. low rank && mine rank) (λ rank. low rank && not (mine rank)) 9
-    (λ rank. halves (low rank) (mine rank)) in
+    let all = count-two low (within low mine) (alone low mine) 9 (λ rank. halves (low rank) (mine rank)) in
     let parts = low-parts (has_low hole) (has_low board) low 9 shows.held in
     let some = count-least spare both 9 in
-    let two : count_below (λ rank. low rank && mine rank) 9 ≡ 2 =
+    let two : count_below (within low mine) 9 ≡ 2 =
     omega (arith, ours, parts, some, shows.of_hole, shows.of_board, shows.five) in
-    let three : count_below (λ rank. low rank && not (mine rank)) 9 ≡ 3 = omega (arith, all, two, shows.five) in
+    let three : count_below (alone low mine) 9 ≡ 3 = omega (arith, all, two, shows.five) in
     subst (λ best. IsNoWorse best (Some (falling low 9))) (sym (best-omaha hole board))
     (choices-reach (λ pair. best_by (λ three. low_value (pair ++ three)) (choices 3 board)) 2 hole
-    (λ rank. low rank && mine rank) (Some (falling low 9)) two
+    (within low mine) (Some (falling low 9)) two
     (λ rank below is. (and_parts (has_low hole rank) _ (and_parts (low rank) (mine rank) is).1).0)
-    (λ pair few of_hole. choices-reach (λ three. low_value (pair ++ three)) 3 board
-    (λ rank. low rank && not (mine rank)) (Some (falling low 9)) three
+    (λ pair few of_hole. choices-reach (λ three. low_value (pair ++ three)) 3 board (alone low mine)
+    (Some (falling low 9)) three
     (λ rank below is. let parts = and_parts (low rank) (not (mine rank)) is in
     rest (has_low hole rank) (has_low board rank) _ (shows.held rank parts.0) parts.1)
     (λ three many of_board.

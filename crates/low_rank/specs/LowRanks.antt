@@ -32,13 +32,15 @@ falling test (suc rank) = cond (test rank) (rank ∷ falling test rank) (falling
 unfoldable pub five_least : (ℕ → Bool) → Option (List ℕ)
 five_least test = if nat_le 5 (count_below test 9) then Some (falling (least 5 test) 9) else None
 
--- the ranks of which a low may be, by those of the hole and of the board: the two least of the hole alone, the three
+-- the ranks that pass one test and not another
+abbrev pub alone : (ℕ → Bool) → (ℕ → Bool) → ℕ → Bool
+alone mine others rank = mine rank && not (others rank)
+
+-- the ranks that a low can be of, by those of the hole and of the board: the two least of the hole alone, the three
 -- least of the board alone, and those of both
 unfoldable pub shown : (ℕ → Bool) → (ℕ → Bool) → ℕ → Bool
 shown hole board rank =
-    least 2 (λ rank. hole rank && not (board rank)) rank
-    || least 3 (λ rank. board rank && not (hole rank)) rank
-    || (hole rank && board rank)
+    least 2 (alone hole board) rank || least 3 (alone board hole) rank || (hole rank && board rank)
 
 -- a set without its least rank
 abbrev pub without_one : ℕ → ℕ

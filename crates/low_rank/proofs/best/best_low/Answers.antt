@@ -1,5 +1,5 @@
 use Rattle.std.proofs.Common.{◌∙◌, ◌&&◌, ◌||◌, not, ap₂, sym}
-use Rattle.low_rank.specs.LowRanks.{has_rank, has_low, shown}
+use Rattle.low_rank.specs.LowRanks.{has_rank, has_low, alone, shown}
 use Rattle.low_rank.proofs.CountLaws.{five_least-same, least-same}
 use Rattle.low_rank.proofs.ShownLaws.{best-shown}
 use Rattle.low_rank.proofs.best.best_low.Goals as goal
@@ -17,11 +17,11 @@ returns c =
           (c.union-of_either.ensures rank
           ∙ ap₂ (λ one other. one || other)
           (c.least-of_hole.ensures rank below
-          ∙ least-same 2 (has_rank c.minus.result.bits) (λ rank. hole rank && not (board rank)) 9 (λ rank low.
+          ∙ least-same 2 (has_rank c.minus.result.bits) (alone hole board) 9 (λ rank low.
           c.minus.ensures rank low
           ∙ ap₂ (λ one other. one && not other) (c.of-hole.ensures rank low) (c.of-board.ensures rank low)) rank below)
           (c.least-of_board.ensures rank below
-          ∙ least-same 3 (has_rank c.minus-2.result.bits) (λ rank. board rank && not (hole rank)) 9 (λ rank low.
+          ∙ least-same 3 (has_rank c.minus-2.result.bits) (alone board hole) 9 (λ rank low.
           c.minus-2.ensures rank low
           ∙ ap₂ (λ one other. one && not other) (c.of-board.ensures rank low) (c.of-hole.ensures rank low)) rank below))
           (c.meet.ensures rank
