@@ -6,12 +6,13 @@ writes what that player is told. `model.py simulate N < PLAN` writes what `simul
 err the first wrong item with status 6, and `model.py events N < PLAN` the events of that simulation, a line for each,
 which `replay` takes. `model.py --rows` tries the model on worked cases. `made_lists.py` compares the program with it
 over made lists of events, `made_views.py` over what players are told of such lists, `made_plans.py` over made plan
-files, and `simulations.py` over the simulations of many numbers.
+files, `simulations.py` over the simulations of many numbers, and `sessions.py` over made scripts of sessions.
 """
 import sys
 
 from rules.plan_file import WrongItem, lines_of_file
 from rules.rows import try_rows
+from rules.session_rows import SESSION_TRIES
 from rules.simulate import Simulation
 from rules.simulation_rows import TRIES
 from rules.step import replayed
@@ -44,7 +45,7 @@ def simulate(what, number):
 def main():
     words = sys.argv[1:]
     if words == ["--rows"]:
-        return try_rows(*TRIES, *VIEW_TRIES)
+        return try_rows(*TRIES, *VIEW_TRIES, *SESSION_TRIES)
     if words and words[0] != "view":
         return simulate(*words)
     return put(told_of(words or ["replay"], sys.stdin.buffer.read()))
