@@ -1,18 +1,20 @@
 # Builds a program from a text of bench/ over crates of the repository; source it at the top of the repository.
 # `scratch NAME CRATES..` proves bench/NAME.txt and the crates that it stands on, in a folder that goes away at the end,
 # and leaves the built program in `program`. What earlier checks kept of the crates is begun with, and what is written of
-# the program's own proofs stands in bench/NAME_proofs, in texts.
+# the program's own proofs stands in bench/NAME_proofs, in texts. `lay_out NAME CRATES..` only lays out that folder, with
+# the program's crate in `crate`, for `rt try`.
 work=$(mktemp -d)
 trap 'rm -rf "$work"' EXIT
 
-scratch() {
-    local name=$1 crate
+lay_out() {
+    local name=$1 part
     shift
     for crate in "$@"; do
         [ -d "$work/crates/$crate" ] && continue
         mkdir -p "$work/crates/$crate"
-        cp -r "crates/$crate"/{src,specs,proofs} "$work/crates/$crate/"
-        if [ -d "crates/$crate/out" ]; then cp -a "crates/$crate/out" "$work/crates/$crate/"; fi
+        for part in src specs proofs out; do
+            if [ -d "crates/$crate/$part" ]; then cp -a "crates/$crate/$part" "$work/crates/$crate/"; fi
+        done
         grep "^$crate[ :]" crates.txt >> "$work/crates.txt"
     done
     mkdir -p "$work/crates/$name/src"
@@ -23,6 +25,11 @@ scratch() {
     fi
     echo "$name: $*" >> "$work/crates.txt"
     git init -q "$work"
-    program=$work/crates/$name/out/$name
-    (cd "$work/crates/$name" && rt run > "$work/log" 2>&1) || { tail -n 20 "$work/log" >&2; return 1; }
+    crate=$work/crates/$name
+}
+
+scratch() {
+    lay_out "$@"
+    program=$crate/out/$1
+    (cd "$crate" && rt run > "$work/log" 2>&1) || { tail -n 20 "$work/log" >&2; return 1; }
 }

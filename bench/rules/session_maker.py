@@ -17,8 +17,9 @@ class SessionMaker(Maker):
 
     def __init__(self, seed):
         super().__init__(seed)
-        rng = self.rng
-        self.script = Script(self.plan_file(), rng.randbytes(32), rng.choice([1, 2, 2, 3, 3, 4]))
+        rng, self.is_crowd = self.rng, self.odds(0.15)
+        plan = self.crowd_file() if self.is_crowd else self.plan_file()
+        self.script = Script(plan, rng.randbytes(32), rng.choice([1, 2, 2, 3, 3, 4]))
         self.hall = Hall(self.script)
         self.book = self.hall.served.book
         self.live = {}
@@ -37,6 +38,12 @@ class SessionMaker(Maker):
                 f"buyin = {rng.choice([0, 10, 100])}\nlate = {late}\nblinds = {[list(level) for level in blinds]}\n"
                 f'shares = [{shares}]\nfloor_word = "{self.floor_word}"\n[words]\n{words}').encode()
 
+    def crowd_file(self):
+        """The plan file of as many seats as players may enter, whose blinds are all that they have."""
+        self.floor_word = "f"
+        return (b'game = "holdem"\ntables = 64\nseats = 10\nstack = 5\nbuyin = 1\nlate = 1\nblinds = [[5, 5, 5]]\n'
+                b'shares = [1000]\nfloor_word = "f"\n[words]\nann = "a"\n')
+
     # -- what is done --
 
     def do(self, *deed):
@@ -46,12 +53,12 @@ class SessionMaker(Maker):
     def client_at(self, desk):
         return self.script.clients[self.hall.guests[desk]]
 
-    def come(self, desk):
+    def come(self, desk, fails=True):
         """Somebody comes to a desk; now and then a call of his link fails, or it has little room."""
         rng, client = self.rng, Client()
-        if self.odds(8):
+        if fails and self.odds(8):
             client.failing = tuple(sorted({rng.randint(1, 40) for _ in range(rng.choice([1, 1, 2]))}))
-        if self.odds(6):
+        if fails and self.odds(6):
             client.room = rng.choice([0, 1, 4, 20, 200, 500, 1000, 3000])
         self.script.clients.append(client)
         self.do("come", len(self.script.clients) - 1, desk)
@@ -256,7 +263,22 @@ class SessionMaker(Maker):
         lines = [f"hello floor {self.floor_word}", *(f"watch {table}" for table in self.book.tables), "next"]
         self.say(desk, *(line.encode() for line in lines))
 
+    def crowd(self):
+        """All seats are taken, one hand is played by called times, and who enters then finds the list full."""
+        desk, seats = 0, [f"{index % 64 + 1} {index // 64 + 1}" for index in range(640)]
+        self.come(desk, fails=False)
+        self.say(desk, b"hello floor f")
+        for at in range(0, 640, 40):
+            self.say(desk, *(f"enter p{at + each} {seats[at + each]}".encode() for each in range(40)))
+        self.do("work", 1)
+        while self.hand_at(1) and not self.hand_at(1).is_over():
+            self.say(desk, b"time 1")
+        self.do("work", 1)
+        self.say(desk, *(f"enter ann 1 {seat}".encode() for seat in range(1, 11)), b"quit")
+
     def make(self):
+        if self.is_crowd:
+            self.crowd()
         for _ in range(self.rng.choice([5, 20, 60, 60, 150, 150])):
             self.step()
         if self.odds(60):

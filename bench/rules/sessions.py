@@ -209,7 +209,7 @@ class Session:
 
 @dataclass
 class Script:
-    """A plan file, a seed, how many desks there are, the clients, and what is done: `("come", client, desk)`,
+    """A plan file, a seed, how many desks are used, the clients, and what is done: `("come", client, desk)`,
     `("turn", desk, times)`, `("serve", client, desk)` and `("work", table)`."""
 
     plan: bytes
@@ -308,7 +308,7 @@ def say_word(say):
 
 def script_text(script):
     """A script as the program reads it."""
-    lines = [f"open {script.desks} {script.seed.hex()} {script.plan.hex()}"]
+    lines = [f"open {script.seed.hex()} {script.plan.hex()}"]
     for client in script.clients:
         failing = ",".join(map(str, client.failing)) or "-"
         lines.append(" ".join(["client", str(client.room), failing, *map(say_word, client.says)]))
