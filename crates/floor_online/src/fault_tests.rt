@@ -108,27 +108,113 @@ fn check_case<R: Threads + Wait + Sync + Abort>(
     Ok(())
 }
 
+/// A run in which a call fails, or whose command or plan is wrong, with the status and the line on err.
+#[derive(Clone, Copy)]
+struct Case {
+    command: &'static str,
+    plan: &'static str,
+    breaks: Breaks,
+    status: u8,
+    line: &'static str,
+}
+
+const CASES: &[Case] = &[
+    Case {
+        command: SERVE,
+        plan: PLAN,
+        breaks: Breaks::Knock,
+        status: 0,
+        line: "door 2 fault\n",
+    },
+    Case {
+        command: "serve 7000",
+        plan: PLAN,
+        breaks: Breaks::Nothing,
+        status: 2,
+        line: USAGE,
+    },
+    Case {
+        command: "replay",
+        plan: PLAN,
+        breaks: Breaks::Nothing,
+        status: 2,
+        line: USAGE,
+    },
+    Case {
+        command: SERVE,
+        plan: PLAN,
+        breaks: Breaks::Take(1),
+        status: 3,
+        line: "read fault\n",
+    },
+    Case {
+        command: SERVE,
+        plan: PLAN,
+        breaks: Breaks::Take(2),
+        status: 3,
+        line: "read fault\n",
+    },
+    Case {
+        command: SERVE,
+        plan: PLAN,
+        breaks: Breaks::Take(3),
+        status: 0,
+        line: "",
+    },
+    Case {
+        command: SERVE,
+        plan: "game = 1\n",
+        breaks: Breaks::Nothing,
+        status: 6,
+        line: "plan game\n",
+    },
+    Case {
+        command: SERVE,
+        plan: PLAN,
+        breaks: Breaks::Doors,
+        status: 7,
+        line: "hall fault\n",
+    },
+    Case {
+        command: "serve 7000 3",
+        plan: PLAN,
+        breaks: Breaks::Nothing,
+        status: 7,
+        line: "hall fault\n",
+    },
+];
+
 #[test]
 fn each_fault_has_its_status_and_its_line(rt: HostRuntime) -> Result<(), Fail> {
-    let alloc = rt.alloc();
-    let wrong = PLAN.replace(alloc, "floor_word = \"f\"", "floor_word = \"\"")?;
-    let long = "#".repeat(alloc, 1_048_577)?;
-    let (wrong, long) = (wrong.as_str(), long.as_str());
-    for (command, plan, breaks, status, line) in [
-        (SERVE, PLAN, Breaks::Knock, 0, "door 2 fault\n"),
-        ("serve 7000", PLAN, Breaks::Nothing, 2, USAGE),
-        ("replay", PLAN, Breaks::Nothing, 2, USAGE),
-        (SERVE, PLAN, Breaks::Take(1), 3, "read fault\n"),
-        (SERVE, PLAN, Breaks::Take(2), 3, "read fault\n"),
-        (SERVE, PLAN, Breaks::Take(3), 0, ""),
-        (SERVE, wrong, Breaks::Nothing, 6, "plan floor_word\n"),
-        (SERVE, "game = 1\n", Breaks::Nothing, 6, "plan game\n"),
-        (SERVE, PLAN, Breaks::Doors, 7, "hall fault\n"),
-        ("serve 7000 3", PLAN, Breaks::Nothing, 7, "hall fault\n"),
-        (SERVE, long, Breaks::Nothing, 8, "input too long\n"),
-    ] {
-        check_case(&rt, alloc, command, plan, breaks, status, line)?;
+    for case in CASES {
+        check_case(
+            &rt,
+            rt.alloc(),
+            case.command,
+            case.plan,
+            case.breaks,
+            case.status,
+            case.line,
+        )?;
     }
+    Ok(())
+}
+
+#[test]
+fn a_plan_without_a_word_for_the_floor_is_wrong(rt: HostRuntime) -> Result<(), Fail> {
+    let alloc = rt.alloc();
+    let plan = PLAN.replace(alloc, "floor_word = \"f\"", "floor_word = \"\"")?;
+    let line = "plan floor_word\n";
+    check_case(&rt, alloc, SERVE, plan.as_str(), Breaks::Nothing, 6, line)?;
+    Ok(())
+}
+
+#[test]
+fn a_plan_of_a_byte_more_is_too_long(rt: HostRuntime) -> Result<(), Fail> {
+    let alloc = rt.alloc();
+    let plan = "#".repeat(alloc, 1_048_577)?;
+    let line = "input too long\n";
+    check_case(&rt, alloc, SERVE, plan.as_str(), Breaks::Nothing, 8, line)?;
     Ok(())
 }
 
