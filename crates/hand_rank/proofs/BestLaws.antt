@@ -40,3 +40,8 @@ pub best_high-all : {A : Type 0} (chosen : List A → List (List Card)) (xs ys :
     → length xs ≤ i → xs ≡ ys → best ≡ best_high (chosen (take i xs)) → best ≡ best_high (chosen ys)
 best_high-all chosen xs ys i best end same is =
     is ∙ ap (λ zs. best_high (chosen zs)) (take_all i xs end ∙ same)
+
+-- a list whose things stay the same stays the same
+pub map-itself : {A : Type 0} (xs : List A) → map (λ x. x) xs ≡ xs
+map-itself [] = refl
+map-itself (x ∷ xs) = ap (λ ys. x ∷ ys) (map-itself xs)

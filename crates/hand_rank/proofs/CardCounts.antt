@@ -11,7 +11,7 @@ use Rattle.card_set.specs.Decks.{is_same_card, repeats_a_card}
 use Rattle.card_set.proofs.DeckLaws.{repeats_none-from_AllPairs}
 use Rattle.card_choices.specs.Choices.{AreDistinct}
 use Rattle.hand_rank.specs.Values.{ranks_down, count_of_rank, ranks_that_occur, distinct_ranks, are_of_one_suit}
-use Rattle.hand_rank.specs.Made.{count_of_suit, AreOnce}
+use Rattle.hand_rank.specs.Cards.{count_of_suit, AreOnce}
 use Rattle.rulebook.proofs.Tests.{count_by-cons}
 use Rattle.hand_rank.proofs.CountLaws.{count_of_rank-cons}
 use Rattle.hand_rank.specs.RankedHand.{falling}

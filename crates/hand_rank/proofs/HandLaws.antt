@@ -1,4 +1,4 @@
--- The hands of a pair of hole cards with three cards of a board.
+-- The hands of hole cards with cards of a board that make them five.
 use Rattle.std.proofs.Common.{◌≡◌, ℕ, zero, suc, ◌+◌, ◌-◌, ◌<◌, ◌≤◌, inl, Bool, true, false, ◌&&◌, eqb, leb, ltb, cond, List, [], ◌∷◌, ◌++◌, length, Some, None, refl, sym, ap, ◌∙◌, subst, zero-add, zero-le, le_trans, le_of_eq, eqb-true, eq-eqb, leb-true, length-append, arith}
 use Rattle.std.specs.Prelude.{Option, map}
 use Rattle.std.proofs.lemmas.Bool.Decides.{nat_tests}
@@ -10,8 +10,8 @@ use Rattle.card_choices.specs.Choices.{choices}
 use Rattle.hand_rank.specs.declared.category.Category.{Category}
 use Rattle.hand_rank.specs.declared.ranked_hand.RankedHand.{RankedHand}
 use Rattle.hand_rank.specs.BestHigh.{greater, best_high}
-use Rattle.hand_rank.specs.HolePair.{hands, has_number, value_in, best_in, value_of, IsBestIn, IsBest}
-use Rattle.hand_rank.specs.Made.{count_of_suit, AreOnce}
+use Rattle.hand_rank.specs.Held.{hands, has_number, value_in, best_in, value_of, IsBestIn, IsBest}
+use Rattle.hand_rank.specs.Cards.{count_of_suit, AreOnce}
 use Rattle.hand_rank.specs.RankedHand.{ranked_value, IsSized}
 use Rattle.hand_rank.specs.Values.{category_number, category_of, count_of_rank, distinct_ranks, run_top, are_of_one_suit, value_by, five_card_value}
 use Rattle.hand_rank.proofs.CardCounts.{other-rank, once-few, total-cards}
@@ -23,14 +23,13 @@ use Rattle.hand_rank.proofs.PartLaws.{count-joined}
 use Rattle.hand_rank.proofs.Sections.{total, total-same}
 use Rattle.hand_rank.proofs.ShownValues.{AreShown, head}
 
--- five cards that two hole cards and some three of a board are
+-- five cards that hole cards and some of a board are
 pub record IsHandOf (hole board five : List Card) : Type 0 where
   pub shown : AreShown five
+  pub choice : IsChoice five (hole ++ board)
   pub least : (r : ℕ) → count_of_rank hole r ≤ count_of_rank five r
   pub most : (r : ℕ) → count_of_rank five r ≤ count_of_rank (hole ++ board) r
   pub suits : (suit r : ℕ) → count_of_suit five suit r ≤ count_of_suit (hole ++ board) suit r
-  pub fewer : (a b : ℕ) → (a ≡ b → ⊥)
-      → count_of_rank five a + count_of_rank five b ≤ count_of_rank hole a + count_of_rank hole b + 3
 
 -- two ranks occur no more often than there are cards
 pub two-ranks : (cards : List Card) (a b : ℕ) → (a ≡ b → ⊥) → count_of_rank cards a + count_of_rank cards b
@@ -46,25 +45,21 @@ two-ranks (card ∷ cards) a b apart =
     one : (r x y n : ℕ) → eqb a b ≡ false → x + y ≤ n → cond (eqb r a) 1 0 + x + (cond (eqb r b) 1 0 + y) ≤ suc n
     one r x y n apart less = grind (arith, nat_tests)
 
--- two hole cards with some three of the board are such a hand
-pub is-hand : (hole board three : List Card) → IsChoice three board → length three ≡ 3 → length hole ≡ 2
-    → AreOnce (hole ++ board) → IsHandOf hole board (hole ++ three)
-is-hand hole board three is count two once =
-    let all = choice-joined hole hole three board (whole hole) is in
+-- hole cards with some of the board are such a hand
+pub is-hand : (hole board others : List Card) → IsChoice others board → length others ≡ 5 - length hole
+    → length hole ≤ 2 → AreOnce (hole ++ board) → IsHandOf hole board (hole ++ others)
+is-hand hole board others is count few once =
+    let all = choice-joined hole hole others board (whole hole) is in
     record {
       shown = record {
-        count = let both = length-append hole three in omega arith;
-        few = λ r. once-few (hole ++ three) r (choice-once (hole ++ three) (hole ++ board) all once);
+        count = let both = length-append hole others in omega arith;
+        few = λ r. once-few (hole ++ others) r (choice-once (hole ++ others) (hole ++ board) all once);
       };
-      least = λ r. let sum = count-joined hole three r in omega arith;
-      most = λ r. count-choice (λ (card : Card). eqb card.rank r) (hole ++ three) (hole ++ board) all;
-      suits = λ suit r. count-choice (λ (card : Card). eqb card.suit suit && eqb card.rank r) (hole ++ three)
+      choice = all;
+      least = λ r. let sum = count-joined hole others r in omega arith;
+      most = λ r. count-choice (λ (card : Card). eqb card.rank r) (hole ++ others) (hole ++ board) all;
+      suits = λ suit r. count-choice (λ (card : Card). eqb card.suit suit && eqb card.rank r) (hole ++ others)
           (hole ++ board) all;
-      fewer = λ a b apart.
-          let some = two-ranks three a b apart in
-          let first = count-joined hole three a in
-          let second = count-joined hole three b in
-          omega (arith, some, first, second, count);
     }
 
 -- a list that has each number below a bound so often
@@ -118,51 +113,52 @@ unfolding total
 total-less a b zero less = refl
 total-less a b (suc n) less = let here = less n in let later = total-less a b n less in omega arith
 
--- three cards of a board with which two hole cards have ranks so often
+-- cards of a board with which hole cards have ranks so often
 pub record IsReached (hole board : List Card) (want : ℕ → ℕ) : Type 0 where
-  pub three : List Card
-  pub choice : IsChoice three board
-  pub count : length three ≡ 3
-  pub counts : (r : ℕ) → count_of_rank (hole ++ three) r ≡ want r
+  pub others : List Card
+  pub choice : IsChoice others board
+  pub count : length others ≡ 5 - length hole
+  pub counts : (r : ℕ) → count_of_rank (hole ++ others) r ≡ want r
 
--- some three cards are with the hole cards what is wanted, where that has the hole cards in it, and no more than there
+-- some cards are with the hole cards what is wanted, where that has the hole cards in it, and no more than there
 -- is
-pub hand-with : (hole board : List Card) (want : ℕ → ℕ) → length hole ≡ 2 → 3 ≤ length board
+pub hand-with : (hole board : List Card) (want : ℕ → ℕ) → length hole ≤ 2 → 5 ≤ length hole + length board
     → ((r : ℕ) → count_of_rank hole r ≤ want r) → ((r : ℕ) → want r ≤ count_of_rank (hole ++ board) r)
     → total want 15 ≡ 5 → IsReached hole board want
-hand-with hole board want two enough least most five =
+hand-with hole board want small enough least most five =
     let left : ℕ → ℕ = λ r. want r - count_of_rank hole r in
     let needs = listed left 15 in
     let occur = occurs-listed left 15 in
-    let few : length needs ≡ 3 =
+    let few : length needs ≡ 5 - length hole =
     let a = total-less want (count_of_rank hole) 15 least in
     let b = total-cards hole in
     let c = length-listed left 15 in
-    omega (arith, a, b, c, two, five) in
-    let at = choice-with (λ (card : Card). card.rank) needs 3 board (omega arith) enough
+    omega (arith, a, b, c, small, five) in
+    let at = choice-with (λ (card : Card). card.rank) needs (5 - length hole) board (omega arith)
+    (omega (arith, small, enough))
     (λ r. le_trans (le_of_eq (occur r)) (room (ltb r 15) r)) in
-    let three = at.0 in
-    let both : total (occurs needs) 15 ≡ total (count_of_rank three) 15 =
+    let others = at.0 in
+    let both : total (occurs needs) 15 ≡ total (count_of_rank others) 15 =
     let a = total-same (occurs needs) left 15 (λ r below. occur r ∙ inside r below) in
     let b = length-listed left 15 in
-    let c = total-cards three in
+    let c = total-cards others in
     let d = at.2 in
     omega (arith, a, b, c, d, few) in
     record {
-      three = three;
+      others = others;
       choice = at.1;
       count = at.2;
-      counts = λ r. elim (leb 15 r) as (λ b. leb 15 r ≡ b → count_of_rank (hole ++ three) r ≡ want r) [
+      counts = λ r. elim (leb 15 r) as (λ b. leb 15 r ≡ b → count_of_rank (hole ++ others) r ≡ want r) [
         | true ↦ λ high.
             let none = other-rank (hole ++ board) r (inl (leb-true 15 r high)) in
-            let nothing = other-rank (hole ++ three) r (inl (leb-true 15 r high)) in
+            let nothing = other-rank (hole ++ others) r (inl (leb-true 15 r high)) in
             let room = most r in
             omega arith
         | false ↦ λ low.
             let below : r < 15 = grind (arith, nat_tests) in
-            let same = total-tight (occurs needs) (count_of_rank three) 15 r (λ s within. at.3 s) both below in
+            let same = total-tight (occurs needs) (count_of_rank others) 15 r (λ s within. at.3 s) both below in
             let here : occurs needs r ≡ want r - count_of_rank hole r = occur r ∙ inside r below in
-            let sum = count-joined hole three r in
+            let sum = count-joined hole others r in
             let some = least r in
             omega (arith, same, here, sum, some)
       ] refl;
@@ -212,35 +208,36 @@ numbered-five five =
     by None None true ranks is = record { number = 5; ranks = ranks; is = sym is; few = omega arith }
     by None None false ranks is = record { number = 0; ranks = ranks; is = sym is; few = omega arith }
 
-best-combined : (hand : List Card → List Card) (threes : List (List Card))
-    → best_high (map hand threes) ≡ combined greater [] (λ three. five_card_value (hand three)) threes
+best-combined : (hand : List Card → List Card) (otherss : List (List Card))
+    → best_high (map hand otherss) ≡ combined greater [] (λ others. five_card_value (hand others)) otherss
 unfolding best_high
 best-combined hand [] = refl
-best-combined hand (three ∷ threes) = ap (greater (five_card_value (hand three))) (best-combined hand threes)
+best-combined hand (others ∷ otherss) = ap (greater (five_card_value (hand others))) (best-combined hand otherss)
 
-best_in-combined : (number : ℕ) (hand : List Card → List Card) (threes : List (List Card))
-    → best_in number (map hand threes) ≡ combined greater [] (λ three. value_in number (hand three)) threes
+best_in-combined : (number : ℕ) (hand : List Card → List Card) (otherss : List (List Card))
+    → best_in number (map hand otherss) ≡ combined greater [] (λ others. value_in number (hand others)) otherss
 unfolding best_in
 best_in-combined number hand [] = refl
-best_in-combined number hand (three ∷ threes) =
-    ap (greater (value_in number (hand three))) (best_in-combined number hand threes)
+best_in-combined number hand (others ∷ otherss) =
+    ap (greater (value_in number (hand others))) (best_in-combined number hand otherss)
 
 -- what bounds the value of each hand bounds the best
 all-within : (hole board : List Card) (bound : List ℕ)
-    → ((three : List Card) → IsChoice three board → length three ≡ 3 → Upto (five_card_value (hole ++ three)) bound)
+    → ((others : List Card) → IsChoice others board → length others ≡ 5 - length hole
+    → Upto (five_card_value (hole ++ others)) bound)
     → Upto (best_high (hands hole board)) bound
 all-within hole board bound each =
-    subst (λ v. Upto v bound) (sym (best-combined (λ three. hole ++ three) (choices 3 board)))
-    (chosen-within (λ three. five_card_value (hole ++ three)) 3 board bound each)
+    subst (λ v. Upto v bound) (sym (best-combined (λ others. hole ++ others) (choices (5 - length hole) board)))
+    (chosen-within (λ others. five_card_value (hole ++ others)) (5 - length hole) board bound each)
 
-some-above : (hole board three : List Card) → IsChoice three board → length three ≡ 3
-    → Upto (five_card_value (hole ++ three)) (best_high (hands hole board))
-some-above hole board three is count =
-    subst (λ v. Upto (five_card_value (hole ++ three)) v)
-    (sym (best-combined (λ three. hole ++ three) (choices 3 board)))
-    (subst (λ n. Upto (five_card_value (hole ++ three))
-    (combined greater [] (λ three. five_card_value (hole ++ three)) (choices n board))) count
-    (chosen-above (λ three. five_card_value (hole ++ three)) three board is))
+some-above : (hole board others : List Card) → IsChoice others board → length others ≡ 5 - length hole
+    → Upto (five_card_value (hole ++ others)) (best_high (hands hole board))
+some-above hole board others is count =
+    subst (λ v. Upto (five_card_value (hole ++ others)) v)
+    (sym (best-combined (λ others. hole ++ others) (choices (5 - length hole) board)))
+    (subst (λ n. Upto (five_card_value (hole ++ others))
+    (combined greater [] (λ others. five_card_value (hole ++ others)) (choices n board))) count
+    (chosen-above (λ others. five_card_value (hole ++ others)) others board is))
 
 -- and the same for a category
 in-number : (number : ℕ) (five : List Card) (ranks : List ℕ) → five_card_value five ≡ number ∷ ranks
@@ -266,24 +263,25 @@ number-within number five bound each =
     ] refl)
 
 all-within_in : (number : ℕ) (hole board : List Card) (bound : List ℕ)
-    → ((three : List Card) (ranks : List ℕ) → IsChoice three board → length three ≡ 3
-    → five_card_value (hole ++ three) ≡ number ∷ ranks → Upto (number ∷ ranks) bound)
+    → ((others : List Card) (ranks : List ℕ) → IsChoice others board
+    → length others ≡ 5 - length hole → five_card_value (hole ++ others) ≡ number ∷ ranks → Upto (number ∷ ranks) bound)
     → Upto (best_in number (hands hole board)) bound
 all-within_in number hole board bound each =
-    subst (λ v. Upto v bound) (sym (best_in-combined number (λ three. hole ++ three) (choices 3 board)))
-    (chosen-within (λ three. value_in number (hole ++ three)) 3 board bound
-    (λ three is count. number-within number (hole ++ three) bound (λ ranks at. each three ranks is count at)))
+    subst (λ v. Upto v bound)
+    (sym (best_in-combined number (λ others. hole ++ others) (choices (5 - length hole) board)))
+    (chosen-within (λ others. value_in number (hole ++ others)) (5 - length hole) board bound
+    (λ others is count. number-within number (hole ++ others) bound (λ ranks at. each others ranks is count at)))
 
-some-above_in : (number : ℕ) (hole board three : List Card) (ranks : List ℕ) → IsChoice three board → length three ≡ 3
-    → five_card_value (hole ++ three) ≡ number ∷ ranks
-    → Upto (five_card_value (hole ++ three)) (best_in number (hands hole board))
-some-above_in number hole board three ranks is count at =
-    subst (λ v. Upto v (best_in number (hands hole board))) (in-number number (hole ++ three) ranks at)
-    (subst (λ v. Upto (value_in number (hole ++ three)) v)
-    (sym (best_in-combined number (λ three. hole ++ three) (choices 3 board)))
-    (subst (λ n. Upto (value_in number (hole ++ three))
-    (combined greater [] (λ three. value_in number (hole ++ three)) (choices n board))) count
-    (chosen-above (λ three. value_in number (hole ++ three)) three board is)))
+some-above_in : (number : ℕ) (hole board others : List Card) (ranks : List ℕ) → IsChoice others board
+    → length others ≡ 5 - length hole → five_card_value (hole ++ others) ≡ number ∷ ranks
+    → Upto (five_card_value (hole ++ others)) (best_in number (hands hole board))
+some-above_in number hole board others ranks is count at =
+    subst (λ v. Upto v (best_in number (hands hole board))) (in-number number (hole ++ others) ranks at)
+    (subst (λ v. Upto (value_in number (hole ++ others)) v)
+    (sym (best_in-combined number (λ others. hole ++ others) (choices (5 - length hole) board)))
+    (subst (λ n. Upto (value_in number (hole ++ others))
+    (combined greater [] (λ others. value_in number (hole ++ others)) (choices n board))) count
+    (chosen-above (λ others. value_in number (hole ++ others)) others board is)))
 
 -- what comes no later
 pub upto-of : (v w : List ℕ) → greater v w ≡ w → Upto v w
@@ -291,36 +289,36 @@ upto-of v w is = subst (λ x. Upto v x) is (max-above_left v w)
 
 -- no hand is of a category
 pub no-best : (number : ℕ) (best : Option RankedHand) (hole board : List Card) → best ≡ None
-    → ((three : List Card) (ranks : List ℕ) → IsChoice three board → length three ≡ 3
-    → five_card_value (hole ++ three) ≡ number ∷ ranks → ⊥) → IsBestIn number best (hands hole board)
+    → ((others : List Card) (ranks : List ℕ) → IsChoice others board
+    → length others ≡ 5 - length hole → five_card_value (hole ++ others) ≡ number ∷ ranks → ⊥) → IsBestIn number best (hands hole board)
 no-best number best hole board is none =
     subst (λ o. IsBestIn number o (hands hole board)) (sym is) (record {
       over = max_upper (best_in number (hands hole board)) [] (all-within_in number hole board []
-          (λ three ranks chosen count at. absurd (none three ranks chosen count at)));
+          (λ others ranks chosen count at. absurd (none others ranks chosen count at)));
       under = max_upper [] (best_high (hands hole board)) tt;
       sized = λ shown found. absurd (let bad : None ≡ Some shown = found in cc);
       category = λ shown found. absurd (let bad : None ≡ Some shown = found in cc);
     })
 
--- some three cards show no less than this with the hole cards
+-- some cards show no less than this with the hole cards
 pub record Reaches (shown : RankedHand) (hole board : List Card) : Type 0 where
-  pub three : List Card
-  pub choice : IsChoice three board
-  pub count : length three ≡ 3
-  pub up : Upto (ranked_value shown) (five_card_value (hole ++ three))
+  pub others : List Card
+  pub choice : IsChoice others board
+  pub count : length others ≡ 5 - length hole
+  pub up : Upto (ranked_value shown) (five_card_value (hole ++ others))
 
 -- some hand shows no less, and no hand of the category more
 pub some-best : (number : ℕ) (shown : RankedHand) (hole board : List Card) → category_number shown.category ≡ number
     → IsSized shown → Reaches shown hole board
-    → ((three : List Card) (ranks : List ℕ) → IsChoice three board → length three ≡ 3
-    → five_card_value (hole ++ three) ≡ number ∷ ranks → Upto (number ∷ ranks) (ranked_value shown))
+    → ((others : List Card) (ranks : List ℕ) → IsChoice others board
+    → length others ≡ 5 - length hole → five_card_value (hole ++ others) ≡ number ∷ ranks → Upto (number ∷ ranks) (ranked_value shown))
     → IsBestIn number (Some shown) (hands hole board)
 some-best number shown hole board category sized reach bound = record {
   over = max_upper (best_in number (hands hole board)) (ranked_value shown)
       (all-within_in number hole board (ranked_value shown) bound);
   under = max_upper (ranked_value shown) (best_high (hands hole board))
-      (upto_through (ranked_value shown) (five_card_value (hole ++ reach.three)) (best_high (hands hole board)) reach.up
-      (some-above hole board reach.three reach.choice reach.count));
+      (upto_through (ranked_value shown) (five_card_value (hole ++ reach.others)) (best_high (hands hole board))
+      reach.up (some-above hole board reach.others reach.choice reach.count));
   sized = λ other is. subst (λ s. IsSized s) (same_Some shown other is) sized;
   category = λ other is. subst (λ (s : RankedHand). category_number s.category ≡ number) (same_Some shown other is)
       category;
@@ -337,8 +335,8 @@ nothing (x ∷ xs) up = absurd up
 -- no hand is of a category beyond the last
 pub none-beyond : (hole board : List Card) → NoneFrom 9 hole board
 none-beyond hole board = record {
-  at = λ n high. nothing (best_in n (hands hole board)) (all-within_in n hole board [] (λ three ranks is count at.
-      let five = numbered-five (hole ++ three) in
+  at = λ n high. nothing (best_in n (hands hole board)) (all-within_in n hole board [] (λ others ranks is count at.
+      let five = numbered-five (hole ++ others) in
       let few = five.few in
       let same : n ≡ five.number = head (sym at ∙ five.is) in
       absurd (omega arith)));
@@ -367,37 +365,35 @@ best-first number best shown hole board above is some = record {
       let over = subst (λ v. Upto (best_in number (hands hole board)) v) (ap value_of some)
       (upto-of (best_in number (hands hole board)) (value_of best) is.over) in
       upto_both (ranked_value shown) (best_high (hands hole board)) under
-      (all-within hole board (ranked_value shown) (λ three chosen count.
-      let five = numbered-five (hole ++ three) in
-      let up = some-above_in five.number hole board three five.ranks chosen count five.is in
+      (all-within hole board (ranked_value shown) (λ others chosen count.
+      let five = numbered-five (hole ++ others) in
+      let up = some-above_in five.number hole board others five.ranks chosen count five.is in
       let as_number = is.category shown some in
       elim (ltb five.number number) as (λ b. ltb five.number number ≡ b
-      → Upto (five_card_value (hole ++ three)) (ranked_value shown)) [
+      → Upto (five_card_value (hole ++ others)) (ranked_value shown)) [
         | true ↦ λ less. subst (λ v. Upto v (ranked_value shown)) (sym five.is) (inl (grind (arith, nat_tests)))
         | false ↦ λ not_less. elim (eqb five.number number) as (λ b. eqb five.number number ≡ b
-            → Upto (five_card_value (hole ++ three)) (ranked_value shown)) [
-              | true ↦ λ same. upto_through (five_card_value (hole ++ three)) (best_in number (hands hole board))
+            → Upto (five_card_value (hole ++ others)) (ranked_value shown)) [
+              | true ↦ λ same. upto_through (five_card_value (hole ++ others)) (best_in number (hands hole board))
                   (ranked_value shown)
-                  (subst (λ n. Upto (five_card_value (hole ++ three)) (best_in n (hands hole board)))
+                  (subst (λ n. Upto (five_card_value (hole ++ others)) (best_in n (hands hole board)))
                   (eqb-true five.number number same) up) over
               | false ↦ λ apart.
                   let none = above.at five.number (grind (arith, nat_tests)) in
                   absurd (subst (λ v. Upto v []) five.is
-                  (subst (λ v. Upto (five_card_value (hole ++ three)) v) none up))
+                  (subst (λ v. Upto (five_card_value (hole ++ others)) v) none up))
             ] refl
       ] refl));
   sized = is.sized shown some;
 }
 
 -- there is a hand
-pub some-hand : (hole board : List Card) → 3 ≤ length board → NoneFrom 0 hole board → ⊥
-some-hand hole [] enough none = omega arith
-some-hand hole (a ∷ []) enough none = omega arith
-some-hand hole (a ∷ b ∷ []) enough none = omega arith
-some-hand hole (a ∷ b ∷ c ∷ board) enough none =
-    let three = a ∷ b ∷ c ∷ [] in
-    let five = numbered-five (hole ++ three) in
-    let up = some-above_in five.number hole (a ∷ b ∷ c ∷ board) three five.ranks
-    (inl (refl, inl (refl, inl (refl, tt)))) refl five.is in
+pub some-hand : (hole board : List Card) → length hole ≤ 2 → 5 ≤ length hole + length board → NoneFrom 0 hole board → ⊥
+some-hand hole board small enough none =
+    let at = choice-with (λ (card : Card). card.rank) [] (5 - length hole) board zero-le (omega (arith, small, enough))
+    (λ r. zero-le) in
+    let others = at.0 in
+    let five = numbered-five (hole ++ others) in
+    let up = some-above_in five.number hole board others five.ranks at.1 at.2 five.is in
     subst (λ v. Upto v []) five.is
-    (subst (λ v. Upto (five_card_value (hole ++ three)) v) (none.at five.number zero-le) up)
+    (subst (λ v. Upto (five_card_value (hole ++ others)) v) (none.at five.number zero-le) up)

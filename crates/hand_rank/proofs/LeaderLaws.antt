@@ -1,355 +1,310 @@
--- The ranks that may occur most often, category by category.
-use Rattle.std.proofs.Common.{◌≡◌, ℕ, suc, ◌+◌, ◌<◌, ◌≤◌, inl, inr, Bool, true, false, ◌&&◌, not, eqb, leb, List, [], ◌∷◌, ◌++◌, length, Some, None, refl, sym, ap, ◌∙◌, subst, le_trans, eqb-true, leb-true, le-leb, arith}
+-- The ranks that may occur most often in a hand, where the others have to leave room for the hole cards.
+use Rattle.std.proofs.Common.{◌≡◌, ℕ, ◌+◌, ◌<◌, ◌≤◌, inl, inr, Bool, true, false, ◌&&◌, ◌||◌, not, eqb, leb, cond, List, [], ◌∷◌, ◌++◌, length, Some, None, refl, sym, ap, ◌∙◌, subst, le_trans, eqb-true, leb-true, le-leb, lit≤, arith}
 use Rattle.std.specs.Prelude.{Option}
 use Rattle.std.proofs.lemmas.Bool.{and_from, and_parts}
 use Rattle.std.proofs.lemmas.Bool.Decides.{nat_tests}
 use Rattle.card_set.specs.declared.card.Card.{Card}
-use Rattle.hand_rank.specs.declared.hole_pair.HolePair.{HolePair}
+use Rattle.rulebook.proofs.Sides.{others_alone}
+use Rattle.card_choices.proofs.ListOrder.{Upto, upto_itself, upto_through, max_upper}
 use Rattle.hand_rank.specs.declared.rank_set.RankSet.{RankSet}
-use Rattle.hand_rank.specs.declared.ranked_hand.RankedHand.{RankedHand}
-use Rattle.hand_rank.specs.HolePair.{hands, IsHolePair, IsBestIn}
+use Rattle.hand_rank.specs.Held.{MayLead, HasOneOf, OneHasToLead}
 use Rattle.hand_rank.specs.Picks.{highest_below}
 use Rattle.hand_rank.specs.Sets.{has_rank, HasRanks}
 use Rattle.hand_rank.specs.RankedHand.{falling, ranks_of}
-use Rattle.hand_rank.specs.SoMany.{IsGreatestWith}
-use Rattle.hand_rank.specs.Values.{category_number, count_of_rank}
-use Rattle.hand_rank.proofs.FiveLaws.{exactly, falling-one, ranks-one}
-use Rattle.hand_rank.proofs.HandLaws.{IsHandOf, is-hand, two-ranks, no-best}
-use Rattle.hand_rank.proofs.LedLaws.{MayLead, IsForm, few-hole, led-best, led-none}
+use Rattle.hand_rank.specs.SoMany.{AreSoMany, IsGreatest, IsGreatestWith}
+use Rattle.hand_rank.specs.Values.{count_of_rank}
+use Rattle.hand_rank.proofs.CardCounts.{other-rank, total-cards}
+use Rattle.hand_rank.proofs.HandLaws.{two-ranks, total-least, upto-of}
 use Rattle.hand_rank.proofs.PickLaws.{highest-is, highest-none}
-use Rattle.hand_rank.proofs.Sections.{falling-none, falling-leads, falling-same}
-use Rattle.hand_rank.proofs.ShapeLaws.{IsLed, rank-within}
-use Rattle.hand_rank.proofs.SoManyLaws.{bit, but_one-itself, but_one-other, falling-fewer, falling-but_one, some-rank}
+use Rattle.hand_rank.proofs.Sections.{falling-none, falling-empty, falling-leads}
+use Rattle.hand_rank.proofs.SetOrder.{ranks-empty}
+use Rattle.hand_rank.proofs.ShapeLaws.{rank-within}
+use Rattle.hand_rank.proofs.ShapedLaws.{falling-15, total-passing}
+use Rattle.hand_rank.proofs.SoManyLaws.{bit, either_way, both-are, but_one-itself, but_one-other, falling-fewer, falling-but_one, falling-upto, none-greatest, some-rank}
 
--- how many ranks the hole cards have beside one
-abbrev beside_one : HolePair → ℕ → ℕ
-beside_one held rank = length (falling (λ r. has_rank held.pair.once.bits r && not (eqb r rank)) 16)
-
--- the ranks of a set may occur most often, and each that does is one of them
-pub record AreLeaders (bits : ℕ) (held : HolePair) (hole board : List Card) (k j c : ℕ) : Type 0 where
-  pub may : (r : ℕ) → r < 16 → has_rank bits r ≡ true → MayLead hole board k j r
-  pub room : (r : ℕ) → r < 16 → has_rank bits r ≡ true → beside_one held r ≤ c
-  pub all : (five : List Card) (ranks : List ℕ) → IsHandOf hole board five → (led : IsLed five k j c ranks)
-      → has_rank bits led.rank ≡ true
-
--- where there is none, there is no such hand
-pub leaders-none : (number k j c : ℕ) (bits : ℕ) (held : HolePair) (hole board : List Card) (best : Option RankedHand)
-    → IsForm number k j c → IsHolePair held hole board → AreLeaders bits held hole board k j c
-    → highest_below (has_rank bits) 16 ≡ None → best ≡ None → IsBestIn number best (hands hole board)
-leaders-none number k j c bits held hole board best form is leaders none is_none =
-    no-best number best hole board is_none (λ three ranks chosen three_long at.
-    let this = is-hand hole board three chosen three_long is.two is.once in
-    let led = form.led (hole ++ three) ranks this.shown at in
-    let below = led.below in
-    let there = leaders.all (hole ++ three) ranks this led in
-    let fails = highest-none (has_rank bits) 16 led.rank none (omega arith) in
-    absurd cc)
-
--- and where the ranks beside the highest are not found, neither
-pub leaders-lost : (number k j c : ℕ) (bits rank : ℕ) (held : HolePair) (hole board : List Card) (most from : RankSet)
-    (found : Option RankSet) (best : Option RankedHand)
-    → IsForm number k j c → IsHolePair held hole board → AreLeaders bits held hole board k j c
-    → highest_below (has_rank bits) 16 ≡ Some rank → ((r : ℕ) → has_rank most.bits r ≡ eqb r rank)
-    → HasRanks from.bits j (count_of_rank (hole ++ board))
-    → IsGreatestWith found (λ r. has_rank from.bits r && not (has_rank most.bits r))
-    (λ r. has_rank held.pair.once.bits r && not (has_rank most.bits r)) c → found ≡ None → best ≡ None
-    → IsBestIn number best (hands hole board)
-leaders-lost number k j c bits rank held hole board most from found best form is leaders top is_most is_from greatest
-    none
-    is_none =
-    let at = highest-is (has_rank bits) 16 rank top in
-    led-none number k j c held hole board most from rank found best form is at.below is_most is_from greatest none
-    is_none
-    (subst (λ rs. length rs ≤ c)
-    (falling-same (λ r. has_rank held.pair.once.bits r && not (eqb r rank))
-    (λ r. has_rank held.pair.once.bits r && not (has_rank most.bits r)) 16
-    (λ r below. ap (λ b. has_rank held.pair.once.bits r && not b) (sym (is_most r))))
-    (leaders.room rank at.below at.passes))
-
--- the best hand is that of the highest
-pub leaders-best : (number k j c : ℕ) (bits rank : ℕ) (held : HolePair) (hole board : List Card) (shown : RankedHand)
-    (from : RankSet)
-    → IsForm number k j c → IsHolePair held hole board → AreLeaders bits held hole board k j c
-    → highest_below (has_rank bits) 16 ≡ Some rank → category_number shown.category ≡ number
-    → ((r : ℕ) → has_rank shown.most.bits r ≡ eqb r rank) → HasRanks from.bits j (count_of_rank (hole ++ board))
-    → IsGreatestWith (Some shown.others) (λ r. has_rank from.bits r && not (has_rank shown.most.bits r))
-    (λ r. has_rank held.pair.once.bits r && not (has_rank shown.most.bits r)) c
-    → IsBestIn number (Some shown) (hands hole board)
-leaders-best number k j c bits rank held hole board shown from form is leaders top category is_most is_from greatest =
-    let at = highest-is (has_rank bits) 16 rank top in
-    led-best number k j c held hole board shown from rank form is category
-    (ranks-one shown.most.bits rank at.below is_most) is_most is_from greatest
-    (leaders.may rank at.below at.passes)
-    (λ five ranks this led. let below = led.below in at.above led.rank (omega arith) (leaders.all five ranks this led))
-
-next-differs : (r : ℕ) → r ≡ suc r → ⊥
-next-differs r is = omega arith
-
--- a rank of two cards occurs twice at most
-pub few-times : (hole : List Card) (r : ℕ) → length hole ≡ 2 → count_of_rank hole r ≤ 2
-few-times hole r two = let all = two-ranks hole r (suc r) (next-differs r) in omega arith
-
--- one of the ranks of two cards leaves one at most
-pub beside-few : (held : HolePair) (hole board : List Card) (rank : ℕ) → IsHolePair held hole board → rank < 16
-    → 1 ≤ count_of_rank hole rank → beside_one held rank ≤ 1
-beside-few held hole board rank is below some =
-    let p = has_rank held.pair.once.bits in
-    let q : ℕ → Bool = λ r. p r && not (eqb r rank) in
-    let change = falling-but_one p q rank 16 below (λ r apart. but_one-other (p r) r rank apart) in
-    let few = few-hole held.pair.once.bits hole is.two is.pair.of_once in
-    let a : bit (p rank) ≡ 1 = ap bit (is.pair.of_once.at rank below ∙ le-leb 1 (count_of_rank hole rank) some) in
-    let b : bit (q rank) ≡ 0 = ap bit (but_one-itself (p rank) rank) in
-    omega (arith, change, few, a, b)
-
-beside-all : (held : HolePair) (hole board : List Card) (rank : ℕ) → IsHolePair held hole board
-    → beside_one held rank ≤ 2
-beside-all held hole board rank is =
-    le_trans
-    (falling-fewer (λ r. has_rank held.pair.once.bits r && not (eqb r rank)) (has_rank held.pair.once.bits) 16
-    (λ r below has. (and_parts (has_rank held.pair.once.bits r) (not (eqb r rank)) has).0))
-    (few-hole held.pair.once.bits hole is.two is.pair.of_once)
-
--- two cards of two ranks
-pub hole-apart : (held : HolePair) (hole board : List Card) → IsHolePair held hole board
-    → ranks_of held.pair.twice.bits ≡ [] → (r : ℕ) → count_of_rank hole r ≤ 1
-hole-apart held hole board is none r =
-    elim (leb 2 (count_of_rank hole r)) as (λ b. leb 2 (count_of_rank hole r) ≡ b → count_of_rank hole r ≤ 1) [
-      | true ↦ λ twice.
-          let within = rank-within hole r (let two = leb-true 2 (count_of_rank hole r) twice in omega arith) in
-          let has : has_rank held.pair.twice.bits r ≡ true = is.pair.of_twice.at r (omega arith) ∙ twice in
-          let fails = falling-none (has_rank held.pair.twice.bits) 16 r none (omega arith) in
-          absurd cc
-      | false ↦ λ once. grind (arith, nat_tests)
-    ] refl
-
--- two cards of one rank
-pub record AreAlike (hole : List Card) (rank : ℕ) : Type 0 where
-  pub below : rank < 15
-  pub twice : count_of_rank hole rank ≡ 2
-  pub others : (r : ℕ) → (r ≡ rank → ⊥) → count_of_rank hole r ≡ 0
-
--- where a rank occurs twice among two cards, they are alike
-pub hole-alike : (held : HolePair) (hole board : List Card) → IsHolePair held hole board
-    → 1 ≤ length (ranks_of held.pair.twice.bits) → (rank : ℕ) × AreAlike hole rank
-hole-alike held hole board is some =
-    let at = some-rank held.pair.twice.bits some in
-    let two = leb-true 2 (count_of_rank hole at.0) (sym (is.pair.of_twice.at at.0 at.1) ∙ at.2) in
-    let few = few-times hole at.0 is.two in
-    let long = is.two in (
-      at.0,
-      record {
-        below = rank-within hole at.0 (omega arith);
-        twice = omega arith;
-        others = λ r apart. let all = two-ranks hole r at.0 apart in omega arith;
-      },
-    )
-
--- the one rank of two cards
-alike-is : (hole : List Card) (rank r : ℕ) → AreAlike hole rank → 1 ≤ count_of_rank hole r → r ≡ rank
-alike-is hole rank r are some =
-    elim (eqb r rank) as (λ b. eqb r rank ≡ b → r ≡ rank) [
-      | true ↦ λ same. eqb-true r rank same
-      | false ↦ λ differs. let none = are.others r (λ same. let bad : eqb r rank ≡ true = grind (arith, nat_tests) in
-          absurd cc) in absurd (omega arith)
-    ] refl
-
--- no more than three cards of a rank are of the board
-from-board : (hole board five : List Card) (r : ℕ) → IsHandOf hole board five
-    → count_of_rank five r ≤ count_of_rank hole r + 3
-from-board hole board five r hand =
-    let both = hand.fewer r (suc r) (next-differs r) in let more = hand.least (suc r) in omega arith
-
--- four of a kind: of a rank of the hole cards
-pub leaders-four : (held : HolePair) (hole board : List Card) (bits : ℕ) → IsHolePair held hole board
-    → ((r : ℕ) → has_rank bits r ≡ (has_rank held.all.four.bits r && has_rank held.pair.once.bits r))
-    → AreLeaders bits held hole board 4 1 1
-leaders-four held hole board bits is are = record {
-  may = λ r below has.
-      let parts = and_parts (has_rank held.all.four.bits r) (has_rank held.pair.once.bits r) (sym (are r) ∙ has) in
-      let many = leb-true 4 (count_of_rank (hole ++ board) r) (sym (is.all.of_four.at r below) ∙ parts.0) in
-      let some = leb-true 1 (count_of_rank hole r) (sym (is.pair.of_once.at r below) ∙ parts.1) in
-      let few = few-times hole r is.two in
-      let long = is.two in
-      record {
-        below = rank-within (hole ++ board) r (omega arith);
-        many = many;
-        most = omega arith;
-        rest = λ s apart. let all = two-ranks hole s r apart in omega arith;
-      };
-  room = λ r below has.
-      let parts = and_parts (has_rank held.all.four.bits r) (has_rank held.pair.once.bits r) (sym (are r) ∙ has) in
-      beside-few held hole board r is below
-      (leb-true 1 (count_of_rank hole r) (sym (is.pair.of_once.at r below) ∙ parts.1));
-  all = λ five ranks hand led.
-      let below = led.below in
-      let often = led.often in
-      let up = hand.most led.rank in
-      let few = from-board hole board five led.rank hand in
-      are led.rank ∙ and_from (has_rank held.all.four.bits led.rank) (has_rank held.pair.once.bits led.rank)
-      (is.all.of_four.at led.rank (omega arith) ∙ le-leb 4 (count_of_rank (hole ++ board) led.rank) (omega arith))
-      (is.pair.of_once.at led.rank (omega arith) ∙ le-leb 1 (count_of_rank hole led.rank) (omega arith));
-}
-
--- three of a kind and one pair: of any rank where the hole cards have two, and else of theirs
-pub leaders-apart : (held : HolePair) (hole board : List Card) (bits k c : ℕ) → IsHolePair held hole board → 2 ≤ k
-    → 2 ≤ c → HasRanks bits k (count_of_rank (hole ++ board)) → ((r : ℕ) → count_of_rank hole r ≤ 1)
-    → AreLeaders bits held hole board k 1 c
-leaders-apart held hole board bits k c is two more has apart = record {
-  may = λ r below at.
-      let many = leb-true k (count_of_rank (hole ++ board) r) (sym (has.at r below) ∙ at) in
-      let few = apart r in
-      record {
-        below = rank-within (hole ++ board) r (omega arith);
-        many = many;
-        most = omega arith;
-        rest = λ s differs. apart s;
-      };
-  room = λ r below at. le_trans (beside-all held hole board r is) more;
-  all = λ five ranks hand led.
-      let below = led.below in
-      let often = led.often in
-      let up = hand.most led.rank in
-      has.at led.rank (omega arith) ∙ le-leb k (count_of_rank (hole ++ board) led.rank) (omega arith);
-}
-
-pub leaders-alike : (held : HolePair) (hole board : List Card) (bits of_all rank k c : ℕ) → IsHolePair held hole board
-    → 2 ≤ k → 2 ≤ c → HasRanks of_all k (count_of_rank (hole ++ board)) → AreAlike hole rank
-    → ((r : ℕ) → has_rank bits r ≡ (has_rank of_all r && has_rank held.pair.twice.bits r))
-    → AreLeaders bits held hole board k 1 c
-leaders-alike held hole board bits of_all rank k c is two more has alike are = record {
-  may = λ r below at.
-      let parts = and_parts (has_rank of_all r) (has_rank held.pair.twice.bits r) (sym (are r) ∙ at) in
-      let many = leb-true k (count_of_rank (hole ++ board) r) (sym (has.at r below) ∙ parts.0) in
-      let twice = leb-true 2 (count_of_rank hole r) (sym (is.pair.of_twice.at r below) ∙ parts.1) in
-      let few = few-times hole r is.two in
-      let long = is.two in
-      record {
-        below = rank-within (hole ++ board) r (omega arith);
-        many = many;
-        most = omega arith;
-        rest = λ s differs. let all = two-ranks hole s r differs in omega arith;
-      };
-  room = λ r below at. le_trans (beside-all held hole board r is) more;
-  all = λ five ranks hand led.
-      let below = led.below in
-      let often = led.often in
-      let up = hand.most led.rank in
-      let least = hand.least rank in
-      let twice = alike.twice in
-      let same : rank ≡ led.rank = elim (led.only rank (omega arith)) [
-        | inl is_led ↦ is_led
-        | inr once ↦ absurd (omega arith)
-      ] in
-      let at : count_of_rank hole led.rank ≡ 2 = ap (count_of_rank hole) (sym same) ∙ twice in
-      are led.rank ∙ and_from (has_rank of_all led.rank) (has_rank held.pair.twice.bits led.rank)
-      (has.at led.rank (omega arith) ∙ le-leb k (count_of_rank (hole ++ board) led.rank) (omega arith))
-      (is.pair.of_twice.at led.rank (omega arith) ∙ le-leb 2 (count_of_rank hole led.rank) (omega arith));
-}
-
--- three of a kind and one pair, whether the hole cards have one rank or two
-pub leaders-led : (held : HolePair) (hole board : List Card) (ranks result : RankSet) (k c : ℕ)
-    → IsHolePair held hole board → 2 ≤ k → 2 ≤ c → HasRanks ranks.bits k (count_of_rank (hole ++ board))
-    → (ranks_of held.pair.twice.bits ≡ [] → result ≡ ranks)
-    → (1 ≤ length (ranks_of held.pair.twice.bits)
-    → (r : ℕ) → has_rank result.bits r ≡ (has_rank ranks.bits r && has_rank held.pair.twice.bits r))
-    → AreLeaders result.bits held hole board k 1 c
-leaders-led held hole board ranks result k c is two more has apart alike =
-    elim (ranks_of held.pair.twice.bits) as (λ rs. ranks_of held.pair.twice.bits ≡ rs
-    → AreLeaders result.bits held hole board k 1 c) [
-      | [] ↦ λ none. subst (λ (set : RankSet). AreLeaders set.bits held hole board k 1 c) (sym (apart none))
-          (leaders-apart held hole board ranks.bits k c is two more has (hole-apart held hole board is none))
-      | rank ∷ others ↦ λ are.
-          let long = ap length are in
-          let some : 1 ≤ length (ranks_of held.pair.twice.bits) = omega arith in
-          let at = hole-alike held hole board is some in
-          leaders-alike held hole board result.bits ranks.bits at.0 k c is two more has at.1 (alike some)
-    ] refl
-
--- a full house: three of a rank of the hole cards where they have two, and else of any
-pub leaders-full : (held : HolePair) (hole board : List Card) (bits : ℕ) → IsHolePair held hole board
-    → ((r : ℕ) → count_of_rank hole r ≤ 1)
-    → ((r : ℕ) → has_rank bits r ≡ (has_rank held.all.thrice.bits r && has_rank held.pair.once.bits r))
-    → AreLeaders bits held hole board 3 2 1
-leaders-full held hole board bits is apart are = record {
-  may = λ r below has.
-      let parts = and_parts (has_rank held.all.thrice.bits r) (has_rank held.pair.once.bits r) (sym (are r) ∙ has) in
-      let many = leb-true 3 (count_of_rank (hole ++ board) r) (sym (is.all.of_thrice.at r below) ∙ parts.0) in
-      let few = apart r in
-      record {
-        below = rank-within (hole ++ board) r (omega arith);
-        many = many;
-        most = omega arith;
-        rest = λ s differs. few-times hole s is.two;
-      };
-  room = λ r below has.
-      let parts = and_parts (has_rank held.all.thrice.bits r) (has_rank held.pair.once.bits r) (sym (are r) ∙ has) in
-      beside-few held hole board r is below
-      (leb-true 1 (count_of_rank hole r) (sym (is.pair.of_once.at r below) ∙ parts.1));
-  all = λ five ranks hand led.
-      let below = led.below in
-      let often = led.often in
-      let up = hand.most led.rank in
-      let other = pair_of five led.many in
-      let times = other.1 in
-      let both = hand.fewer led.rank other.0 (λ same. let at = ap (count_of_rank five) same in absurd (omega arith)) in
-      let few = apart other.0 in
-      are led.rank ∙ and_from (has_rank held.all.thrice.bits led.rank) (has_rank held.pair.once.bits led.rank)
-      (is.all.of_thrice.at led.rank (omega arith) ∙ le-leb 3 (count_of_rank (hole ++ board) led.rank) (omega arith))
-      (is.pair.of_once.at led.rank (omega arith) ∙ le-leb 1 (count_of_rank hole led.rank) (omega arith));
-}
+-- how many ranks two hole cards have at most
+few-hole : (bits : ℕ) (hole : List Card) → length hole ≤ 2 → HasRanks bits 1 (count_of_rank hole)
+    → length (falling (has_rank bits) 16) ≤ 2
+few-hole bits hole two has =
+    let count = count_of_rank hole in
+    let p = has_rank bits in
+    let nothing = other-rank hole 15 (inl (lit≤ tt)) in
+    let none : p 15 ≡ false = has.at 15 (lit≤ tt) ∙ ap (leb 1) nothing in
+    let same = ap length (falling-15 p none) in
+    let passing = total-passing p 15 in
+    let less = total-least (λ r. cond (p r) 1 0) count 15 (λ r within. each r within) in
+    let all = total-cards hole in
+    omega (arith, same, passing, less, all, two)
   where
-    pair_of : (five : List Card) → length (exactly five 2) ≡ 1 → (r : ℕ) × (count_of_rank five r ≡ 2)
-    pair_of five many =
-        (elim (exactly five 2) as (λ pairs. exactly five 2 ≡ pairs → length pairs ≡ 1
-        → (r : ℕ) × (count_of_rank five r ≡ 2)) [
-          | [] ↦ λ none one. absurd (omega arith)
-          | r ∷ more ↦ λ found one.
-              let leads = falling-leads (λ s. eqb (count_of_rank five s) 2) 15 r more found in
-              (r, eqb-true (count_of_rank five r) 2 leads.first.passes)
-        ]) refl many
+    each : (r : ℕ) → r < 15 → cond (has_rank bits r) 1 0 ≤ count_of_rank hole r
+    each r within = (elim (has_rank bits r) as (λ b. has_rank bits r ≡ b → cond b 1 0 ≤ count_of_rank hole r) [
+      | true ↦ λ is. leb-true 1 (count_of_rank hole r) (sym (has.at r (omega arith)) ∙ is)
+      | false ↦ λ is_not. omega arith
+    ]) refl
 
-pub leaders-full_alike : (held : HolePair) (hole board : List Card) (rank : ℕ) → IsHolePair held hole board
-    → AreAlike hole rank → AreLeaders held.all.thrice.bits held hole board 3 2 1
-leaders-full_alike held hole board rank is alike = record {
-  may = λ r below has.
-      let many = leb-true 3 (count_of_rank (hole ++ board) r) (sym (is.all.of_thrice.at r below) ∙ has) in
-      let few = few-times hole r is.two in
-      record {
-        below = rank-within (hole ++ board) r (omega arith);
-        many = many;
-        most = omega arith;
-        rest = λ s differs. few-times hole s is.two;
-      };
-  room = λ r below has.
-      let under = alike.below in
-      let one = ap length (falling-one 16 rank (omega arith)) in
-      let fewer = falling-fewer (λ s. has_rank held.pair.once.bits s && not (eqb s r)) (λ s. eqb s rank) 16
-      (λ s inside passes.
-      let some = leb-true 1 (count_of_rank hole s) (sym (is.pair.of_once.at s inside)
-      ∙ (and_parts (has_rank held.pair.once.bits s) (not (eqb s r)) passes).0) in
-      let same = alike-is hole rank s alike some in grind (arith, nat_tests)) in
-      omega (arith, one, fewer);
-  all = λ five ranks hand led.
-      let below = led.below in
-      let often = led.often in
-      let up = hand.most led.rank in
-      is.all.of_thrice.at led.rank (omega arith) ∙ le-leb 3 (count_of_rank (hole ++ board) led.rank) (omega arith);
+-- hole cards fit beside others where none of their ranks occurs more often
+pub hole-fits : (bits : ℕ) (hole : List Card) (j : ℕ) → HasRanks bits (j + 1) (count_of_rank hole)
+    → ranks_of bits ≡ [] → (r : ℕ) → count_of_rank hole r ≤ j
+hole-fits bits hole j has none r =
+    elim (leb (j + 1) (count_of_rank hole r)) as (λ b. leb (j + 1) (count_of_rank hole r) ≡ b
+    → count_of_rank hole r ≤ j) [
+      | false ↦ λ few. grind (arith, nat_tests)
+      | true ↦ λ more.
+          let many = leb-true (j + 1) (count_of_rank hole r) more in
+          let within = rank-within hole r (omega arith) in
+          let there : has_rank bits r ≡ true = has.at r (omega arith) ∙ more in
+          let fails = falling-none (has_rank bits) 16 r none (omega arith) in
+          absurd cc
+    ] refl
+
+-- a rank that hole cards have more often than the others occur has to lead
+pub lead-more : (bits : ℕ) (hole : List Card) (c j : ℕ) → length hole ≤ 2 → 1 ≤ j
+    → HasRanks bits (j + 1) (count_of_rank hole) → 1 ≤ length (ranks_of bits) → OneHasToLead bits hole c j
+lead-more bits hole c j few once has some = record {
+  enough = λ ranks one. elim one [
+    | inl none ↦ let empty = ap length none in absurd (omega arith)
+    | inr at ↦
+        let many = leb-true (j + 1) (count_of_rank hole at.0) (sym (has.at at.0 at.1) ∙ at.2) in
+        let nothing : (r : ℕ) → ranks r ≡ false → count_of_rank hole r ≡ 0 = λ r is_not.
+        let all = two-ranks hole r at.0 (λ same. let bad = sym (ap ranks same ∙ at.3) ∙ is_not in absurd cc) in
+        omega (arith, all, many, few, once) in
+        record {
+          few = λ r is_not. let none = nothing r is_not in omega arith;
+          room = let empty = ap length (falling-empty (λ r. leb 1 (count_of_rank hole r) && not (ranks r)) 16
+              (λ r below. either_way (leb 1 (count_of_rank hole r) && not (ranks r))
+              ((leb 1 (count_of_rank hole r) && not (ranks r)) ≡ false) (λ has_it.
+              let parts = both-are (leb 1 (count_of_rank hole r)) (ranks r) has_it in
+              let none = nothing r parts.1 in
+              let there = leb-true 1 (count_of_rank hole r) parts.0 in absurd (omega arith)) (λ fails. fails))) in
+              omega arith;
+        }
+  ];
+  needed = λ ranks leaves.
+      let at = some-rank bits some in
+      let many = leb-true (j + 1) (count_of_rank hole at.0) (sym (has.at at.0 at.1) ∙ at.2) in
+      inr (
+        at.0,
+        at.1,
+        at.2,
+        either_way (ranks at.0) (ranks at.0 ≡ true) (λ in_ranks. in_ranks) (λ not_in.
+            let room = leaves.few at.0 not_in in absurd (omega arith)),
+      );
 }
 
--- a full house, whether the hole cards have one rank or two
-pub leaders-house : (held : HolePair) (hole board : List Card) (result : RankSet) → IsHolePair held hole board
-    → (ranks_of held.pair.twice.bits ≡ []
-    → (r : ℕ) → has_rank result.bits r ≡ (has_rank held.all.thrice.bits r && has_rank held.pair.once.bits r))
-    → (1 ≤ length (ranks_of held.pair.twice.bits) → result ≡ held.all.thrice)
-    → AreLeaders result.bits held hole board 3 2 1
-leaders-house held hole board result is apart alike =
-    elim (ranks_of held.pair.twice.bits) as (λ rs. ranks_of held.pair.twice.bits ≡ rs
-    → AreLeaders result.bits held hole board 3 2 1) [
-      | [] ↦ λ none. leaders-full held hole board result.bits is (hole-apart held hole board is none) (apart none)
-      | rank ∷ others ↦ λ are.
-          let long = ap length are in
-          let some : 1 ≤ length (ranks_of held.pair.twice.bits) = omega arith in
-          let at = hole-alike held hole board is some in
-          subst (λ (set : RankSet). AreLeaders set.bits held hole board 3 2 1) (sym (alike some))
-          (leaders-full_alike held hole board at.0 is at.1)
-    ] refl
+-- a rank of the hole cards has to lead where they have more than there are others
+pub lead-once : (bits : ℕ) (hole : List Card) (c j : ℕ) → length hole ≤ 2 → HasRanks bits 1 (count_of_rank hole)
+    → 1 ≤ c → ((r : ℕ) → count_of_rank hole r ≤ j) → c < length (ranks_of bits) → OneHasToLead bits hole c j
+lead-once bits hole c j two is some fits more =
+    let p = has_rank bits in
+    let few = few-hole bits hole two is in
+    record {
+      enough = λ ranks has. elim has [
+        | inl none ↦ let empty = ap length none in absurd (omega arith)
+        | inr at ↦ record {
+          few = λ r is_not. fits r;
+          room =
+              let q : ℕ → Bool = λ r. p r && not (eqb r at.0) in
+              let change = falling-but_one p q at.0 16 at.1 (λ r apart. but_one-other (p r) r at.0 apart) in
+              let a : bit (p at.0) ≡ 1 = ap bit at.2 in
+              let b : bit (q at.0) ≡ 0 = ap bit (but_one-itself (p at.0) at.0) in
+              let fewer = falling-fewer (λ r. leb 1 (count_of_rank hole r) && not (ranks r)) q 16 (λ r below has_it.
+              let parts = both-are (leb 1 (count_of_rank hole r)) (ranks r) has_it in
+              and_from (p r) (not (eqb r at.0)) (is.at r below ∙ parts.0)
+              (either_way (eqb r at.0) (not (eqb r at.0) ≡ true) (λ same.
+              let bad = ap ranks (eqb-true r at.0 same) ∙ at.3 in let is_not = parts.1 in absurd cc)
+              (λ differs. ap not differs))) in
+              omega (arith, change, few, a, b, fewer, some);
+        }
+      ];
+      needed = λ ranks leaves.
+          let both : ℕ → Bool = λ r. leb 1 (count_of_rank hole r) && ranks r in
+          elim (falling both 16) as (λ rs. falling both 16 ≡ rs → HasOneOf bits ranks) [
+            | [] ↦ λ none.
+                let fewer = falling-fewer p (λ r. leb 1 (count_of_rank hole r) && not (ranks r)) 16 (λ r below has.
+                let there = sym (is.at r below) ∙ has in
+                and_from (leb 1 (count_of_rank hole r)) (not (ranks r)) there
+                (either_way (ranks r) (not (ranks r) ≡ true) (λ has_it.
+                let fails = falling-none both 16 r none below in
+                let passes = and_from (leb 1 (count_of_rank hole r)) (ranks r) there has_it in absurd cc)
+                (λ has_not. ap not has_not))) in
+                let room = leaves.room in
+                absurd (omega (arith, more, fewer, room))
+            | r ∷ rs ↦ λ are.
+                let leads = falling-leads both 16 r rs are in
+                let parts = and_parts (leb 1 (count_of_rank hole r)) (ranks r) leads.first.passes in
+                inr (
+                  r,
+                  leads.first.below,
+                  is.at r leads.first.below ∙ parts.0,
+                  parts.1,
+                )
+          ] refl;
+    }
+
+-- and else none has to
+pub lead-none : (once bits : ℕ) (hole : List Card) (c j : ℕ) → HasRanks once 1 (count_of_rank hole)
+    → ((r : ℕ) → count_of_rank hole r ≤ j) → length (ranks_of once) ≤ c → bits ≡ 0 → OneHasToLead bits hole c j
+lead-none once bits hole c j is fits few empty = record {
+  enough = λ ranks has. record {
+    few = λ r is_not. fits r;
+    room = le_trans (falling-fewer (λ r. leb 1 (count_of_rank hole r) && not (ranks r)) (has_rank once)
+        16 (λ r below has_it. is.at r below
+        ∙ (and_parts (leb 1 (count_of_rank hole r)) (not (ranks r)) has_it).0)) few;
+  };
+  needed = λ ranks leaves. inl (ranks-empty bits empty);
+}
+
+-- the greatest of some sets is the greatest of more, where each of those comes no later than one of these
+greatest-through : (result : Option RankSet) (A B : (ℕ → Bool) → Type 0) → IsGreatest result A
+    → ((ranks : ℕ → Bool) → A ranks → B ranks)
+    → ((ranks : ℕ → Bool) → B ranks
+    → (others : ℕ → Bool) × A others × Upto (falling ranks 16) (falling others 16)) → IsGreatest result B
+greatest-through result A B is also through = record {
+  are = λ set found. also (has_rank set.bits) (is.are set found);
+  greatest = λ set ranks found are.
+      let at = through ranks are in
+      max_upper (falling ranks 16) (falling (has_rank set.bits) 16)
+      (upto_through (falling ranks 16) (falling at.0 16) (falling (has_rank set.bits) 16) at.2
+      (upto-of (falling at.0 16) (falling (has_rank set.bits) 16) (is.greatest set at.0 found at.1)));
+  some = λ ranks are. let at = through ranks are in is.some at.0 at.1;
+}
+
+-- the greatest ranks lead where any may
+pub leaders-any : (hole board : List Card) (m k c j bits : ℕ) (from forced : RankSet) (found : Option RankSet)
+    → HasRanks from.bits k (count_of_rank (hole ++ board)) → OneHasToLead bits hole c j → ranks_of bits ≡ []
+    → forced.bits ≡ 0 → IsGreatestWith found (has_rank from.bits) (has_rank forced.bits) m
+    → IsGreatest found (MayLead hole board m k c j)
+leaders-any hole board m k c j bits from forced found has lead empty nothing greatest =
+    greatest-through found (AreSoMany (has_rank from.bits) (has_rank forced.bits) m) (MayLead hole board m k c j)
+    greatest.is
+    (λ ranks are. record {
+      within = λ r below is. leb-true k (count_of_rank (hole ++ board) r)
+          (sym (has.at r below) ∙ are.within r below is);
+      many = are.many;
+      leaves = lead.enough ranks (inl empty);
+    })
+    (λ ranks may. (
+      ranks,
+      record {
+        within = λ r below is. has.at r below ∙ le-leb k (count_of_rank (hole ++ board) r) (may.within r below is);
+        among = λ r below is.
+            let fails = falling-none (has_rank forced.bits) 16 r (ranks-empty forced.bits nothing) below in
+            absurd cc;
+        many = may.many;
+      },
+      upto_itself (falling ranks 16),
+    ))
+
+-- a lower rank gives way to the one that has to be there
+gives-way : (m first y : ℕ) (from forced : RankSet) (ranks : ℕ → Bool)
+    → ((r : ℕ) → has_rank forced.bits r ≡ eqb r first) → first < 16 → has_rank from.bits first ≡ true
+    → ((r : ℕ) → r < 16 → ranks r ≡ true → has_rank from.bits r ≡ true) → length (falling ranks 16) ≡ m → y < 16
+    → ranks y ≡ true → y ≤ first
+    → (others : ℕ → Bool) × AreSoMany (has_rank from.bits) (has_rank forced.bits) m others
+    × Upto (falling ranks 16) (falling others 16)
+gives-way m first y from forced ranks one below has_first inside many under in_ranks up =
+    either_way (ranks first) ((others : ℕ → Bool)
+    × AreSoMany (has_rank from.bits) (has_rank forced.bits) m others
+    × Upto (falling ranks 16) (falling others 16))
+    (λ there. (
+      ranks,
+      record {
+        within = inside;
+        among = λ r within is. subst (λ s. ranks s ≡ true) (sym (eqb-true r first (sym (one r) ∙ is))) there;
+        many = many;
+      },
+      upto_itself (falling ranks 16),
+    ))
+    (λ not_there.
+    let fewer : ℕ → Bool = λ r. ranks r && not (eqb r y) in
+    let others : ℕ → Bool = λ r. fewer r || eqb r first in
+    let apart : eqb first y ≡ false = either_way (eqb first y) (eqb first y ≡ false) (λ same.
+    let bad = ap ranks (eqb-true first y same) ∙ in_ranks in absurd cc) (λ differs. differs) in
+    let less = falling-but_one ranks fewer y 16 under (λ r differs. but_one-other (ranks r) r y differs) in
+    let more = falling-but_one fewer others first 16 below (λ r differs. or_other (fewer r) r differs) in
+    let a : bit (ranks y) ≡ 1 = ap bit in_ranks in
+    let b : bit (fewer y) ≡ 0 = ap bit (but_one-itself (ranks y) y) in
+    let d : bit (fewer first) ≡ 0 = ap (λ t. bit (t && not (eqb first y))) not_there in
+    let e : bit (others first) ≡ 1 = ap bit (or_itself (fewer first)) in
+    let count : length (falling others 16) ≡ m = omega (arith, less, more, a, b, d, e, many) in (
+      others,
+      record {
+        within = λ r within is. either_way (fewer r) (has_rank from.bits r ≡ true)
+            (λ kept. inside r within (both-are (ranks r) (eqb r y) kept).0)
+            (λ not_kept. subst (λ s. has_rank from.bits s ≡ true)
+            (sym (eqb-true r first (others_alone (fewer r) (eqb r first) is not_kept))) has_first);
+        among = λ r within is. or_right (fewer r) (sym (one r) ∙ is);
+        many = count;
+      },
+      falling-upto ranks others 16 (λ r q within inside_q in_r not_r in_q not_q.
+          lower (ranks r) (ranks q) r q in_r not_r in_q not_q apart) (omega (arith, count, many)),
+    ))
+  where
+    or_other : (b : Bool) (r : ℕ) → (r ≡ first → ⊥) → (b || eqb r first) ≡ b
+    or_other true r differs = refl
+    or_other false r differs = grind (arith, nat_tests)
+
+    or_itself : (b : Bool) → (b || eqb first first) ≡ true
+    or_itself true = refl
+    or_itself false = grind (arith, nat_tests)
+
+    or_right : (b : Bool) {t : Bool} → t ≡ true → (b || t) ≡ true
+    or_right true is = refl
+    or_right false is = is
+
+    lower : (in_r in_q : Bool) (r q : ℕ) → in_r ≡ true → ((in_r && not (eqb r y)) || eqb r first) ≡ false
+        → ((in_q && not (eqb q y)) || eqb q first) ≡ true → in_q ≡ false → eqb first y ≡ false → r < q
+    lower true false r q is fails passes is_not apart = grind (arith, nat_tests)
+    lower true true r q is fails passes is_not apart = absurd cc
+    lower false in_q r q is fails passes is_not apart = absurd cc
+
+-- where one of some has to, the greatest ranks with the highest of those
+pub leaders-with : (hole board : List Card) (m k c j bits first : ℕ) (from both forced : RankSet)
+    (found : Option RankSet) → HasRanks from.bits k (count_of_rank (hole ++ board)) → OneHasToLead bits hole c j
+    → 1 ≤ length (ranks_of bits) → ((r : ℕ) → has_rank both.bits r ≡ (has_rank from.bits r && has_rank bits r))
+    → highest_below (has_rank both.bits) 16 ≡ Some first → ((r : ℕ) → has_rank forced.bits r ≡ eqb r first)
+    → IsGreatestWith found (has_rank from.bits) (has_rank forced.bits) m
+    → IsGreatest found (MayLead hole board m k c j)
+leaders-with hole board m k c j bits first from both forced found has lead some meet top one greatest =
+    let high = highest-is (has_rank both.bits) 16 first top in
+    let parts = and_parts (has_rank from.bits first) (has_rank bits first) (sym (meet first) ∙ high.passes) in
+    let itself : eqb first first ≡ true = grind (arith, nat_tests) in
+    greatest-through found (AreSoMany (has_rank from.bits) (has_rank forced.bits) m) (MayLead hole board m k c j)
+    greatest.is
+    (λ ranks are. record {
+      within = λ r below is. leb-true k (count_of_rank (hole ++ board) r)
+          (sym (has.at r below) ∙ are.within r below is);
+      many = are.many;
+      leaves = lead.enough ranks (inr (
+        first,
+        high.below,
+        parts.1,
+        are.among first high.below (one first ∙ itself),
+      ));
+    })
+    (λ ranks may.
+    let inside : (r : ℕ) → r < 16 → ranks r ≡ true → has_rank from.bits r ≡ true = λ r below is.
+    has.at r below ∙ le-leb k (count_of_rank (hole ++ board) r) (may.within r below is) in
+    elim (lead.needed ranks may.leaves) [
+      | inl none ↦ let empty = ap length none in absurd (omega arith)
+      | inr at ↦
+          let up = high.above at.0 at.1 (meet at.0
+          ∙ and_from (has_rank from.bits at.0) (has_rank bits at.0) (inside at.0 at.1 at.3) at.2) in
+          gives-way m first at.0 from forced ranks one high.below parts.0 inside may.many at.1 at.3 up
+    ])
+
+-- and where none of those occurs as often, none lead
+pub leaders-none : (hole board : List Card) (m k c j bits : ℕ) (from both : RankSet) (found : Option RankSet)
+    → HasRanks from.bits k (count_of_rank (hole ++ board)) → OneHasToLead bits hole c j
+    → 1 ≤ length (ranks_of bits) → ((r : ℕ) → has_rank both.bits r ≡ (has_rank from.bits r && has_rank bits r))
+    → highest_below (has_rank both.bits) 16 ≡ None → found ≡ None → IsGreatest found (MayLead hole board m k c j)
+leaders-none hole board m k c j bits from both found has lead some meet none is_none =
+    subst (λ o. IsGreatest o (MayLead hole board m k c j)) (sym is_none)
+    (none-greatest (MayLead hole board m k c j) (λ ranks may. elim (lead.needed ranks may.leaves) [
+      | inl empty ↦ let length_none = ap length empty in absurd (omega arith)
+      | inr at ↦
+          let fails = highest-none (has_rank both.bits) 16 at.0 none at.1 in
+          let passes = meet at.0 ∙ and_from (has_rank from.bits at.0) (has_rank bits at.0)
+          (has.at at.0 at.1 ∙ le-leb k (count_of_rank (hole ++ board) at.0) (may.within at.0 at.1 at.3)) at.2 in
+          absurd cc
+    ]))

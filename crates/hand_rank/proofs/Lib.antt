@@ -5,10 +5,9 @@ pub mod Chosen
 pub mod CountLaws
 pub mod FiveLaws
 pub mod HandLaws
-pub mod HolePairLaws
+pub mod HeldLaws
 pub mod LeaderLaws
-pub mod LedLaws
-pub mod MadeLaws
+pub mod ShapedLaws
 pub mod NearLaws
 pub mod Needs
 pub mod OmahaLaws
@@ -25,4 +24,3 @@ pub mod SingleLaws
 pub mod SoManyLaws
 pub mod StraightLaws
 pub mod SuitLaws
-pub mod TwoLaws

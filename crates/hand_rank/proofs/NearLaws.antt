@@ -1,24 +1,17 @@
--- Runs that have two ranks in them.
-use Rattle.std.proofs.Common.{◌≡◌, ℕ, ◌+◌, ◌-◌, ◌<◌, ◌≤◌, ◌⊎◌, inl, inr, Bool, true, false, ◌&&◌, ◌||◌, not, eqb, leb, cond, List, [], ◌∷◌, length, Some, None, refl, sym, ap, ap₂, ◌∙◌, subst, eqb-true, eq-eqb, leb-true, le-leb, lit≤, arith}
+-- Runs into which hole cards fit.
+use Rattle.std.proofs.Common.{◌≡◌, ℕ, ◌+◌, ◌-◌, ◌<◌, ◌≤◌, inr, Bool, true, false, ◌&&◌, ◌||◌, not, eqb, leb, cond, List, [], refl, sym, ap, ◌∙◌, subst, eqb-true, le-leb, lit≤, zero-le, arith}
 use Rattle.std.specs.Prelude.{Option}
-use Rattle.std.proofs.lemmas.Bool.{and_from, and_left, not-false, not_from_true, or_right}
+use Rattle.std.proofs.lemmas.Bool.{and_from, and_left, and_parts, not_from_true, or_right}
+use Rattle.std.proofs.lemmas.Nat.Bits.{bit_at-zero}
 use Rattle.std.proofs.lemmas.Bool.Decides.{nat_tests}
 use Rattle.rulebook.proofs.Sides.{first_alone, others_alone}
 use Rattle.card_set.specs.declared.card.Card.{Card}
-use Rattle.hand_rank.specs.HolePair.{IsHighestRunWith}
-use Rattle.hand_rank.specs.Picks.{highest_below}
+use Rattle.hand_rank.specs.Held.{AreNear, IsHighestRunWith}
 use Rattle.hand_rank.specs.Runs.{holds_step, is_run, highest_run, is_in_run, is_near}
 use Rattle.hand_rank.specs.Sets.{has_rank, HasRanks}
 use Rattle.hand_rank.specs.Values.{count_of_rank}
-use Rattle.hand_rank.proofs.CardCounts.{other-rank, total-cards}
-use Rattle.hand_rank.proofs.CountLaws.{count_of_rank-cons}
-use Rattle.hand_rank.proofs.Needs.{Among, has-only, has-once}
-use Rattle.hand_rank.proofs.PickLaws.{Has, without-other, highest-is, highest-none}
 use Rattle.hand_rank.proofs.RunLaws.{occurring, run_parts, run_from, run-found, run-is}
 use Rattle.card_set.proofs.Computed.{all_below, holds_below}
-use Rattle.hand_rank.proofs.Sections.{total}
-use Rattle.hand_rank.proofs.ShapeLaws.{rank-within}
-use Rattle.hand_rank.proofs.SoManyLaws.{both-are}
 
 held_at : (p : ℕ → Bool) (step r : ℕ) → step ≡ r → 2 ≤ r → holds_step p step ≡ true → p r ≡ true
 held_at p step r is high holds =
@@ -117,105 +110,83 @@ near-run top rank other low high one two is also =
 pub in_run-below : (top r : ℕ) → top < 15 → is_in_run top r ≡ true → r < 15
 in_run-below top r high is = grind (arith, nat_tests)
 
--- two cards of two ranks
-pub record AreTwo (hole : List Card) (high low : ℕ) : Type 0 where
-  pub below_high : high < 15
-  pub below_low : low < 15
-  pub at_high : 1 ≤ count_of_rank hole high
-  pub at_low : 1 ≤ count_of_rank hole low
-  pub apart : (r : ℕ) → count_of_rank hole r ≤ 1
-  pub only : (r : ℕ) → 1 ≤ count_of_rank hole r → (r ≡ high) ⊎ (r ≡ low)
+-- with no hole cards all ranks may be in a run
+in_all : ℕ → ℕ → Bool
+in_all top rank = not (leb 5 top && is_in_run top rank) || has_rank 32764 rank
 
--- the two highest ranks of two cards are their ranks, where there are two
-pub are-two : (hole : List Card) (bits fewer high low : ℕ) → length hole ≡ 2 → HasRanks bits 1 (count_of_rank hole)
-    → highest_below (has_rank bits) 16 ≡ Some high
-    → ((r : ℕ) → r < 16 → has_rank fewer r ≡ (has_rank bits r && not (eqb r high)))
-    → highest_below (has_rank fewer) 16 ≡ Some low → AreTwo hole high low
-are-two hole bits fewer high low two has first without second =
-    let count = count_of_rank hole in
-    let one = highest-is (has_rank bits) 16 high first in
-    let other = highest-is (has_rank fewer) 16 low second in
-    let at_high = leb-true 1 (count high) (sym (has.at high one.below) ∙ one.passes) in
-    let parts = both-are (has_rank bits low) (eqb low high) (sym (without low other.below) ∙ other.passes) in
-    let at_low = leb-true 1 (count low) (sym (has.at low other.below) ∙ parts.0) in
-    let apart : low ≡ high → ⊥ = λ same. let bad : eqb low high ≡ true = grind (arith, nat_tests) in
-    let is_not = parts.1 in absurd cc in
-    let below_high = rank-within hole high at_high in
-    let below_low = rank-within hole low at_low in
-    let kept = without-other high low count apart in
-    let have : Has (1 ∷ 1 ∷ []) (high ∷ low ∷ []) count = (below_high, at_high, (below_low, omega arith, tt)) in
-    let sum : total count 15 ≡ 2 = total-cards hole ∙ two in
-    record {
-      below_high = below_high;
-      below_low = below_low;
-      at_high = at_high;
-      at_low = at_low;
-      apart = λ r. elim (leb 15 r) as (λ b. leb 15 r ≡ b → count r ≤ 1) [
-        | true ↦ λ far. let none = other-rank hole r (inl (leb-true 15 r far)) in omega arith
-        | false ↦ λ near. has-once (1 ∷ 1 ∷ []) (high ∷ low ∷ []) count r (lit≤ tt, lit≤ tt, (lit≤ tt, lit≤ tt, tt))
-            have
-            sum (grind (arith, nat_tests))
-      ] refl;
-      only = λ r some. one_of r high low
-          (has-only (1 ∷ 1 ∷ []) (high ∷ low ∷ []) count r have sum (rank-within hole r some) some);
-    }
-  where
-    one_of : (r a b : ℕ) → Among r (a ∷ b ∷ []) → (r ≡ a) ⊎ (r ≡ b)
-    one_of r a b (inl is) = inl is
-    one_of r a b (inr (inl is)) = inr is
-    one_of r a b (inr (inr none)) = absurd none
+all_in_all : all_below (λ top. all_below (in_all top) 15) 15 ≡ true
+unfolding all_below in_all
+all_in_all = refl
 
--- two cards of one rank, or of which there is no rank, have no two ranks
-pub none-two : (hole : List Card) (bits fewer high : ℕ) → length hole ≡ 2 → HasRanks bits 1 (count_of_rank hole)
-    → ((r : ℕ) → count_of_rank hole r ≤ 1)
-    → ((r : ℕ) → r < 16 → has_rank fewer r ≡ (has_rank bits r && not (eqb r high)))
-    → highest_below (has_rank fewer) 16 ≡ None → ⊥
-none-two [] bits fewer high two has apart without none = omega arith
-none-two (x ∷ []) bits fewer high two has apart without none = omega arith
-none-two (x ∷ y ∷ []) bits fewer high two has apart without none =
-    let first = count_of_rank-cons x (y ∷ []) in
-    let second = count_of_rank-cons y [] in
-    let up_x = x.up_to_ace in
-    let up_y = y.up_to_ace in
-    let gone : (r : ℕ) → r < 16 → 1 ≤ count_of_rank (x ∷ y ∷ []) r → eqb r high ≡ true = λ r below some.
-    not-false (eqb r high) (sym (without r below
-    ∙ ap (λ b. b && not (eqb r high)) (has.at r below ∙ le-leb 1 (count_of_rank (x ∷ y ∷ []) r) some))
-    ∙ highest-none (has_rank fewer) 16 r none below) in
-    let at_x = first x.rank in
-    let at_y = first y.rank in
-    let same_x : eqb x.rank x.rank ≡ true = eq-eqb x.rank x.rank refl in
-    let same_y : eqb y.rank y.rank ≡ true = eq-eqb y.rank y.rank refl in
-    let is_x : 1 ≤ count_of_rank (x ∷ y ∷ []) x.rank = rw (at_x, same_x) (omega arith) in
-    let is_y : 1 ≤ count_of_rank (x ∷ y ∷ []) y.rank = rw (at_y, second y.rank, same_y) (omega arith) in
-    let one = gone x.rank (omega arith) is_x in
-    let other = gone y.rank (omega arith) is_y in
-    let alike : eqb y.rank x.rank ≡ true = grind (arith, nat_tests) in
-    let few = apart x.rank in
-    let at = at_x ∙ ap (λ n. cond (eqb x.rank x.rank) 1 0 + n) (second x.rank) in
-    let all : count_of_rank (x ∷ y ∷ []) x.rank ≡ 1 + (1 + 0) = at ∙ rw (same_x, alike) refl in
-    omega arith
-none-two (x ∷ y ∷ z ∷ others) bits fewer high two has apart without none = omega arith
+pub near-all : AreNear 32764 []
+unfolding in_all
+near-all = record {
+  fits = λ top low high all. record { apart = λ r. zero-le; among = λ r some. absurd (omega arith) };
+  near = λ top rank low high fit is.
+      let at = holds_below (in_all top) 15 rank
+      (holds_below (λ top. all_below (in_all top) 15) 15 top all_in_all high) (in_run-below top rank high is) in
+      others_alone (not (leb 5 top && is_in_run top rank)) (has_rank 32764 rank) at
+      (not_from_true _ (and_from _ _ (le-leb 5 top low) is));
+}
 
--- the ranks that are near both
-both_near : ℕ → ℕ → ℕ → Bool
-both_near high low r = is_near high r && is_near low r
+-- where two hole cards have one rank, they fit into no run
+pub near-none : (rank bits : ℕ) (hole : List Card)
+    → ((r : ℕ) → count_of_rank hole r ≡ cond (eqb rank r) 1 0 + cond (eqb rank r) 1 0) → bits ≡ 0 → AreNear bits hole
+near-none rank bits hole counts empty = record {
+  fits = λ top low high all.
+      let none : has_rank bits top ≡ false = ap (λ n. has_rank n top) empty ∙ ap (λ b. eqb b 1) (bit_at-zero top) in
+      let has = all top (in_run top top (omega arith) (omega arith) (omega arith)) in
+      absurd cc;
+  near = λ top r low high fit is.
+      let itself : eqb rank rank ≡ true = grind (arith, nat_tests) in
+      let twice : count_of_rank hole rank ≡ 1 + 1 = counts rank ∙ rw itself refl in
+      let few = fit.apart rank in
+      absurd (omega arith);
+}
 
--- the highest run of the ranks near both is the highest run with both
-pub run-with : (hole : List Card) (count : ℕ → ℕ) (bits near fewer high low : ℕ) (result : Option ℕ)
-    → AreTwo hole high low
+-- where they have two, those ranks are near both
+pub near-both : (one other bits : ℕ) (hole : List Card) → one < 15 → other < 15 → eqb one other ≡ false
+    → ((r : ℕ) → count_of_rank hole r ≡ cond (eqb one r) 1 0 + cond (eqb other r) 1 0)
+    → ((r : ℕ) → r < 16 → has_rank bits r ≡ (is_near one r && is_near other r)) → AreNear bits hole
+near-both one other bits hole below_one below_other apart counts are = record {
+  fits = λ top low high all.
+      let parts : (r : ℕ) → is_in_run top r ≡ true → (is_near one r ≡ true) × (is_near other r ≡ true) =
+      λ r is. let below = in_run-below top r high is in
+      and_parts (is_near one r) (is_near other r) (sym (are r (omega arith)) ∙ all r is) in
+      let of_one = run-near top one low high below_one (in-run (is_near one) top low (λ r is. (parts r is).0)) in
+      let of_other = run-near top other low high below_other
+      (in-run (is_near other) top low (λ r is. (parts r is).1)) in
+      record {
+        apart = λ r. let at = counts r in grind (arith, nat_tests);
+        among = λ r some. elim (eqb one r) as (λ b. eqb one r ≡ b → is_in_run top r ≡ true) [
+          | true ↦ λ same. subst (λ s. is_in_run top s ≡ true) (eqb-true one r same) of_one
+          | false ↦ λ not_one.
+              let at = counts r in
+              let same : other ≡ r = grind (arith, nat_tests) in
+              subst (λ s. is_in_run top s ≡ true) same of_other
+        ] refl;
+      };
+  near = λ top r low high fit is.
+      let below = in_run-below top r high is in
+      let at_one = counts one in
+      let at_other = counts other in
+      are r (omega arith) ∙ and_from (is_near one r) (is_near other r)
+      (near-run top one r low high below_one below (fit.among one (grind (arith, nat_tests))) is)
+      (near-run top other r low high below_other below (fit.among other (grind (arith, nat_tests))) is);
+}
+
+-- the highest run of the ranks that may run with the hole cards is the highest with them
+pub run-with : (hole : List Card) (count : ℕ → ℕ) (bits near fewer : ℕ) (result : Option ℕ) → AreNear near hole
     → HasRanks bits 1 count
-    → ((r : ℕ) → r < 16 → has_rank near r ≡ (is_near high r && is_near low r))
     → ((r : ℕ) → has_rank fewer r ≡ (has_rank bits r && has_rank near r))
     → ((count : ℕ → ℕ) → HasRanks fewer 1 count → result ≡ highest_run (λ rank. leb 1 (count rank)))
     → IsHighestRunWith result count hole
-unfolding both_near
-run-with hole count bits near fewer high low result two has are meet top =
-    let some : ℕ → ℕ = λ r. cond (both_near high low r) (count r) 0 in
+run-with hole count bits near fewer result are has meet top =
+    let some : ℕ → ℕ = λ r. cond (has_rank near r) (count r) 0 in
     let has_some : HasRanks fewer 1 some = record {
       some = lit≤ tt;
-      at = λ r below. meet r ∙ ap₂ (λ a b. a && b) (has.at r below) (are r below)
-          ∙ kept (both_near high low r) (count r);
-      only = λ r out. none (both_near high low r) (count r) (has.only r out);
+      at = λ r below. meet r ∙ ap (λ a. a && has_rank near r) (has.at r below) ∙ kept (has_rank near r) (count r);
+      only = λ r out. none (has_rank near r) (count r) (has.only r out);
     } in
     let found = top some has_some in
     let not_one : leb 1 (count 1) ≡ false = ap (leb 1) (has.only 1 (inr (lit≤ tt))) in
@@ -223,30 +194,17 @@ run-with hole count bits near fewer high low result two has are meet top =
     record {
       is = λ best is.
           let run = run-is (occurring some) best (sym found ∙ is) in
-          let inside : (r : ℕ) → is_in_run best r ≡ true → leb 1 (some r) ≡ true =
-          λ r at. run-in (occurring some) best r not_some run.runs at in
-          let low_best = run.low in
-          let in_high = run-near best high run.low run.high two.below_high (in-run (is_near high) best run.low
-          (λ r at. (parts (is_near high r) (is_near low r) (count r) (inside r at)).0)) in
-          let in_low = run-near best low run.low run.high two.below_low (in-run (is_near low) best run.low
-          (λ r at. (parts (is_near high r) (is_near low r) (count r) (inside r at)).1)) in
+          let inside : (r : ℕ) → is_in_run best r ≡ true → (has_rank near r ≡ true) × (leb 1 (count r) ≡ true) =
+          λ r at. parts (has_rank near r) (count r) (run-in (occurring some) best r not_some run.runs at) in
           record {
             low = run.low;
             high = run.high;
-            runs = in-run (occurring count) best run.low
-                (λ r at. (parts (is_near high r) (is_near low r) (count r) (inside r at)).2);
-            apart = two.apart;
-            among = λ r at. elim (two.only r at) [
-              | inl same ↦ subst (λ s. is_in_run best s ≡ true) (sym same) in_high
-              | inr same ↦ subst (λ s. is_in_run best s ≡ true) (sym same) in_low
-            ];
+            runs = in-run (occurring count) best run.low (λ r at. (inside r at).1);
+            fits = are.fits best run.low run.high (λ r at. (inside r at).0);
           };
       others = λ other is.
           let runs = in-run (occurring some) other is.low (λ r at.
-          let below = in_run-below other r is.high at in
-          all (is_near high r) (is_near low r) (count r)
-          (near-run other high r is.low is.high two.below_high below (is.among high two.at_high) at)
-          (near-run other low r is.low is.high two.below_low below (is.among low two.at_low) at)
+          all (has_rank near r) (count r) (are.near other r is.low is.high is.fits at)
           (run-in (occurring count) other r not_one is.runs at)) in
           let at = run-found (occurring some) other is.low is.high runs in
           (at.0, found ∙ at.1, at.2);
@@ -260,34 +218,10 @@ run-with hole count bits near fewer high low result two has are meet top =
     none true n is = is
     none false n is = refl
 
-    parts : (a b : Bool) (n : ℕ) → leb 1 (cond (a && b) n 0) ≡ true → (a ≡ true) × (b ≡ true) × (leb 1 n ≡ true)
-    parts true true n is = (refl, refl, is)
-    parts true false n is = absurd (let bad : leb 1 0 ≡ true = is in let fails : leb 1 0 ≡ false = refl in cc)
-    parts false b n is = absurd (let bad : leb 1 0 ≡ true = is in let fails : leb 1 0 ≡ false = refl in cc)
+    parts : (b : Bool) (n : ℕ) → leb 1 (cond b n 0) ≡ true → (b ≡ true) × (leb 1 n ≡ true)
+    parts true n is = (refl, is)
+    parts false n is = absurd (let bad : leb 1 0 ≡ true = is in let fails : leb 1 0 ≡ false = refl in cc)
 
-    all : (a b : Bool) (n : ℕ) → a ≡ true → b ≡ true → leb 1 n ≡ true → leb 1 (cond (a && b) n 0) ≡ true
-    all true true n p q is = is
-    all true false n p q is = absurd cc
-    all false b n p q is = absurd cc
-
--- where two cards have no two ranks, none runs with both
-pub run-none : (hole : List Card) (count : ℕ → ℕ) (result : Option ℕ) → result ≡ None
-    → (((r : ℕ) → count_of_rank hole r ≤ 1) → ⊥) → IsHighestRunWith result count hole
-run-none hole count result none cannot = record {
-  is = λ top is. let bad : None ≡ Some top = sym none ∙ is in absurd cc;
-  others = λ top is. absurd (cannot is.apart);
-}
-
--- of two cards there is a rank
-pub none-one : (hole : List Card) (bits : ℕ) → length hole ≡ 2 → HasRanks bits 1 (count_of_rank hole)
-    → highest_below (has_rank bits) 16 ≡ None → ⊥
-none-one [] bits two has none = omega arith
-none-one (x ∷ hole) bits two has none =
-    let top = x.up_to_ace in
-    let itself : eqb x.rank x.rank ≡ true = grind (arith, nat_tests) in
-    let all : count_of_rank (x ∷ hole) x.rank ≡ 1 + count_of_rank hole x.rank = count_of_rank-cons x hole x.rank
-    ∙ ap (λ b. cond b 1 0 + count_of_rank hole x.rank) itself in
-    let fails = sym (has.at x.rank (omega arith)) ∙ highest-none (has_rank bits) 16 x.rank none (omega arith) in
-    let is : leb 1 (count_of_rank (x ∷ hole) x.rank) ≡ true =
-    le-leb 1 (count_of_rank (x ∷ hole) x.rank) (omega arith) in
-    absurd cc
+    all : (b : Bool) (n : ℕ) → b ≡ true → leb 1 n ≡ true → leb 1 (cond b n 0) ≡ true
+    all true n p is = is
+    all false n p is = absurd cc

@@ -3,7 +3,7 @@ use Rattle.std.proofs.Common.{◌≡◌, ℕ, zero, suc, ◌<◌, inl, inr, ◌&
 use Rattle.std.specs.Prelude.{map}
 use Rattle.card_set.specs.declared.card.Card.{Card}
 use Rattle.card_choices.specs.Choices.{choices}
-use Rattle.hand_rank.specs.Made.{AreOnce}
+use Rattle.hand_rank.specs.Cards.{AreOnce}
 use Rattle.hand_rank.proofs.Chosen.{IsChoice, count-choice, skip}
 
 -- so many of a list are a choice of it

@@ -3,10 +3,10 @@ use Rattle.std.proofs.Common.{◌≡◌, ℕ, ◌-◌, ◌<◌, ◌≤◌, ◌�
 use Rattle.std.specs.Cmp.Lexicographic.{pointwise}
 use Rattle.std.proofs.lemmas.Bool.{and_from, and_parts, or_cases, or_left, or_right}
 use Rattle.std.proofs.lemmas.Bool.Decides.{nat_tests}
-use Rattle.hand_rank.specs.Picks.{highest_below, without, picked}
+use Rattle.hand_rank.specs.Picks.{highest_below, without}
 use Rattle.hand_rank.specs.Runs.{holds_step, is_run, highest_run}
 use Rattle.hand_rank.specs.Values.{run_top}
-use Rattle.hand_rank.proofs.PickLaws.{IsHighest, highest-is, highest-none, Has, without-other, without-less, without-some, picked-begins}
+use Rattle.hand_rank.proofs.PickLaws.{highest-is, highest-none, Has, without-other}
 use Rattle.hand_rank.proofs.Needs.{Among}
 
 -- a test passes wherever another does
@@ -179,66 +179,6 @@ pub record AreFive (count : ℕ → ℕ) (ranks : List ℕ) : Type 0 where
   pub has_c : 1 ≤ count c
   pub has_d : 1 ≤ count d
   pub has_e : 1 ≤ count e
-
--- what is left without the highest rank is lower
-next-lower : (count : ℕ → ℕ) (rank r : ℕ) → IsHighest (λ s. leb 1 (count s)) 15 rank → r < 15 → 1 ≤ without rank count r
-    → (r < rank) × (1 ≤ count r)
-next-lower count rank r high within some =
-    let apart = without-some rank r count some in
-    let less = without-less rank r count in
-    let up = high.above r within (le-leb 1 (count r) (omega arith)) in
-    (omega arith, omega arith)
-
--- the five ranks that are picked where each must occur once do occur, and each is lower than the one before
-pub picked-five : (count : ℕ → ℕ) (ranks : List ℕ) → picked (1 ∷ 1 ∷ 1 ∷ 1 ∷ 1 ∷ []) count ≡ Some ranks
-    → AreFive count ranks
-unfolding picked
-picked-five count ranks is =
-    let one = picked-begins 1 (1 ∷ 1 ∷ 1 ∷ 1 ∷ []) count ranks is in
-    let count1 = without one.rank count in
-    let two = picked-begins 1 (1 ∷ 1 ∷ 1 ∷ []) count1 one.ranks one.others in
-    let count2 = without two.rank count1 in
-    let three = picked-begins 1 (1 ∷ 1 ∷ []) count2 two.ranks two.others in
-    let count3 = without three.rank count2 in
-    let four = picked-begins 1 (1 ∷ []) count3 three.ranks three.others in
-    let count4 = without four.rank count3 in
-    let five = picked-begins 1 [] count4 four.ranks four.others in
-    let last : five.ranks ≡ [] = let none : Some [] ≡ Some five.ranks = five.others in cc in
-    let e4 = next-lower count3 four.rank five.rank four.first five.first.below
-    (leb-true 1 (count4 five.rank) five.first.passes) in
-    let e3 = next-lower count2 three.rank five.rank three.first five.first.below e4.1 in
-    let e2 = next-lower count1 two.rank five.rank two.first five.first.below e3.1 in
-    let e1 = next-lower count one.rank five.rank one.first five.first.below e2.1 in
-    let d3 = next-lower count2 three.rank four.rank three.first four.first.below
-    (leb-true 1 (count3 four.rank) four.first.passes) in
-    let d2 = next-lower count1 two.rank four.rank two.first four.first.below d3.1 in
-    let d1 = next-lower count one.rank four.rank one.first four.first.below d2.1 in
-    let c2 = next-lower count1 two.rank three.rank two.first three.first.below
-    (leb-true 1 (count2 three.rank) three.first.passes) in
-    let c1 = next-lower count one.rank three.rank one.first three.first.below c2.1 in
-    let b1 = next-lower count one.rank two.rank one.first two.first.below
-    (leb-true 1 (count1 two.rank) two.first.passes) in
-    record {
-      a = one.rank;
-      b = two.rank;
-      c = three.rank;
-      d = four.rank;
-      e = five.rank;
-      are = one.whole ∙ ap (λ rs. one.rank ∷ rs) (two.whole
-          ∙ ap (λ rs. two.rank ∷ rs) (three.whole
-          ∙ ap (λ rs. three.rank ∷ rs) (four.whole
-          ∙ ap (λ rs. four.rank ∷ rs) (five.whole ∙ ap (λ rs. five.rank ∷ rs) last))));
-      top = one.first.below;
-      ab = b1.0;
-      bc = c2.0;
-      cd = d3.0;
-      de = e4.0;
-      has_a = leb-true 1 (count one.rank) one.first.passes;
-      has_b = b1.1;
-      has_c = c1.1;
-      has_d = d1.1;
-      has_e = e1.1;
-    }
 
 -- the ace and the ranks from the five down
 is_wheel : (a b c d e : ℕ) → Bool

@@ -1,11 +1,10 @@
 -- The ranks by how often they occur are the ranks that are picked for these numbers.
-use Rattle.std.proofs.Common.{◌≡◌, ℕ, zero, suc, ◌+◌, ◌<◌, ◌≤◌, ◌⊎◌, inl, inr, Bool, true, false, cond, eqb, leb, List, [], ◌∷◌, ◌++◌, Some, refl, sym, ap, ap₂, ◌∙◌, subst, le_refl, le_trans, eqb-true, eq-eqb, leb-true, le-leb, arith}
+use Rattle.std.proofs.Common.{◌≡◌, ℕ, zero, suc, ◌+◌, ◌<◌, ◌≤◌, ◌⊎◌, inl, inr, Bool, true, false, cond, eqb, List, [], ◌∷◌, ◌++◌, refl, sym, ap, ap₂, ◌∙◌, subst, le_trans, eqb-true, eq-eqb, arith}
 use Rattle.std.specs.Prelude.{map}
 use Rattle.std.proofs.lemmas.Bool.Decides.{nat_tests}
-use Rattle.card_choices.proofs.ListOrder.{Upto}
-use Rattle.hand_rank.specs.Picks.{without, picked}
+use Rattle.hand_rank.specs.Picks.{without}
 use Rattle.hand_rank.specs.RankedHand.{falling}
-use Rattle.hand_rank.proofs.PickLaws.{IsHighest, Has, Falls, without-other, without-less, without-some, picked-from, behind-highest}
+use Rattle.hand_rank.proofs.PickLaws.{IsHighest, Falls, without-other, without-less, without-some}
 
 -- two tests that agree below a bound list the same numbers from the highest down
 pub falling-same : (test other : ℕ → Bool) (n : ℕ) → ((r : ℕ) → r < n → test r ≡ other r)
@@ -182,15 +181,6 @@ sections-heads (suc times) count rank ranks few is =
           | false ↦ λ apart. refl
         ] refl
 
-heads-highest : (times : ℕ) (count : ℕ → ℕ) (rank : ℕ) (ranks : List ℕ) → Heads times count rank ranks
-    → IsHighest (λ r. leb (count rank) (count r)) 15 rank
-heads-highest times count rank ranks heads = record {
-  passes = le-leb (count rank) (count rank) (le_refl (count rank));
-  below = heads.below;
-  above = λ r within there. let all = heads.most r within in let least = leb-true (count rank) (count r) there in
-      heads.high r within (omega arith);
-}
-
 without-few : (rank times : ℕ) (count : ℕ → ℕ) → ((r : ℕ) → r < 15 → count r ≤ times) → (r : ℕ) → r < 15
     → without rank count r ≤ times
 without-few rank times count few r within = le_trans (without-less rank r count) (few r within)
@@ -231,17 +221,6 @@ others-same times count rank ranks few heads =
     occur-same rank ranks count
     (sections-occur times ranks (without rank count) (without-few rank times count few) heads.others)
 
--- the sections are picked for how often their ranks occur
-pub sections-picked : (times : ℕ) (ranks : List ℕ) (count : ℕ → ℕ) → ((r : ℕ) → r < 15 → count r ≤ times)
-    → sections times count ≡ ranks → picked (map count ranks) count ≡ Some ranks
-unfolding picked
-sections-picked times [] count few is = refl
-sections-picked times (rank ∷ ranks) count few is =
-    let heads = sections-heads times count rank ranks few is in
-    let later = sections-picked times ranks (without rank count) (without-few rank times count few) heads.others in
-    picked-from (count rank) (map count ranks) count rank ranks (heads-highest times count rank ranks heads)
-    (ap (λ often. picked often (without rank count)) (sym (others-same times count rank ranks few heads)) ∙ later)
-
 -- how often the ranks of the sections occur, falls
 pub sections-fall : (times most : ℕ) (ranks : List ℕ) (count : ℕ → ℕ) → ((r : ℕ) → r < 15 → count r ≤ times)
     → ((r : ℕ) → r < 15 → count r ≤ most) → sections times count ≡ ranks → Falls most (map count ranks)
@@ -255,35 +234,6 @@ sections-fall times most (rank ∷ ranks) count few within is =
       subst (λ often. Falls (count rank) often)
           (others-same times count rank ranks few heads) later,
     )
-
--- no ranks occur more often, in the order of how often they occur
-pub sections-greatest : (times most : ℕ) (often ranks sorted : List ℕ) (count : ℕ → ℕ)
-    → ((r : ℕ) → r < 15 → count r ≤ times) → Falls most often → Has often ranks count → sections times count ≡ sorted
-    → Upto often (map count sorted)
-sections-greatest times most [] ranks sorted count few falls has is = tt
-sections-greatest times most (often ∷ more) [] sorted count few falls has is = absurd has
-sections-greatest times most (often ∷ more) (rank ∷ ranks) [] count few falls has is =
-    let none = sections-none times count rank few is has.0 in
-    let some = has.1 in
-    let least = falls.0 in
-    absurd (omega arith)
-sections-greatest times most (often ∷ more) (rank ∷ ranks) (first ∷ sorted) count few falls has is =
-    let heads = sections-heads times count first sorted few is in
-    let up = heads.most rank has.0 in
-    let some = has.1 in
-    elim (eqb often (count first)) as (λ b. eqb often (count first) ≡ b
-    → Upto (often ∷ more) (count first ∷ map count sorted)) [
-      | true ↦ λ same.
-          let all = behind-highest often more rank ranks count first falls.2 has in
-          let later = sections-greatest times often more all.0 sorted (without first count)
-          (without-few first times count few) falls.2 all.1 heads.others in
-          inr (
-            eqb-true often (count first) same,
-            subst (λ behind. Upto more behind)
-                (others-same times count first sorted few heads) later,
-          )
-      | false ↦ λ apart. inl (grind (arith, nat_tests))
-    ] refl
 
 -- the sum of a function below a bound
 unfoldable pub total : (ℕ → ℕ) → ℕ → ℕ

@@ -1,5 +1,5 @@
 -- Sets of as many ranks compare as numbers as their lists of ranks do.
-use Rattle.std.proofs.Common.{◌≡◌, ℕ, zero, suc, ◌+◌, ◌*◌, ◌%◌, ◌^◌, ◌<◌, ◌-◌, ◌≤◌, ◌⊎◌, inl, inr, Bool, true, false, ◌&&◌, not, eqb, ltb, cond, List, [], ◌∷◌, ◌++◌, length, refl, sym, ap, ◌∙◌, subst, eqb-true, pow-suc, append_assoc, append-nil, length-append, arith}
+use Rattle.std.proofs.Common.{◌≡◌, ℕ, zero, suc, ◌+◌, ◌*◌, ◌%◌, ◌^◌, ◌<◌, ◌-◌, ◌≤◌, ◌⊎◌, inl, inr, Bool, true, false, ◌&&◌, not, eqb, ltb, cond, List, [], ◌∷◌, ◌++◌, length, refl, sym, ap, ◌∙◌, subst, eqb-true, pow-suc, arith}
 use Rattle.std.specs.Prelude.{bit_and, count_ones}
 use Rattle.std.specs.Int.{bit_at, bit_not, w16}
 use Rattle.std.specs.Int.Count.{count_leading_zeros}
@@ -234,51 +234,3 @@ many-falling test (suc n) =
 -- a set has as many ones among its bits as there are ranks in its list
 pub ranks-counted : (bits : ℕ) → bits < 2 ^ 16 → count_ones bits ≡ length (ranks_of bits)
 ranks-counted bits fits = ones_counted 16 bits fits ∙ sym (many-falling (has_rank bits) 16)
-
--- the ranks of a set written one by one
-next_rank : (i : ℕ) → i < 16 → (16 - i ≡ suc (15 - i)) × (16 - (i + 1) ≡ 15 - i)
-next_rank i within = (omega arith, omega arith)
-
-taken : (test : ℕ → Bool) (n : ℕ) → test n ≡ true → falling test (suc n) ≡ n ∷ falling test n
-unfolding falling
-taken test n is = rw is refl
-
-passed : (test : ℕ → Bool) (n : ℕ) → test n ≡ false → falling test (suc n) ≡ falling test n
-unfolding falling
-passed test n is = rw is refl
-
--- a rank that passes the test is written behind the others, and with those still to come they are all as before
-pub rank-written : (test : ℕ → Bool) (numbers all : List ℕ) (i : ℕ) → i < 16 → test (15 - i) ≡ true
-    → numbers ++ falling test (16 - i) ≡ all → (numbers ++ (15 - i) ∷ []) ++ falling test (16 - (i + 1)) ≡ all
-rank-written test numbers all i within is so_far =
-    let step = next_rank i within in
-    ap (λ n. (numbers ++ (15 - i) ∷ []) ++ falling test n) step.1
-    ∙ append_assoc numbers ((15 - i) ∷ []) (falling test (15 - i))
-    ∙ ap (λ rs. numbers ++ rs) (sym (taken test (15 - i) is) ∙ ap (falling test) (sym step.0))
-    ∙ so_far
-
--- a rank that fails the test is passed over, and those written and those still to come are all as before
-pub rank-passed : (test : ℕ → Bool) (numbers all : List ℕ) (i : ℕ) → i < 16 → test (15 - i) ≡ false
-    → numbers ++ falling test (16 - i) ≡ all → numbers ++ falling test (16 - (i + 1)) ≡ all
-rank-passed test numbers all i within is so_far =
-    let step = next_rank i within in
-    ap (λ n. numbers ++ falling test n) step.1
-    ∙ ap (λ rs. numbers ++ rs) (sym (passed test (15 - i) is) ∙ ap (falling test) (sym step.0))
-    ∙ so_far
-
--- where a rank is still to be written, those written so far are fewer than all
-pub rank-room : (test : ℕ → Bool) (numbers all : List ℕ) (i : ℕ) → i < 16 → test (15 - i) ≡ true
-    → numbers ++ falling test (16 - i) ≡ all → length numbers < length all
-rank-room test numbers all i within is so_far =
-    let after = ap length (rank-written test numbers all i within is so_far) in
-    let one = length-append (numbers ++ (15 - i) ∷ []) (falling test (16 - (i + 1))) in
-    let two = length-append numbers ((15 - i) ∷ []) in
-    omega arith
-
--- when all sixteen ranks have been looked at, those written are all
-pub ranks-written : (test : ℕ → Bool) (numbers all : List ℕ) (i : ℕ) → 16 ≤ i → numbers ++ falling test (16 - i) ≡ all
-    → numbers ≡ all
-unfolding falling
-ranks-written test numbers all i end so_far =
-    let none : 16 - i ≡ 0 = omega arith in
-    sym (append-nil numbers) ∙ ap (λ n. numbers ++ falling test n) (sym none) ∙ so_far

@@ -8,11 +8,12 @@ use Rattle.rulebook.proofs.Sides.{others_alone, others_fail}
 use Rattle.card_choices.proofs.ListOrder.{Upto, max_upper}
 use Rattle.hand_rank.specs.declared.rank_set.RankSet.{RankSet}
 use Rattle.hand_rank.specs.BestHigh.{greater}
+use Rattle.hand_rank.specs.Picks.{highest_below}
 use Rattle.hand_rank.specs.Sets.{has_rank}
 use Rattle.hand_rank.specs.RankedHand.{falling, ranks_of}
-use Rattle.hand_rank.specs.SoMany.{AreSoMany, IsGreatestWith}
-use Rattle.hand_rank.proofs.PickLaws.{IsHighest}
-use Rattle.hand_rank.proofs.Sections.{falling-same, falling-leads}
+use Rattle.hand_rank.specs.SoMany.{AreSoMany, IsGreatest, IsGreatestWith}
+use Rattle.hand_rank.proofs.PickLaws.{IsHighest, highest-is, highest-none}
+use Rattle.hand_rank.proofs.Sections.{falling-same, falling-leads, falling-none, falling-empty}
 use Rattle.hand_rank.proofs.SetOrder.{falling-before, before-upto}
 
 -- 1 where a test passes
@@ -205,21 +206,24 @@ pub taken-greatest : (set : RankSet) (from forced free : ℕ → Bool) (count mo
     → AreTaken from forced (has_rank set.bits) free more → length (falling forced 16) + more ≡ count
     → IsGreatestWith (Some set) from forced count
 taken-greatest set from forced free count more taken sum = record {
-  are = λ other is. subst (λ (s : RankSet). AreSoMany (has_rank s.bits) from forced count) (same_Some set other is)
-      (record {
-        within = taken.within;
-        among = taken.among;
-        many = taken.many ∙ sum;
-      });
-  greatest = λ other ranks is are. subst (λ (s : RankSet). max_is (falling ranks 16) (falling (has_rank s.bits) 16))
-      (same_Some set other is) (upper ranks are);
-  some = λ inside low high. (set, refl);
+  is = record {
+    are = λ other is. subst (λ (s : RankSet). AreSoMany from forced count (has_rank s.bits)) (same_Some set other is)
+        (record {
+          within = taken.within;
+          among = taken.among;
+          many = taken.many ∙ sum;
+        });
+    greatest = λ other ranks is are. subst (λ (s : RankSet). max_is (falling ranks 16) (falling (has_rank s.bits) 16))
+        (same_Some set other is) (upper ranks are);
+    some = λ ranks are. (set, refl);
+  };
+  enough = λ inside low high. (set, refl);
 }
   where
     max_is : List ℕ → List ℕ → Type 0
     max_is xs ys = greater xs ys ≡ ys
 
-    upper : (ranks : ℕ → Bool) → AreSoMany ranks from forced count
+    upper : (ranks : ℕ → Bool) → AreSoMany from forced count ranks
         → max_is (falling ranks 16) (falling (has_rank set.bits) 16)
     upper ranks are = max_upper (falling ranks 16) (falling (has_rank set.bits) 16)
         (falling-upto ranks (has_rank set.bits) 16 (λ r q below under in_ranks not_set in_set not_ranks.
@@ -228,18 +232,27 @@ taken-greatest set from forced free count more taken sum = record {
         (either_way (forced q) (forced q ≡ false) (λ is. let bad = are.among q under is in absurd cc) (λ is. is)))
         (let a = are.many in let b = taken.many in omega (arith, a, b, sum)))
 
--- there are none where they cannot be
-pub greatest-none : (from forced : ℕ → Bool) (count : ℕ)
-    → (((rank : ℕ) → rank < 16 → forced rank ≡ true → from rank ≡ true) → length (falling forced 16) ≤ count
-    → count ≤ length (falling from 16) → ⊥) → IsGreatestWith None from forced count
-greatest-none from forced count cannot = record {
+-- where none is found, none can be
+pub none-greatest : (Are : (ℕ → Bool) → Type 0) → ((ranks : ℕ → Bool) → Are ranks → ⊥) → IsGreatest None Are
+none-greatest Are cannot = record {
   are = λ set is. absurd (bad set is);
   greatest = λ set ranks is are. absurd (bad set is);
-  some = λ inside low high. absurd (cannot inside low high);
+  some = λ ranks are. absurd (cannot ranks are);
 }
   where
     bad : (set : RankSet) → None ≡ Some set → ⊥
     bad set is = cc
+
+pub greatest-none : (from forced : ℕ → Bool) (count : ℕ)
+    → (((rank : ℕ) → rank < 16 → forced rank ≡ true → from rank ≡ true) → length (falling forced 16) ≤ count
+    → count ≤ length (falling from 16) → ⊥) → IsGreatestWith None from forced count
+greatest-none from forced count cannot = record {
+  is = none-greatest (AreSoMany from forced count) (λ ranks are.
+      cannot (λ r below is. are.within r below (are.among r below is))
+      (subst (λ n. length (falling forced 16) ≤ n) are.many (falling-fewer forced ranks 16 are.among))
+      (subst (λ n. n ≤ length (falling from 16)) are.many (falling-fewer ranks from 16 are.within)));
+  enough = λ inside low high. absurd (cannot inside low high);
+}
 
 -- a set that has ranks has one
 pub some-rank : (bits : ℕ) → 1 ≤ length (ranks_of bits) → (rank : ℕ) × (rank < 16) × (has_rank bits rank ≡ true)
@@ -255,20 +268,52 @@ some-rank bits some =
 pub greatest-same : (result : Option RankSet) (from as_from forced as_forced : ℕ → Bool) (count : ℕ)
     → ((r : ℕ) → r < 16 → from r ≡ as_from r) → ((r : ℕ) → r < 16 → forced r ≡ as_forced r)
     → IsGreatestWith result from forced count → IsGreatestWith result as_from as_forced count
-greatest-same result from as_from forced as_forced count one other is = record {
-  are = λ set found.
-      let all = is.are set found in
-      record {
-        within = λ r below has. sym (one r below) ∙ all.within r below has;
-        among = λ r below has. all.among r below (other r below ∙ has);
-        many = all.many;
-      };
-  greatest = λ set ranks found are. is.greatest set ranks found (record {
-    within = λ r below has. one r below ∙ are.within r below has;
-    among = λ r below has. are.among r below (sym (other r below) ∙ has);
-    many = are.many;
-  });
-  some = λ inside low high. is.some (λ r below has. one r below ∙ inside r below (sym (other r below) ∙ has))
+greatest-same result from as_from forced as_forced count one other greatest = record {
+  is = record {
+    are = λ set found.
+        let all = greatest.is.are set found in
+        record {
+          within = λ r below has. sym (one r below) ∙ all.within r below has;
+          among = λ r below has. all.among r below (other r below ∙ has);
+          many = all.many;
+        };
+    greatest = λ set ranks found are. greatest.is.greatest set ranks found (back ranks are);
+    some = λ ranks are. greatest.is.some ranks (back ranks are);
+  };
+  enough = λ inside low high.
+      greatest.enough (λ r below has. one r below ∙ inside r below (sym (other r below) ∙ has))
       (subst (λ ranks. length ranks ≤ count) (sym (falling-same forced as_forced 16 other)) low)
       (subst (λ ranks. count ≤ length ranks) (sym (falling-same from as_from 16 one)) high);
 }
+  where
+    back : (ranks : ℕ → Bool) → AreSoMany as_from as_forced count ranks → AreSoMany from forced count ranks
+    back ranks are = record {
+      within = λ r below has. one r below ∙ are.within r below has;
+      among = λ r below has. are.among r below (sym (other r below) ∙ has);
+      many = are.many;
+    }
+
+-- the highest rank of a set is the first, and the others are those without it
+pub ranks-first : (bits fewer rank : ℕ) → highest_below (has_rank bits) 16 ≡ Some rank
+    → ((r : ℕ) → r < 16 → has_rank fewer r ≡ (has_rank bits r && not (eqb r rank)))
+    → ranks_of bits ≡ rank ∷ ranks_of fewer
+ranks-first bits fewer rank top without =
+    let high = highest-is (has_rank bits) 16 rank top in
+    (elim (ranks_of bits) as (λ ranks. ranks_of bits ≡ ranks → ranks ≡ rank ∷ ranks_of fewer) [
+      | [] ↦ λ none. let fails = falling-none (has_rank bits) 16 rank none high.below in
+          let passes = high.passes in absurd cc
+      | first ∷ others ↦ λ are.
+          let leads = falling-leads (has_rank bits) 16 first others are in
+          let up = high.above first leads.first.below leads.first.passes in
+          let down = leads.first.above rank high.below high.passes in
+          let same : first ≡ rank = omega arith in
+          ap₂ (λ r rs. r ∷ rs) same (sym (leads.others (has_rank fewer)
+          (λ r below apart. without r below
+          ∙ ap (λ s. has_rank bits r && not (eqb r s)) (sym same) ∙ but_one-other (has_rank bits r) r first apart)
+          (without first leads.first.below ∙ ap (λ s. has_rank bits first && not (eqb first s)) (sym same)
+          ∙ but_one-itself (has_rank bits first) first)))
+    ]) refl
+
+-- a set without a highest rank has none
+pub ranks-over : (bits : ℕ) → highest_below (has_rank bits) 16 ≡ None → ranks_of bits ≡ []
+ranks-over bits none = falling-empty (has_rank bits) 16 (λ r below. highest-none (has_rank bits) 16 r none below)

@@ -1,37 +1,21 @@
 -- The ranks of each suit, and how often ranks occur.
-use Rattle.std.proofs.Common.{◌≡◌, ℕ, ◌+◌, ◌<◌, ◌≤◌, ◌⊎◌, Bool, true, false, ◌&&◌, ◌||◌, eqb, leb, cond, List, [], ◌∷◌, ◌++◌, length, take, set, get_or, get_or-set_same, get_or-set_other, Some, None, refl, add-zero, lit≤, sym, ap, ◌∙◌, eqb-true, arith}
-use Rattle.std.specs.Prelude.{Option, filter}
+use Rattle.std.proofs.Common.{◌≡◌, ℕ, suc, ◌+◌, ◌<◌, ◌≤◌, ◌⊎◌, inl, inr, Bool, true, false, ◌&&◌, ◌||◌, eqb, leb, ltb, cond, List, [], ◌∷◌, ◌++◌, length, take, set, get_or, get_or-set_same, get_or-set_other, Some, None, refl, add-zero, zero-le, subst, lit≤, sym, ap, ◌∙◌, eqb-true, arith}
+use Rattle.std.specs.Prelude.{count_by, filter}
+use Rattle.std.proofs.lemmas.List.Sums.{length-filter}
 use Rattle.std.proofs.lemmas.Bool.Decides.{nat_tests}
+use Rattle.std.proofs.lemmas.Nat.Bits.{bit_at-zero}
 use Rattle.std.proofs.lemmas.List.{take_more}
 use Rattle.card_set.specs.declared.card.Card.{Card}
-use Rattle.card_choices.proofs.ListOrder.{max_assoc, max_lower}
+use Rattle.rulebook.proofs.Tests.{count_by-cons}
 use Rattle.hand_rank.specs.declared.rank_set.RankSet.{RankSet}
-use Rattle.hand_rank.specs.BestHigh.{greater}
-use Rattle.hand_rank.specs.Made.{first_made, count_of_suit, value_of_suit, value_of_ranks, value_made, AreOnce}
-use Rattle.hand_rank.specs.Sets.{has_rank, HasRanks, IsTallyOf, AreSuitsOf}
+use Rattle.hand_rank.specs.Cards.{count_of_suit, AreOnce}
+use Rattle.hand_rank.specs.Held.{AreSuited}
+use Rattle.hand_rank.specs.Sets.{has_rank, IsTallyOf, AreSuitsOf}
+use Rattle.hand_rank.specs.RankedHand.{ranks_of}
 use Rattle.hand_rank.specs.Values.{count_of_rank}
-use Rattle.hand_rank.proofs.CardCounts.{other-rank, by-suits, suit-joined, suited-rank, count_of_suit-cons}
-use Rattle.hand_rank.proofs.ChangeLaws.{greater-combining}
-
--- the first of some values, where there is one
-pub first-is : (o : Option (List ℕ)) (others : List (Option (List ℕ))) (value : List ℕ) → o ≡ Some value
-    → value ≡ first_made (o ∷ others)
-first-is o others value is = sym (ap (λ p. first_made (p ∷ others)) is)
-
--- and where there is none, the first of the others
-pub first-later : (o : Option (List ℕ)) (others : List (Option (List ℕ))) (value : List ℕ) → o ≡ None
-    → value ≡ first_made others → value ≡ first_made (o ∷ others)
-first-later o others value none later = later ∙ sym (ap (λ p. first_made (p ∷ others)) none)
-
--- the set of a suit has the ranks of its cards
-pub suit-has : (sets : List RankSet) (cards : List Card) (suit : ℕ) (other : RankSet) → AreSuitsOf sets cards → suit < 4
-    → HasRanks (get_or sets suit other).bits 1 (count_of_suit cards suit)
-suit-has sets cards suit other are within = record {
-  some = lit≤ tt;
-  at = λ r below. are suit r other within;
-  only = λ r out. sym (suited-rank suit cards r)
-      ∙ other-rank (filter (λ (card : Card). eqb card.suit suit) cards) r out;
-}
+use Rattle.hand_rank.proofs.CardCounts.{other-rank, total-cards, by-suits, suit-joined, suited-rank, count_of_suit-cons}
+use Rattle.hand_rank.proofs.Sections.{total-same}
+use Rattle.hand_rank.proofs.ShapedLaws.{falling-15, total-passing}
 
 -- one more card
 pub suits-more : (sets : List RankSet) (cards : List Card) (i : ℕ) (card : Card) (more default : RankSet)
@@ -146,25 +130,111 @@ tally-is once twice thrice four cards a b c d of_a of_b of_c of_d few is_once is
         → ((leb 1 m && leb 1 n) && (leb 1 p && leb 1 q)) ≡ leb 4 (m + n + p + q)
     all_four m n p q a b c d = grind (arith, nat_tests)
 
--- a value and those of the four suits
-pub with-suits : (r a b c d : List ℕ)
-    → greater (greater (greater (greater r a) b) c) d ≡ greater (greater a (greater b (greater c (greater d [])))) r
-with-suits r a b c d =
-    ap (λ x. greater x d) (ap (λ x. greater x c) (max_assoc r a b) ∙ max_assoc r (greater a b) c)
-    ∙ max_assoc r (greater (greater a b) c) d
-    ∙ greater-combining.comm r (greater (greater (greater a b) c) d)
-    ∙ ap (λ x. greater x r) (ap (λ x. greater x d) (max_assoc a b c) ∙ max_assoc a (greater b c) d
-    ∙ ap (greater a) (max_assoc b c d ∙ ap (greater b) (ap (greater c) (sym (max_lower d [] tt)))))
+-- a suit has as many ranks as cards
+suit-many : (bits suit : ℕ) (cards : List Card) → AreOnce cards
+    → ((r : ℕ) → has_rank bits r ≡ leb 1 (count_of_suit cards suit r))
+    → length (ranks_of bits) ≡ count_by (λ (card : Card). eqb card.suit suit) cards
+suit-many bits suit cards once are =
+    let p = has_rank bits in
+    let of_suit = filter (λ (card : Card). eqb card.suit suit) cards in
+    let none = falling-15 p (are 15 ∙ ap (leb 1) (sym (suited-rank suit cards 15)
+    ∙ other-rank of_suit 15 (inl (lit≤ tt)))) in
+    let passing = total-passing p 15 in
+    let same = total-same (λ r. cond (p r) 1 0) (count_of_rank of_suit) 15 (λ r within.
+    ap (λ b. cond b 1 0) (are r) ∙ once_is (count_of_suit cards suit r) (once suit r)
+    ∙ sym (suited-rank suit cards r)) in
+    let all = total-cards of_suit in
+    let long = length-filter (λ (card : Card). eqb card.suit suit) cards in
+    let listed = ap length none in
+    omega (arith, passing, same, all, long, listed)
+  where
+    once_is : (n : ℕ) → n ≤ 1 → cond (leb 1 n) 1 0 ≡ n
+    once_is n few = grind (arith, nat_tests)
 
--- the value of the ranks, made greater by the value of each suit in turn, ends as the value that the cards make
-pub value-from : (cards : List Card) (best one two three four : List ℕ) → best ≡ value_of_ranks (count_of_rank cards)
-    → one ≡ greater best (value_of_suit (count_of_suit cards 0))
-    → two ≡ greater one (value_of_suit (count_of_suit cards 1))
-    → three ≡ greater two (value_of_suit (count_of_suit cards 2))
-    → four ≡ greater three (value_of_suit (count_of_suit cards 3)) → four ≡ value_made cards
-unfolding value_made
-value-from cards best one two three four e0 e1 e2 e3 e4 =
-    let s : ℕ → List ℕ = λ suit. value_of_suit (count_of_suit cards suit) in
-    e4 ∙ ap (λ x. greater x (s 3)) (e3
-    ∙ ap (λ x. greater x (s 2)) (e2 ∙ ap (λ x. greater x (s 1)) (e1 ∙ ap (λ x. greater x (s 0)) e0)))
-    ∙ with-suits (value_of_ranks (count_of_rank cards)) (s 0) (s 1) (s 2) (s 3)
+-- cards of two suits are no more than all
+two-suits : (cards : List Card) (s t : ℕ) → (s ≡ t → ⊥)
+    → count_by (λ (card : Card). eqb card.suit s) cards + count_by (λ (card : Card). eqb card.suit t) cards
+    ≤ length cards
+two-suits [] s t apart = zero-le
+two-suits (card ∷ cards) s t apart =
+    let later = two-suits cards s t apart in
+    rw (
+      count_by-cons (λ (card : Card). eqb card.suit s) card cards,
+      count_by-cons (λ (card : Card). eqb card.suit t) card cards,
+    )
+    (one card.suit _ _ (length cards) later)
+  where
+    one : (u x y n : ℕ) → x + y ≤ n → cond (eqb u s) 1 0 + x + (cond (eqb u t) 1 0 + y) ≤ suc n
+    one u x y n less = let differs : eqb s t ≡ false = grind (arith, nat_tests) in grind (arith, nat_tests)
+
+-- a suit has five cards where its set has more than four ranks
+pub suit-enough : (bits suit : ℕ) (cards : List Card) → AreOnce cards
+    → ((r : ℕ) → has_rank bits r ≡ leb 1 (count_of_suit cards suit r)) → ltb 4 (length (ranks_of bits)) ≡ true
+    → 5 ≤ count_by (λ (card : Card). eqb card.suit suit) cards
+suit-enough bits suit cards once are more = let many = suit-many bits suit cards once are in grind (arith, nat_tests)
+
+-- and has not where it has not
+pub suit-few : (bits suit : ℕ) (cards : List Card) → AreOnce cards
+    → ((r : ℕ) → has_rank bits r ≡ leb 1 (count_of_suit cards suit r)) → ltb 4 (length (ranks_of bits)) ≡ false
+    → 5 ≤ count_by (λ (card : Card). eqb card.suit suit) cards → ⊥
+suit-few bits suit cards once are few five =
+    let many = suit-many bits suit cards once are in
+    let no_more : length (ranks_of bits) ≤ 4 = grind (arith, nat_tests) in
+    omega (arith, many, no_more, five)
+
+-- where three suits have no five cards, the fourth has where any has
+pub last-suit : (test : ℕ → Card → Bool) (cards : List Card) → (5 ≤ count_by (test 0) cards → ⊥)
+    → (5 ≤ count_by (test 1) cards → ⊥) → (5 ≤ count_by (test 2) cards → ⊥) → (s : ℕ) → s < 4
+    → 5 ≤ count_by (test s) cards → 5 ≤ count_by (test 3) cards
+last-suit test cards a b d s four five =
+    elim (which s four) [
+      | inl is ↦ absurd (a (subst (λ t. 5 ≤ count_by (test t) cards) is five))
+      | inr more ↦ elim more [
+        | inl is ↦ absurd (b (subst (λ t. 5 ≤ count_by (test t) cards) is five))
+        | inr last ↦ elim last [
+          | inl is ↦ absurd (d (subst (λ t. 5 ≤ count_by (test t) cards) is five))
+          | inr is ↦ subst (λ t. 5 ≤ count_by (test t) cards) is five
+        ]
+      ]
+    ]
+  where
+    which : (s : ℕ) → s < 4 → (s ≡ 0) ⊎ ((s ≡ 1) ⊎ ((s ≡ 2) ⊎ (s ≡ 3)))
+    which s four = grind arith
+
+-- of fewer than ten cards one suit may have five, where it has as soon as another has
+pub longest-is : (bits suit : ℕ) (cards : List Card) → AreOnce cards
+    → ((r : ℕ) → has_rank bits r ≡ leb 1 (count_of_suit cards suit r)) → length cards < 10
+    → ((s : ℕ) → s < 4 → (s ≡ suit → ⊥) → 5 ≤ count_by (λ (card : Card). eqb card.suit s) cards
+    → 5 ≤ count_by (λ (card : Card). eqb card.suit suit) cards) → AreSuited bits [] cards
+longest-is bits suit cards once are few longest = record {
+  suit = Some suit;
+  ranks = record {
+    some = lit≤ tt;
+    at = λ r below. are r;
+    only = λ r out. sym (suited-rank suit cards r)
+        ∙ other-rank (filter (λ (card : Card). eqb card.suit suit) cards) r out;
+  };
+  of_hole = λ s is. refl;
+  only = λ s four of_hole five. elim (eqb s suit) as (λ b. eqb s suit ≡ b → Some suit ≡ Some s) [
+    | true ↦ λ same. ap (λ t. Some t) (sym (eqb-true s suit same))
+    | false ↦ λ differs.
+        let apart : s ≡ suit → ⊥ = grind (arith, nat_tests) in
+        let also = longest s four apart five in
+        let both = two-suits cards s suit apart in
+        absurd (omega (arith, five, also, both, few))
+  ] refl;
+}
+
+-- and none where no suit has five
+pub longest-none : (bits : ℕ) (cards : List Card) → bits ≡ 0
+    → ((s : ℕ) → s < 4 → 5 ≤ count_by (λ (card : Card). eqb card.suit s) cards → ⊥) → AreSuited bits [] cards
+longest-none bits cards empty none = record {
+  suit = None;
+  ranks = record {
+    some = lit≤ tt;
+    at = λ r below. ap (λ n. has_rank n r) empty ∙ ap (λ b. eqb b 1) (bit_at-zero r);
+    only = λ r out. refl;
+  };
+  of_hole = λ s is. refl;
+  only = λ s four of_hole five. absurd (none s four five);
+}

@@ -1,11 +1,12 @@
 pub mod BestHigh
+pub mod Cards
 pub mod Counts
-pub mod HolePair
-pub mod Made
+pub mod Held
 pub mod Padded
 pub mod Picks
 pub mod RankedHand
 pub mod Runs
 pub mod Sets
+pub mod Shapes
 pub mod SoMany
 pub mod Values

@@ -4,7 +4,7 @@ use Rattle.std.specs.Int.{bit_at}
 use Rattle.std.specs.List.{slice_index_or}
 use Rattle.card_set.specs.declared.card.Card.{Card}
 use Rattle.hand_rank.specs.declared.rank_set.RankSet.{RankSet}
-use Rattle.hand_rank.specs.Made.{count_of_suit}
+use Rattle.hand_rank.specs.Cards.{count_of_suit}
 
 -- whether a rank is in a set
 abbrev pub has_rank : ℕ → ℕ → Bool

@@ -5,10 +5,9 @@ ghost use Rattle.card_choices.specs.Choices.{holdem_choices, omaha_choices, AreD
 ghost use Rattle.hand_rank.specs.BestHigh.{best_high};
 
 use crate::board::Board;
+use crate::held::Held;
 use crate::high_value::HighValue;
-use crate::hole_pair::HolePair;
 use crate::ranked_hand::RankedHand;
-use crate::suits::Suits;
 use card_choices::pairs;
 use card_set::Card;
 
@@ -22,12 +21,12 @@ fn together(hole: [Card; 2], board: [Card; 5]) -> [Card; 7]
 }
 
 /// Gives the best value of five of two hole cards and five board cards, as the list of its category and its ranks. No
-/// card may come twice.
+/// card may come twice. No hole card has to be shown, so all seven are looked at as a board.
 pub fn best_holdem(hole: [Card; 2], board: [Card; 5]) -> HighValue
     requires distinct { AreDistinct (hole ++ board) }
     ensures best { result ≡ best_high (holdem_choices hole board) }
 {
-    Suits::of(&together(hole, board)).value()
+    Held::none(together(hole, board)).best_hand().value()
 }
 
 /// Gives the best value of two of four hole cards with three of five board cards, as the list of its category and its
@@ -41,7 +40,7 @@ pub fn best_omaha(hole: [Card; 4], board: [Card; 5]) -> HighValue
     let mut best = RankedHand::least();
     let pairs = pairs(hole);
     for pair in &pairs {
-        best = best.max(HolePair::of(*pair, &prepared).best_hand());
+        best = best.max(Held::of(*pair, &prepared).best_hand());
     }
     best.value()
 }

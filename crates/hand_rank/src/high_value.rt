@@ -9,7 +9,7 @@ ghost use Rattle.std.specs.Cmp.{partial_equiv_from_equiv};
 ghost use Rattle.std.specs.Cmp.Lexicographic.{pointwise, slice_cmp, nat_list_eq_equiv, nat_list_cmp_total, texts_ties, texts_po};
 
 use crate::category::Category;
-use crate::numbers::Numbers;
+use crate::numbers::{MOST, Numbers};
 use crate::rank_set::RankSet;
 use std::cmp::Ordering;
 use std::marker::Model;
@@ -54,29 +54,19 @@ impl HighValue {
         HighValue { numbers }
     }
 
-    /// Gives the value with more ranks that decide behind those that it has.
-    pub(crate) fn then(self, ranks: &[u8]) -> HighValue
-        requires { length self + length ranks.now ≤ 6 }
-        ensures { result ≡ self ++ ranks.now }
-    {
-        let mut numbers = self.numbers;
-        for rank in ranks {
-            numbers.push(*rank);
-        }
-        HighValue { numbers }
-    }
-
     /// Gives the value with the ranks of a set behind those that it has, higher ones first.
     pub(crate) fn with_ranks(self, ranks: RankSet) -> HighValue
         requires { length self + length (ranks_of ranks.bits) ≤ 6 }
         ensures { result ≡ self ++ ranks_of ranks.bits }
     {
         let mut numbers = self.numbers;
-        for passed in 0..16 {
-            let rank = 15 - passed;
-            if ranks.has(rank) {
-                numbers.push(rank);
-            }
+        let mut left = ranks;
+        for _ in 0..MOST {
+            let Some(rank) = left.highest() else {
+                return HighValue { numbers };
+            };
+            left = left.without(rank);
+            numbers.push(rank);
         }
         HighValue { numbers }
     }

@@ -5,7 +5,7 @@ ghost use Rattle.std.specs.Prelude.{◌≡◌, ◌<◌, ◌++◌, ◌∷◌, [],
 use std::marker::Model;
 
 /// The most numbers that a list has.
-const MOST: usize = 6;
+pub const MOST: usize = 6;
 
 /// A list of at most six numbers. Contracts see it as the list.
 #[derive(Clone, Copy, Debug)]

@@ -1,12 +1,14 @@
 //! Sets of ranks.
 
-ghost use Rattle.std.specs.Prelude.{◌≡◌, ◌<◌, ◌≤◌, ℕ, ◌&&◌, ◌||◌, ◌==◌, ◌∷◌, [], length, not, nat_le, nat_lt, true, false, IfSome};
-ghost use Rattle.hand_rank.specs.Picks.{highest_below, picked};
-ghost use Rattle.hand_rank.specs.Made.{value_of_suit};
+ghost use Rattle.std.specs.Prelude.{◌≡◌, ◌<◌, ◌≤◌, ℕ, ◌+◌, ◌&&◌, ◌||◌, ◌==◌, List, [], length, cond, not, nat_le, nat_lt, true, false, IfSome};
+ghost use Rattle.card_set.specs.declared.card.Card.{Card};
+ghost use Rattle.hand_rank.specs.Held.{AreNear};
+ghost use Rattle.hand_rank.specs.Picks.{highest_below};
 ghost use Rattle.hand_rank.specs.Runs.{highest_run, is_near};
 ghost use Rattle.hand_rank.specs.Sets.{has_rank, HasRanks};
 ghost use Rattle.hand_rank.specs.RankedHand.{ranks_of};
 ghost use Rattle.hand_rank.specs.SoMany.{IsGreatestWith};
+ghost use Rattle.hand_rank.specs.Values.{count_of_rank};
 
 /// At each rank the ranks of the runs that it is in.
 const NEAR: [u16; 16] = [
@@ -25,6 +27,13 @@ impl RankSet {
         ensures { result.bits ≡ 0 }
     {
         RankSet { bits: 0 }
+    }
+
+    /// Gives the set of all ranks.
+    pub const fn all() -> RankSet
+        ensures { AreNear result.bits [] }
+    {
+        RankSet { bits: 32764 }
     }
 
     /// Gives the set of one rank.
@@ -86,14 +95,6 @@ impl RankSet {
         }
     }
 
-    /// Tells whether a rank is in the set.
-    pub fn has(self, rank: u8) -> bool
-        requires { rank < 16 }
-        ensures { result ≡ has_rank self.bits rank }
-    {
-        self.bits >> rank & 1 == 1
-    }
-
     /// Tells whether there is no rank.
     pub fn is_empty(self) -> bool
         ensures none { result ≡ true → ranks_of self.bits ≡ [] }
@@ -102,11 +103,11 @@ impl RankSet {
         self.bits == 0
     }
 
-    /// Tells whether there are five ranks or more.
-    pub fn has_five(self) -> bool
-        ensures { (count : ℕ → ℕ) → HasRanks self.bits 1 count → result ≡ false → (value_of_suit count ≡ []) }
+    /// Tells whether there are more ranks than so many.
+    pub fn has_more(self, count: u8) -> bool
+        ensures { result ≡ nat_lt count (length (ranks_of self.bits)) }
     {
-        self.bits.count_ones() >= 5
+        self.count() > count
     }
 
     /// Gives the highest rank. `None` where there is none.
@@ -129,7 +130,7 @@ impl RankSet {
     }
 
     /// Gives the ranks of the runs that a rank is in.
-    pub fn near(rank: u8) -> RankSet
+    fn near(rank: u8) -> RankSet
         requires { rank < 16 }
         ensures { (r : ℕ) → r < 16 → has_rank result.bits r ≡ is_near rank r }
     {
@@ -138,8 +139,23 @@ impl RankSet {
         }
     }
 
+    /// Gives the ranks of the runs that two ranks are in. None where the two are the same.
+    pub fn near_both(one: u8, other: u8) -> RankSet
+        requires one { one < 15 }
+        requires other { other < 15 }
+        ensures { (hole : List Card) → ((r : ℕ) → count_of_rank hole r ≡ cond (one == r) 1 0 + cond (other == r) 1 0)
+            → AreNear result.bits hole }
+    {
+        if one == other {
+            RankSet::empty()
+        } else {
+            RankSet::near(one).meet(RankSet::near(other))
+        }
+    }
+
     /// Gives the greatest so many ranks of the set that have all ranks of another among them. `None` where there are
     /// none.
+    #[inline(always)]
     pub fn greatest_with(self, forced: RankSet, count: u8) -> Option<RankSet>
         ensures { IsGreatestWith result (has_rank self.bits) (has_rank forced.bits) count }
     {
@@ -155,44 +171,6 @@ impl RankSet {
             ranks = ranks.with(rank);
         }
         Some(ranks)
-    }
-
-    /// Gives the two highest ranks, if there are two.
-    pub fn highest_two(self) -> Option<[u8; 2]>
-        ensures { (count : ℕ → ℕ) → HasRanks self.bits 1 count → result ≡ picked (1 ∷ 1 ∷ []) count }
-    {
-        let first = self.highest()?;
-        let below_first = self.without(first);
-        let second = below_first.highest()?;
-        Some([first, second])
-    }
-
-    /// Gives the three highest ranks, if there are three.
-    pub fn highest_three(self) -> Option<[u8; 3]>
-        ensures { (count : ℕ → ℕ) → HasRanks self.bits 1 count → result ≡ picked (1 ∷ 1 ∷ 1 ∷ []) count }
-    {
-        let first = self.highest()?;
-        let below_first = self.without(first);
-        let second = below_first.highest()?;
-        let below_second = below_first.without(second);
-        let third = below_second.highest()?;
-        Some([first, second, third])
-    }
-
-    /// Gives the five highest ranks, if there are five.
-    pub fn highest_five(self) -> Option<[u8; 5]>
-        ensures { (count : ℕ → ℕ) → HasRanks self.bits 1 count → result ≡ picked (1 ∷ 1 ∷ 1 ∷ 1 ∷ 1 ∷ []) count }
-    {
-        let first = self.highest()?;
-        let below_first = self.without(first);
-        let second = below_first.highest()?;
-        let below_second = below_first.without(second);
-        let third = below_second.highest()?;
-        let below_third = below_second.without(third);
-        let fourth = below_third.highest()?;
-        let below_fourth = below_third.without(fourth);
-        let fifth = below_fourth.highest()?;
-        Some([first, second, third, fourth, fifth])
     }
 
     /// Gives the top rank of the highest five ranks that run, with the ace also below the two. `None` where no five

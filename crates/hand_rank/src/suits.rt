@@ -1,41 +1,15 @@
-//! The best value of cards, by the ranks of each suit.
+//! The ranks of each suit among cards.
 
-ghost use Rattle.std.specs.Prelude.{◌≡◌, ℕ, List};
+ghost use Rattle.std.specs.Prelude.{◌<◌, List, [], length};
 ghost use Rattle.card_set.specs.declared.card.Card.{Card};
-ghost use Rattle.hand_rank.specs.BestHigh.{greater};
-ghost use Rattle.hand_rank.specs.Made.{value_of_suit, value_made, AreOnce};
-ghost use Rattle.hand_rank.specs.Sets.{HasRanks, IsTallyOf, AreSuitsOf};
+ghost use Rattle.hand_rank.specs.Cards.{AreOnce};
+ghost use Rattle.hand_rank.specs.Held.{AreSuited};
+ghost use Rattle.hand_rank.specs.Sets.{IsTallyOf, AreSuitsOf};
 ghost use Rattle.hand_rank.specs.Values.{count_of_rank};
 
-use crate::category::Category;
-use crate::high_value::HighValue;
 use crate::rank_set::RankSet;
 use crate::tally::Tally;
 use card_set::Card;
-
-/// Gives the value of cards of one suit, by their ranks. The empty list where there are fewer than five.
-fn value_of_suit(ranks: RankSet) -> HighValue
-    ensures { (count : ℕ → ℕ) → HasRanks ranks.bits 1 count → result ≡ value_of_suit count }
-{
-    if let Some(top) = ranks.highest_run() {
-        return HighValue::of(Category::StraightFlush, &[top]);
-    }
-    match ranks.highest_five() {
-        Some(five) => HighValue::of(Category::Flush, &five),
-        None => HighValue::least(),
-    }
-}
-
-/// Gives the greater of a value and that of the cards of a suit.
-fn with_suit(best: HighValue, ranks: RankSet) -> HighValue
-    ensures { (count : ℕ → ℕ) → HasRanks ranks.bits 1 count → result ≡ greater best (value_of_suit count) }
-{
-    if ranks.has_five() {
-        best.max(value_of_suit(ranks))
-    } else {
-        best
-    }
-}
 
 /// The ranks of the cards of each suit: clubs, diamonds, hearts and spades.
 #[derive(Clone, Copy, Debug)]
@@ -78,15 +52,25 @@ impl Suits {
         }
     }
 
-    /// Gives the greatest value that the cards make, of which none comes twice.
-    pub fn value(self) -> HighValue
-        ensures { (cards : List Card) → AreSuitsOf self.ranks cards → AreOnce cards → result ≡ value_made cards }
+    /// Gives the ranks of the suit that has five cards, where there are fewer than ten cards. None where there is no
+    /// such suit.
+    pub fn longest(self) -> RankSet
+        ensures { (cards : List Card) → AreSuitsOf self.ranks cards → AreOnce cards → length cards < 10
+            → AreSuited result.bits [] cards }
     {
         let [clubs, diamonds, hearts, spades] = self.ranks;
-        let best = self.tally().value();
-        let best = with_suit(best, clubs);
-        let best = with_suit(best, diamonds);
-        let best = with_suit(best, hearts);
-        with_suit(best, spades)
+        if clubs.has_more(4) {
+            return clubs;
+        }
+        if diamonds.has_more(4) {
+            return diamonds;
+        }
+        if hearts.has_more(4) {
+            return hearts;
+        }
+        if spades.has_more(4) {
+            return spades;
+        }
+        RankSet::empty()
     }
 }

@@ -1,12 +1,8 @@
-//! The best value of cards whatever their suits, by how often their ranks occur.
+//! How often the ranks of cards occur.
 
-ghost use Rattle.std.specs.Prelude.{◌≡◌, ℕ, ◌+◌, ◌≤◌, ◌==◌, ◌∷◌, [], cond};
-ghost use Rattle.hand_rank.specs.Made.{made, run_made, value_of_ranks};
-ghost use Rattle.hand_rank.specs.Picks.{picked};
-ghost use Rattle.hand_rank.specs.Sets.{IsTallyOf};
+ghost use Rattle.std.specs.Prelude.{◌≡◌, ℕ, ◌+◌, ◌≤◌, ◌==◌, cond};
+ghost use Rattle.hand_rank.specs.Sets.{HasRanks, IsTallyOf};
 
-use crate::category::Category;
-use crate::high_value::HighValue;
 use crate::rank_set::RankSet;
 
 /// The ranks that occur once or more often, twice or more often, three times or more often, and four times.
@@ -19,6 +15,18 @@ pub struct Tally {
 }
 
 impl Tally {
+    /// Tells how often ranks occur in no cards.
+    pub fn none() -> Tally
+        ensures { IsTallyOf result.once.bits result.twice.bits result.thrice.bits result.four.bits (λ rank. 0) }
+    {
+        Tally {
+            once: RankSet::empty(),
+            twice: RankSet::empty(),
+            thrice: RankSet::empty(),
+            four: RankSet::empty(),
+        }
+    }
+
     /// Tells how often ranks occur in one card.
     pub fn of(rank: u8) -> Tally
         requires low { 2 ≤ rank }
@@ -62,95 +70,18 @@ impl Tally {
         }
     }
 
-    fn four_of_a_kind(self) -> Option<HighValue>
+    /// Gives the ranks that occur so often or more often.
+    pub fn ranks(self, each: u8) -> RankSet
+        requires low { 1 ≤ each }
+        requires high { each ≤ 4 }
         ensures { (count : ℕ → ℕ) → IsTallyOf self.once.bits self.twice.bits self.thrice.bits self.four.bits count
-            → result ≡ made Category.FourOfAKind (picked (4 ∷ 1 ∷ []) count) }
+            → HasRanks result.bits each count }
     {
-        let four = self.four.highest()?;
-        let kicker = self.once.without(four).highest()?;
-        Some(HighValue::of(Category::FourOfAKind, &[four, kicker]))
-    }
-
-    fn full_house(self) -> Option<HighValue>
-        ensures { (count : ℕ → ℕ) → IsTallyOf self.once.bits self.twice.bits self.thrice.bits self.four.bits count
-            → result ≡ made Category.FullHouse (picked (3 ∷ 2 ∷ []) count) }
-    {
-        let three = self.thrice.highest()?;
-        let pair = self.twice.without(three).highest()?;
-        Some(HighValue::of(Category::FullHouse, &[three, pair]))
-    }
-
-    fn straight(self) -> Option<HighValue>
-        ensures { (count : ℕ → ℕ) → IsTallyOf self.once.bits self.twice.bits self.thrice.bits self.four.bits count
-            → result ≡ run_made Category.Straight count }
-    {
-        let top = self.once.highest_run()?;
-        Some(HighValue::of(Category::Straight, &[top]))
-    }
-
-    fn three_of_a_kind(self) -> Option<HighValue>
-        ensures { (count : ℕ → ℕ) → IsTallyOf self.once.bits self.twice.bits self.thrice.bits self.four.bits count
-            → result ≡ made Category.ThreeOfAKind (picked (3 ∷ 1 ∷ 1 ∷ []) count) }
-    {
-        let three = self.thrice.highest()?;
-        let kickers = self.once.without(three).highest_two()?;
-        Some(HighValue::of(Category::ThreeOfAKind, &[three]).then(&kickers))
-    }
-
-    fn two_pair(self) -> Option<HighValue>
-        ensures { (count : ℕ → ℕ) → IsTallyOf self.once.bits self.twice.bits self.thrice.bits self.four.bits count
-            → result ≡ made Category.TwoPair (picked (2 ∷ 2 ∷ 1 ∷ []) count) }
-    {
-        let first = self.twice.highest()?;
-        let second = self.twice.without(first).highest()?;
-        let others = self.once.without(first);
-        let kicker = others.without(second).highest()?;
-        Some(HighValue::of(Category::TwoPair, &[first, second, kicker]))
-    }
-
-    fn one_pair(self) -> Option<HighValue>
-        ensures { (count : ℕ → ℕ) → IsTallyOf self.once.bits self.twice.bits self.thrice.bits self.four.bits count
-            → result ≡ made Category.OnePair (picked (2 ∷ 1 ∷ 1 ∷ 1 ∷ []) count) }
-    {
-        let pair = self.twice.highest()?;
-        let kickers = self.once.without(pair).highest_three()?;
-        Some(HighValue::of(Category::OnePair, &[pair]).then(&kickers))
-    }
-
-    fn high_card(self) -> Option<HighValue>
-        ensures { (count : ℕ → ℕ) → IsTallyOf self.once.bits self.twice.bits self.thrice.bits self.four.bits count
-            → result ≡ made Category.HighCard (picked (1 ∷ 1 ∷ 1 ∷ 1 ∷ 1 ∷ []) count) }
-    {
-        let ranks = self.once.highest_five()?;
-        Some(HighValue::of(Category::HighCard, &ranks))
-    }
-
-    /// Gives the best value of ranks that occur so often. The empty list where there are fewer than five cards.
-    pub fn value(self) -> HighValue
-        ensures { (count : ℕ → ℕ) → IsTallyOf self.once.bits self.twice.bits self.thrice.bits self.four.bits count
-            → result ≡ value_of_ranks count }
-    {
-        if let Some(value) = self.four_of_a_kind() {
-            return value;
-        }
-        if let Some(value) = self.full_house() {
-            return value;
-        }
-        if let Some(value) = self.straight() {
-            return value;
-        }
-        if let Some(value) = self.three_of_a_kind() {
-            return value;
-        }
-        if let Some(value) = self.two_pair() {
-            return value;
-        }
-        if let Some(value) = self.one_pair() {
-            return value;
-        }
-        match self.high_card() {
-            Some(value) => value,
-            None => HighValue::least(),
+        match each {
+            1 => self.once,
+            2 => self.twice,
+            3 => self.thrice,
+            _ => self.four,
         }
     }
 }

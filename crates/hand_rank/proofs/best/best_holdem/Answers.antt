@@ -1,16 +1,23 @@
-use Rattle.std.proofs.Common.{◌++◌, ◌≤◌, ◌∙◌, length, sym, subst, rules}
-use Rattle.hand_rank.specs.Sets.{AreSuitsOf}
+use Rattle.std.proofs.Common.{◌++◌, ◌∙◌, [], ap, sym, subst}
+use Rattle.card_choices.specs.Choices.{choices}
+use Rattle.hand_rank.specs.BestHigh.{best_high}
+use Rattle.hand_rank.specs.Cards.{AreOnce}
+use Rattle.hand_rank.proofs.BestLaws.{map-itself}
 use Rattle.hand_rank.proofs.CardCounts.{distinct-once}
-use Rattle.hand_rank.proofs.MadeLaws.{best-made}
 use Rattle.hand_rank.proofs.best.best_holdem.Goals as goal
+
+pub value-requires : goal.value-requires
+value-requires c =
+    let once = distinct-once (c.args.hole ++ c.args.board) c.requires.distinct in
+    let held = c.none.ensures (subst (λ all. AreOnce all) (sym c.together.ensures) once) in
+    (c.best_hand.ensures [] c.together.result held).sized
 
 pub returns : goal.returns
 returns c =
-    let cards = c.args.hole ++ c.args.board in
-    let once = distinct-once cards c.requires.distinct in
-    let enough : 5 ≤ length cards = search rules in
+    let once = distinct-once (c.args.hole ++ c.args.board) c.requires.distinct in
+    let held = c.none.ensures (subst (λ all. AreOnce all) (sym c.together.ensures) once) in
     record {
-      best = c.value.ensures cards
-          (subst (λ all. AreSuitsOf c.of.result.ranks all) c.together.ensures c.of.ensures) once
-          ∙ sym (best-made cards once enough);
+      best = c.value.ensures ∙ (c.best_hand.ensures [] c.together.result held).value
+          ∙ ap best_high (map-itself (choices 5 c.together.result))
+          ∙ ap (λ cards. best_high (choices 5 cards)) c.together.ensures;
     }

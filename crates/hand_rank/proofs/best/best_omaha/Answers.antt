@@ -1,12 +1,12 @@
-use Rattle.std.proofs.Common.{◌≡◌, ◌<◌, ◌∙◌, ◌++◌, ◌∷◌, [], List, length, take, ap, ap₂, refl, sym, subst, rules, arith}
+use Rattle.std.proofs.Common.{◌≡◌, ◌-◌, ◌<◌, ◌∙◌, ◌++◌, ◌∷◌, [], List, length, take, ap, ap₂, refl, sym, subst, rules, arith}
 use Rattle.std.specs.Prelude.{map}
 use Rattle.std.specs.List.{flat_map}
 use Rattle.card_set.specs.declared.card.Card.{Card}
 use Rattle.card_choices.specs.Choices.{choices}
 use Rattle.card_choices.proofs.ListOrder.{max_assoc, max_lower}
 use Rattle.hand_rank.specs.BestHigh.{greater, best_high}
-use Rattle.hand_rank.specs.HolePair.{IsHolePair}
-use Rattle.hand_rank.specs.Made.{AreOnce}
+use Rattle.hand_rank.specs.Held.{IsHeld}
+use Rattle.hand_rank.specs.Cards.{AreOnce}
 use Rattle.hand_rank.proofs.BestLaws.{best_high-none, best_high-pair, best_high-all}
 use Rattle.hand_rank.proofs.CardCounts.{distinct-once}
 use Rattle.hand_rank.proofs.Chosen.{whole}
@@ -37,13 +37,14 @@ loop-pair-preserved c =
     let five : length board ≡ 5 = search rules in
     let two = subst (λ (cards : List Card). length cards ≡ 2) c.pair-item.is is.1 in
     let apart = subst (λ (cards : List Card). AreOnce (cards ++ board)) c.pair-item.is once in
-    let held = subst (λ cards. IsHolePair c.of.result cards board) (sym c.pair-item.is)
+    let held = subst (λ cards. IsHeld c.of.result cards board) (sym c.pair-item.is)
     (c.of.ensures board (c.of-prepared.ensures board_once) two five apart) in
     let best = c.best_hand.ensures pair board held in
+    let shown = best.value ∙ ap (λ n. best_high (map (λ three. pair ++ three) (choices (5 - n) board))) is.1 in
     let before = best_high (flat_map hands_of (take c.loop-pair.pair-index c.pairs-pairs.result)) in
     record {
       value = c.max-best.ensures.value c.loop-pair.invariant.sized best.sized
-          ∙ ap₂ greater c.loop-pair.invariant.value best.value
+          ∙ ap₂ greater c.loop-pair.invariant.value shown
           ∙ max_assoc (0 ∷ []) before (best_high (hands_of pair))
           ∙ ap (greater (0 ∷ []))
           (best_high-pair hands_of c.pairs-pairs.result c.loop-pair.pair-index pair before

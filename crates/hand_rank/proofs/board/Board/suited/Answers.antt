@@ -1,4 +1,4 @@
-use Rattle.hand_rank.proofs.HolePairLaws.{suited-ranks}
+use Rattle.hand_rank.proofs.HeldLaws.{suited-ranks}
 use Rattle.hand_rank.proofs.board.Board.suited.Goals as goal
 
 pub returns : goal.returns

@@ -1,34 +1,40 @@
-use Rattle.std.proofs.Common.{◌+◌, ◌-◌, ◌++◌, ◌∙◌, ap, sym, length-append, arith}
-use Rattle.hand_rank.specs.Sets.{has_rank}
-use Rattle.hand_rank.specs.RankedHand.{falling, ranks_of}
-use Rattle.hand_rank.proofs.SetOrder.{rank-written, rank-passed, rank-room, ranks-written}
+use Rattle.std.proofs.Common.{◌++◌, ◌∷◌, ◌∙◌, [], length, ap, sym, append_assoc, append-nil, length-append, arith}
+use Rattle.std.proofs.lemmas.List.{nil_from_length}
+use Rattle.hand_rank.specs.RankedHand.{ranks_of}
+use Rattle.hand_rank.proofs.SoManyLaws.{ranks-first, ranks-over}
 use Rattle.hand_rank.proofs.high_value.HighValue.with_ranks.Goals as goal
-use Rattle.hand_rank.proofs.high_value.HighValue.with_ranks.Goals.{then-has, else-has}
 
 pub push-requires : goal.push-requires
 push-requires c =
-    let all = c.args.self ++ ranks_of c.args.ranks.bits in
-    let room = rank-room (has_rank c.args.ranks.bits) c.loop-passed.numbers all c.loop-passed.passed
-    c.loop-passed-test.true (sym c.has.ensures ∙ c.if-has.true) c.loop-passed.invariant in
-    omega (arith, room, length-append c.args.self (ranks_of c.args.ranks.bits), c.requires)
+    let first = ranks-first c.loop.left.bits c.without-left.result.bits c.in-Some.rank
+    (sym c.highest.ensures.rank ∙ c.in-Some.is) c.without-left.ensures in
+    omega (
+      arith,
+      ap length first,
+      ap length c.loop.invariant.written,
+      length-append c.loop.numbers (ranks_of c.loop.left.bits),
+      length-append c.args.self (ranks_of c.args.ranks.bits),
+      c.requires,
+    )
 
-pub loop-passed-preserved : goal.loop-passed-preserved
-loop-passed-preserved c =
-    let test = has_rank c.args.ranks.bits in
-    let all = c.args.self ++ ranks_of c.args.ranks.bits in
-    elim c.if-has.branch [
-      | then-has w ↦
-          ap (λ xs. xs ++ falling test (16 - (c.loop-passed.passed + 1))) (w.numbers-is ∙ w.push.ensures)
-          ∙ rank-written test c.loop-passed.numbers all c.loop-passed.passed c.loop-passed-test.true (sym c.has.ensures
-          ∙ w.if-has.true) c.loop-passed.invariant
-      | else-has w ↦
-          ap (λ xs. xs ++ falling test (16 - (c.loop-passed.passed + 1))) w.numbers-is
-          ∙ rank-passed test c.loop-passed.numbers all c.loop-passed.passed c.loop-passed-test.true (sym c.has.ensures
-          ∙ w.if-has.false) c.loop-passed.invariant
-    ]
+pub loop-preserved : goal.loop-preserved
+loop-preserved c =
+    let first = ranks-first c.loop.left.bits c.without-left.result.bits c.in-Some.rank
+    (sym c.highest.ensures.rank ∙ c.in-Some.is) c.without-left.ensures in
+    record {
+      written = ap (λ xs. xs ++ ranks_of c.without-left.result.bits) c.push.ensures
+          ∙ append_assoc c.loop.numbers (c.in-Some.rank ∷ []) (ranks_of c.without-left.result.bits)
+          ∙ ap (λ rs. c.loop.numbers ++ rs) (sym first) ∙ c.loop.invariant.written;
+      so_far = omega (arith, ap length first, c.loop.invariant.so_far);
+    }
+
+pub returns-in_default : goal.returns-in_default
+returns-in_default c =
+    let none = ranks-over c.loop.left.bits (sym c.highest.ensures.rank ∙ c.in_default.is) in
+    sym (append-nil c.loop.numbers) ∙ ap (λ rs. c.loop.numbers ++ rs) (sym none) ∙ c.loop.invariant.written
 
 pub returns : goal.returns
 returns c =
-    ranks-written (has_rank c.args.ranks.bits) c.loop-passed.numbers
-    (c.args.self ++ ranks_of c.args.ranks.bits) c.loop-passed.passed
-    (omega (arith, c.loop-passed-test.false)) c.loop-passed.invariant
+    let none = nil_from_length (ranks_of c.loop.left.bits)
+    (omega (arith, c.loop.invariant.so_far, c.loop-test.false, c.requires)) in
+    sym (append-nil c.loop.numbers) ∙ ap (λ rs. c.loop.numbers ++ rs) (sym none) ∙ c.loop.invariant.written

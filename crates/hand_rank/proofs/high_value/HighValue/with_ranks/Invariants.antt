@@ -1,8 +1,9 @@
-use Rattle.std.proofs.Common.{◌≡◌, ◌-◌, ◌++◌}
-use Rattle.hand_rank.specs.Sets.{has_rank}
-use Rattle.hand_rank.specs.RankedHand.{falling, ranks_of}
+use Rattle.std.proofs.Common.{◌≡◌, ◌+◌, ◌++◌, length}
+use Rattle.hand_rank.specs.RankedHand.{ranks_of}
 use Rattle.hand_rank.proofs.high_value.HighValue.with_ranks.Given as goal
 
-abbrev pub invariant-loop-passed : goal.invariant-loop-passed
-invariant-loop-passed l = l.numbers ++ falling (has_rank l.ranks.bits) (16 - l.passed)
-    ≡ l.fn.self ++ ranks_of l.ranks.bits
+abbrev pub invariant-loop : goal.invariant-loop
+invariant-loop l = record {
+  written : l.numbers ++ ranks_of l.left.bits ≡ l.fn.self ++ ranks_of l.fn.ranks.bits;
+  so_far : length (ranks_of l.left.bits) + l.counter ≡ length (ranks_of l.fn.ranks.bits);
+}
