@@ -1,23 +1,15 @@
 -- A settle with the acts of its hand before it.
 use Rattle.std.proofs.Common.{◌≡◌, ◌∙◌, refl, sym, ap, subst, ℕ, zero, suc, ◌+◌, ◌<◌, Bool, true, false, List, [], ◌∷◌, ◌++◌, arith}
-use Rattle.std.specs.Prelude.{not, ◌==◌, ◌||◌, if◌then◌else◌, map, filter, is_some, slice_set, slice_get, Option, Some, None, option_map, option_and_then}
-use Rattle.std.specs.List.{All, list_any}
+use Rattle.std.specs.Prelude.{not, ◌==◌, if◌then◌else◌, map, is_some, slice_set, Option, Some, None, option_map, option_and_then}
 use Rattle.std.specs.Option.{option_map_or, option_or}
-use Rattle.std.specs.Str.{bytes_eq}
-use Rattle.std.proofs.lemmas.Bool.{and_parts, and_from, or_left, or_right}
+use Rattle.std.proofs.lemmas.Bool.{and_parts, and_from}
 use Rattle.std.proofs.lemmas.Bool.Decides.{nat_tests}
 use Rattle.std.proofs.lemmas.List.{append_assoc, append-nil, get_or-set_same, length-replicate}
-use Rattle.std.proofs.lemmas.List.Elements.{All-filter, All-map}
-use Rattle.std.proofs.lemmas.Option.{same_Some}
-use Rattle.std.proofs.lemmas.Slice.Eq.{bytes_eq-Decides}
 use Rattle.rulebook.proofs.Checks.{none_holds}
-use Rattle.rulebook.proofs.Tests.{list_any-made}
 use Rattle.rulebook.specs.Checks.{first_that_holds}
 use Rattle.floor_text.specs.declared.refusal.Refusal.TheVariants.{Stopped, NameUnknown, NoTable, NotPlaying, NotOver}
 use Rattle.entry_list.specs.Entries.{is_known}
-use Rattle.seat_book.specs.declared.seated.Seated.{Seated}
 use Rattle.table_engine.specs.declared.start.HandStart.{HandStart}
-use Rattle.table_engine.specs.declared.start.StartSeat.{StartSeat}
 use Rattle.table_engine.specs.declared.record.ActOf.{ActOf}
 use Rattle.table_engine.specs.declared.record.HandRecord.{HandRecord}
 use Rattle.table_engine.specs.Acts.{act_checks, hand_after_time, is_dealt, refusal_of_act}
@@ -28,13 +20,13 @@ use Rattle.table_engine.proofs.TurnLaws.{time-again, time-free_again}
 use Rattle.betting_round.specs.declared.act.Act.{Act}
 use Rattle.floor_events.specs.declared.event.Event.{Event}
 use Rattle.floor_events.specs.declared.event.Event.TheVariants as events
-use Rattle.tournament_rules.specs.Books.{BookState, has_table, start_at, starters_of}
+use Rattle.tournament_rules.specs.Books.{BookState, has_table, start_at}
 use Rattle.tournament_rules.specs.Checks.{book_refusal, is_playing}
 use Rattle.tournament_rules.specs.Effects.{settled}
-use Rattle.tournament_rules.specs.Players.{start_seat}
 use Rattle.tournament_rules.specs.States.{State, PlayState, acts_at, hand_at, no_acts, run, state_after}
-use Rattle.tournament_rules.specs.Valid.{IsValid, is_lent, without_stack}
+use Rattle.tournament_rules.specs.Valid.{IsValid}
 use Rattle.tournament_rules.specs.Apart.{hand_refusal}
+use Rattle.tournament_rules.proofs.Acting.{dealt_known}
 use Rattle.tournament_rules.proofs.Fitting.{table_range, table_started}
 use Rattle.tournament_rules.proofs.Passed.{is_so, refusal-parts}
 use Rattle.view_rules.specs.declared.entries.JournalEntry.{JournalEntry}
@@ -49,55 +41,6 @@ set-twice : {A : Type 0} (items : List A) (place : ℕ) (one other : A)
 set-twice [] place one other = refl
 set-twice (item ∷ items) zero one other = refl
 set-twice (item ∷ items) (suc place) one other = ap (◌∷◌ item) (set-twice items place one other)
-
--- Who comes in an entry list at a number is known.
-known_at : (entries : List (List ℕ)) (number : ℕ) (name : List ℕ) → slice_get entries number ≡ Some name
-    → is_known entries name ≡ true
-known_at [] number name is = absurd cc
-known_at (first ∷ entries) zero name is =
-    or_left (bytes_eq name first) (is_known entries name)
-    ((bytes_eq-Decides name first).1 (sym (same_Some first name is)))
-known_at (first ∷ entries) (suc number) name is =
-    or_right (bytes_eq name first) (is_known entries name) (known_at entries number name is)
-
--- A name that is among names of which each is known, is known.
-known_among : (entries names : List (List ℕ)) (name : List ℕ) → All (λ one. is_known entries one ≡ true) names
-    → list_any (λ one. bytes_eq one name) names ≡ true → is_known entries name ≡ true
-known_among entries [] name all among = absurd cc
-known_among entries (first ∷ names) name all among =
-    by_first (bytes_eq first name) refl among
-    (λ later. known_among entries names name (λ k d within. all (suc k) d (omega (arith, within))) later)
-  where
-    by_first : (same : Bool) → bytes_eq first name ≡ same
-        → (same || list_any (λ one. bytes_eq one name) names) ≡ true
-        → (list_any (λ one. bytes_eq one name) names ≡ true → is_known entries name ≡ true)
-        → is_known entries name ≡ true
-    by_first true is among later =
-        subst (λ (one : List ℕ). is_known entries one ≡ true) ((bytes_eq-Decides first name).0 is)
-        (all 0 first (omega arith))
-    by_first false is among later = later among
-
--- Who is dealt in has entered.
-dealt_known : (book : BookState) (table : ℕ) (start : HandStart) (name : List ℕ) → IsValid book
-    → start_at book.started table ≡ Some start → is_dealt start name ≡ true → is_known book.entries name ≡ true
-dealt_known book table start name valid is dealt =
-    let lent = valid.hands.lent table in
-    let same : map (λ player. player.name) (map start_seat (filter (is_lent table) book.seating.players))
-    ≡ map (λ player. player.name) (map without_stack start.seats) =
-    ap (map (λ (player : StartSeat). player.name)) lent
-    ∙ ap (λ (found : Option HandStart). map (λ (player : StartSeat). player.name) (map without_stack (starters_of found)))
-    is in
-    let players = All-filter (is_lent table) (λ (seated : Seated). is_known book.entries seated.name ≡ true)
-    book.seating.players
-    (λ k seated at. known_at book.entries _ _ (valid.entries.named k seated at)) in
-    let all = subst (λ (names : List (List ℕ)). All (λ one. is_known book.entries one ≡ true) names) same
-    (All-map (λ one. is_known book.entries one ≡ true) (λ (player : StartSeat). player.name)
-    (map start_seat (filter (is_lent table) book.seating.players))
-    (All-map (λ (player : StartSeat). is_known book.entries player.name ≡ true) start_seat
-    (filter (is_lent table) book.seating.players) players)) in
-    known_among book.entries _ name all
-    (list_any-made (λ one. bytes_eq one name) (λ (player : StartSeat). player.name) (map without_stack start.seats)
-    ∙ (list_any-made (λ (player : StartSeat). bytes_eq player.name name) without_stack start.seats ∙ dealt))
 
 -- A hand is out at a table, and the tournament goes on.
 pub record IsOutAt (book : BookState) (table : ℕ) (start : HandStart) : Type 0 where

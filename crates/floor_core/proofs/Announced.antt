@@ -1,12 +1,18 @@
 -- Tables that a level raises one after another.
-use Rattle.std.proofs.Common.{◌≡◌, ◌∙◌, refl, sym, ap, ◌<◌, ℕ, zero, suc, ◌+◌, List, [], ◌∷◌, map, length, set, get_or, add-one, arith}
+use Rattle.std.proofs.Common.{◌≡◌, ◌∙◌, refl, sym, ap, ◌<◌, ℕ, zero, suc, ◌+◌, cond, List, [], ◌∷◌, map, length, set, get_or, add-one, arith}
+use Rattle.std.specs.Prelude.{nat_lt}
 use Rattle.std.specs.List.{enumerate_from}
+use Rattle.rulebook.specs.Checks.{first_that_holds}
+use Rattle.level_plan.specs.Plans.{unit_of_level}
+use Rattle.floor_events.specs.declared.event.Event.TheVariants.{Level}
+use Rattle.tournament_rules.specs.Books.{BookState}
+use Rattle.tournament_rules.specs.Checks.{level_checks, book_refusal}
 use Rattle.seat_book.specs.declared.seated.Seated.{Seated}
 use Rattle.seat_book.specs.declared.table_status.TableStatus.{TableStatus}
 use Rattle.seat_book.specs.Counts.{is_open}
 use Rattle.seat_book.specs.Tables.{fresh_status}
 use Rattle.seat_book.specs.Seatings.{Seating}
-use Rattle.tournament_rules.specs.Effects.{with_table}
+use Rattle.tournament_rules.specs.Effects.{with_table, leveled}
 use Rattle.tournament_rules.specs.Racing.{announced_table, announced}
 
 -- the tables of which so many are announced, where the first has this number
@@ -88,3 +94,20 @@ announced-all unit before now below all now_is =
     now_is ∙ (ap (announced_so_far unit before) all
     ∙ ap (λ (tables : List TableStatus). record before { tables = tables })
     (first-all unit before.players 1 before.tables))
+
+-- The refusal of the next level is that of its checks.
+pub level_refusal : (book : BookState) → book_refusal book Level ≡ first_that_holds (level_checks book)
+unfolding book_refusal
+level_refusal book = refl
+
+-- The fields that the next level writes make the book of the definition.
+pub leveled_state : (book : BookState) (before unit : ℕ) (seats : Seating)
+    → before ≡ unit_of_level book.plan.blinds book.level → unit ≡ unit_of_level book.plan.blinds (book.level + 1)
+    → seats ≡ cond (nat_lt before unit) (announced unit book.seating) book.seating
+    → record book { seating = seats; level = book.level + 1; accepted = book.accepted + 1 } ≡ leveled book
+leveled_state book before unit seats before_is unit_is seats_is =
+    let now : cond (nat_lt before unit) (announced unit book.seating) book.seating
+    ≡ (leveled book).seating =
+    λ i. cond (nat_lt (before_is i) (unit_is i)) (announced (unit_is i) book.seating) book.seating in
+    ap (λ (seats : Seating). record book { seating = seats; level = book.level + 1; accepted = book.accepted + 1 })
+    (seats_is ∙ now)

@@ -1,5 +1,5 @@
 -- The book once a hand has begun, and once one has ended, as its fields are written.
-use Rattle.std.proofs.Common.{◌≡◌, ◌∙◌, refl, sym, ap, ◌≤◌, ◌<◌, ℕ, ◌+◌, Bool, true, List, ◌++◌, length, get_or, map, arith}
+use Rattle.std.proofs.Common.{◌≡◌, ◌∙◌, refl, sym, ap, ◌≤◌, ◌<◌, ℕ, zero, suc, ◌+◌, Bool, true, List, [], ◌∷◌, ◌++◌, length, get_or, map, arith}
 use Rattle.std.specs.Prelude.{not, nat_le, ◌&&◌, slice_set, Option, Some, None}
 use Rattle.std.specs.List.{list_all}
 use Rattle.std.proofs.lemmas.Bool.Decides.{nat_tests}
@@ -144,6 +144,14 @@ pub taken_out : (started : List (Option HandStart)) (index table : ℕ) (slot ta
 taken_out started index table slot taken start within same slot_is taken_is is =
     ap (λ (table : ℕ). start_at started table) (sym same)
     ∙ (get_or_default started index None slot within ∙ (sym slot_is ∙ (sym taken_is ∙ is)))
+
+-- The book has a place for each table of which it keeps a start.
+pub kept_within : (started : List (Option HandStart)) (table : ℕ) (start : HandStart)
+    → start_at started table ≡ Some start → table < length started
+kept_within [] table start is = absurd cc
+kept_within (slot ∷ started) zero start is = omega arith
+kept_within (slot ∷ started) (suc table) start is = let further = kept_within started table start is in omega
+    (arith, further)
 
 -- Voids leave the number of tables.
 pub left_count : (book : BookState) (tables : ℕ) → (void_first book tables).seating.table_count

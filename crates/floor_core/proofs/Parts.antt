@@ -4,15 +4,14 @@ use Rattle.std.specs.Prelude.{Option, Some, None, Result}
 use Rattle.std.specs.Option.{option_and_then, option_or}
 use Rattle.rulebook.specs.Checks.{first_that_holds}
 use Rattle.floor_text.specs.declared.refusal.Refusal.{Refusal}
-use Rattle.betting_round.specs.declared.act.Act.{Act}
 use Rattle.table_engine.specs.declared.record.ActFault.{ActFault}
 use Rattle.table_engine.specs.Acts.{IsAnswer}
 use Rattle.table_engine.specs.Hands.{HandTerms}
 use Rattle.floor_events.specs.declared.event.Event.{Event}
 use Rattle.floor_events.specs.declared.event.Event.TheVariants as events
-use Rattle.floor_events.specs.declared.event.Event.TheVariants.{Act as Acts, Settle}
+use Rattle.floor_events.specs.declared.event.Event.TheVariants.{Settle}
 use Rattle.tournament_rules.specs.Books.{BookState}
-use Rattle.tournament_rules.specs.Checks.{book_refusal, before_act_checks, before_hand_checks}
+use Rattle.tournament_rules.specs.Checks.{book_refusal, before_hand_checks}
 use Rattle.tournament_rules.specs.States.{PlayState, refusal_of}
 use Rattle.tournament_rules.specs.Apart.{start_of, seen_of, hand_for, hand_refusal}
 use Rattle.tournament_rules.specs.Kinds.{leaves_hands}
@@ -52,17 +51,23 @@ by_order book hands event tied leaves = by_book_alone book hands event tied (abo
     about_none (events.Settle table) leaves = absurd cc
     about_none _ leaves = refl
 
+-- What the book refuses is refused for that.
+pub by_book : (book : BookState) (hands : List (Option HandTerms)) (event : Event) (found : Refusal)
+    → map start_of hands ≡ book.started → book_refusal book event ≡ Some found
+    → refusal_of (seen book hands) event ≡ Some found
+by_book book hands event found tied is = in_parts book hands event tied ∙ rw is refl
+
 -- What the book does not refuse is refused by the hand alone.
 pub by_hand : (book : BookState) (hands : List (Option HandTerms)) (event : Event) → map start_of hands ≡ book.started
     → book_refusal book event ≡ None → refusal_of (seen book hands) event
     ≡ option_and_then (hand_refusal event) (hand_for hands event)
 by_hand book hands event tied none = in_parts book hands event tied ∙ rw none refl
 
--- The book's refusal of an act is that of its checks.
-pub act_refusal : (book : BookState) (table : ℕ) (name : List ℕ) (act : Act)
-    → book_refusal book (Acts table name act) ≡ first_that_holds (before_act_checks book table name)
+-- The book's refusal of a called time is that of its checks.
+pub time_refusal : (book : BookState) (table : ℕ) → book_refusal book (events.Time table)
+    ≡ first_that_holds (before_hand_checks book table)
 unfolding book_refusal
-act_refusal book table name act = refl
+time_refusal book table = refl
 
 -- The book's refusal of a settle is that of its checks.
 pub settle_refusal : (book : BookState) (table : ℕ) → book_refusal book (Settle table)

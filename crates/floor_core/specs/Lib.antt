@@ -1,3 +1,4 @@
+pub mod Acting
 pub mod Busts
 pub mod Fields
 pub mod Moves

@@ -13,6 +13,7 @@ ghost use Rattle.tournament_rules.specs.Checks.{end_checks};
 ghost use Rattle.tournament_rules.specs.Valid.{IsValid};
 ghost use Rattle.tournament_rules.specs.Apart.{hand_in};
 ghost use Rattle.tournament_rules.specs.Kinds.{leaves_hands};
+ghost use Rattle.floor_core.specs.Acting.{refusal_by_hand};
 
 use crate::BookFault;
 use crate::book::Book;
@@ -80,15 +81,34 @@ impl Play {
         Ok(())
     }
 
-    /// Lets a player act in the hand at a table.
-    #[tactic(auto, using(tournament_rules::proofs::Layers::layers), unfolding(tournament_rules::specs::States::refusal_of))]
+    /// Lets a player act in the hand at a table, where the tournament goes on, as if the name were known.
+    #[tactic(auto, using(tournament_rules::proofs::Layers::layers), unfolding(crate::specs::Acting::refusal_by_hand))]
+    fn act_in_hand(&mut self, table: u64, name: Name, act: Act) -> Result<(), BookFault>
+        ensures answer { IsAnswer (refusal_by_hand self.old table name act) result }
+        ensures state { OnOk result (self.new ≡ play_effect self.old (events.Act table name act)) }
+        ensures err { OnErr result (self.new ≡ self.old) }
+    {
+        let table = self.book.check_playing(table)?;
+        act_at(&mut self.hands, usize::from(table), name, act)
+    }
+
+    /// Lets a player act in the hand at a table. Who acts in a hand has entered, so that a name is looked for among the
+    /// entries only where the act is refused.
     fn act(&mut self, table: u64, name: Name, act: Act) -> Result<(), BookFault>
+        requires { IsValid self.old.book }
         ensures answer { IsAnswer (refusal_of self.old (events.Act table name act)) result }
         ensures state { OnOk result (self.new ≡ play_effect self.old (events.Act table name act)) }
         ensures err { OnErr result (self.new ≡ self.old) }
     {
-        let table = self.book.check_act(table, name)?;
-        act_at(&mut self.hands, usize::from(table), name, act)
+        self.book.check_going()?;
+        match self.act_in_hand(table, name, act) {
+            Ok(()) => Ok(()),
+            Err(BookFault::No(refusal)) => {
+                self.book.check_known(name)?;
+                Err(BookFault::No(refusal))
+            }
+            Err(BookFault::NoMemory) => Err(BookFault::NoMemory),
+        }
     }
 
     /// Calls time on the player who is due in the hand at a table.

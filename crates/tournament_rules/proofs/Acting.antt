@@ -85,7 +85,7 @@ picked_known entries name test (player ∷ players) named some =
     by_test false some others = others some
 
 -- Who is dealt in to a hand that is played has entered.
-dealt_known : (book : BookState) (table : ℕ) (start : HandStart) (name : List ℕ) → IsValid book
+pub dealt_known : (book : BookState) (table : ℕ) (start : HandStart) (name : List ℕ) → IsValid book
     → start_at book.started table ≡ Some start → is_dealt start name ≡ true → is_known book.entries name ≡ true
 dealt_known book table start name valid started dealt =
     let has_name = λ (player : StartSeat). bytes_eq player.name name in

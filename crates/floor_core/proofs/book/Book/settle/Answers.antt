@@ -1,4 +1,4 @@
-use Rattle.std.proofs.Common.{◌≡◌, ◌∙◌, sym, ap, subst, ℕ, ◌+◌, Bool, cond, List}
+use Rattle.std.proofs.Common.{◌≡◌, ◌∙◌, sym, ap, subst, ℕ, ◌+◌, Bool, cond, List, arith}
 use Rattle.std.specs.Prelude.{slice_set, Option, Some, None}
 use Rattle.seat_book.specs.declared.seated.Seated.{Seated}
 use Rattle.seat_book.specs.Seatings.{Seating}
@@ -13,9 +13,24 @@ use Rattle.tournament_rules.specs.Valid.{IsValid}
 use Rattle.tournament_rules.proofs.Ends.{valid_settled}
 use Rattle.floor_core.specs.Busts.{MayGoOut}
 use Rattle.floor_core.specs.Fields.{book_of}
-use Rattle.floor_core.proofs.Begun.{settled_state}
+use Rattle.floor_core.proofs.Begun.{settled_state, payees_of, kept_within}
 use Rattle.floor_core.proofs.GoingOut.{may_all}
 use Rattle.floor_core.proofs.book.Book.settle.Goals as goal
+
+pub pay_stacks-requires-clause-payees : goal.pay_stacks-requires-clause-payees
+pay_stacks-requires-clause-payees c =
+    let start = c.args.done.now.start in
+    let is : start_at (book_of c.self.inside).started start.table ≡ Some start =
+    ap (λ (book : BookState). start_at book.started start.table) c.self.view_is ∙ c.requires.started in
+    rw c.items.ensures (payees_of start (c.self.invariant.hands.starts start.table start is).lawful)
+
+pub index_mut-requires : goal.index_mut-requires
+index_mut-requires c =
+    let start = c.args.done.now.start in
+    let is : start_at (book_of c.self.inside).started start.table ≡ Some start =
+    ap (λ (book : BookState). start_at book.started start.table) c.self.view_is ∙ c.requires.started in
+    let within = kept_within (book_of c.self.inside).started start.table start is in
+    omega (arith, within, c.from.ensures)
 
 pub bust_players-requires-clause-may : goal.bust_players-requires-clause-may
 bust_players-requires-clause-may c =

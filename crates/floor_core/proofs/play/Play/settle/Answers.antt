@@ -11,7 +11,7 @@ use Rattle.tournament_rules.specs.States.{PlayState, refusal_of}
 use Rattle.tournament_rules.specs.Apart.{hand_in, hand_refusal, start_of}
 use Rattle.tournament_rules.proofs.Layers.{start_read}
 use Rattle.floor_core.proofs.Joins.{answered_no}
-use Rattle.floor_core.proofs.Parts.{by_hand, settle_refusal}
+use Rattle.floor_core.proofs.Parts.{by_book, by_hand, settle_refusal}
 use Rattle.floor_core.proofs.play.Play.settle.Goals as goal
 
 -- Where a hand is out, it refuses its settle by what its checks found.
@@ -40,3 +40,14 @@ returns-in_err-check_end-clause-answer c =
     (λ played is. c.in_err-check_end.ensures.checked played (at_index ∙ is)) in
     answered_no (refusal_of c.args.self.now event) found c.from_residual-in_err-check_end.result (same ∙ refused)
     c.from_residual-in_err-check_end.ensures.0 c.from_residual-in_err-check_end.ensures.1
+
+pub returns-in_err-table-clause-answer : goal.returns-in_err-table-clause-answer
+returns-in_err-table-clause-answer c =
+    let book = c.self.inside.book in
+    let event = Settle c.args.table in
+    let found = c.in_err-table.field-0.0 in
+    let refused = by_book book c.self.inside.hands.items event found c.self.invariant
+    (settle_refusal book c.args.table ∙ c.in_err-table.ensures.checked) in
+    answered_no (refusal_of c.args.self.now event) found c.from_residual.result
+    (sym (ap (λ (play : PlayState). refusal_of play event) c.self.view_is) ∙ refused) c.from_residual.ensures.0
+    c.from_residual.ensures.1
