@@ -153,6 +153,8 @@ impl Hand {
     }
 
     /// Accepts an act of the player in a seat, where no check holds.
+    // What is accepted is made where it is taken, and is not moved there from a call.
+    #[inline(always)]
     fn accept_in_seat(&self, seat: u8, entry: ActOf) -> Result<Accepted, Refusal>
         requires seat { seat_of_name self.now.start entry.name ≡ Some seat }
         requires timed { entry.by_time ≡ true → entry ≡ time_act self.now }
@@ -166,6 +168,7 @@ impl Hand {
     }
 
     /// Accepts an act of a player, where no check holds.
+    #[inline(always)]
     fn accept(&self, name: Name, act: Act) -> Result<Accepted, Refusal>
         ensures err { IfErr result (λ refusal. refusal_of_act self.now name act ≡ Some refusal) }
         ensures entry { IfOk result (λ accepted.
@@ -228,6 +231,7 @@ impl Hand {
     }
 
     /// Takes an act that is not refused, once there is room for it. Want of memory leaves the hand as it was.
+    #[inline(always)]
     fn take(&mut self, accepted: Accepted) -> Result<Done, AllocError>
         requires { IsAccepted self.old accepted }
         ensures state { OnOk result (self.new ≡ record self.old { acts = self.old.acts ++ accepted.entry ∷ [] }) }
