@@ -1,15 +1,18 @@
 //! Sessions and desks over links and doors in memory, on one thread. What is said and put stands in transcripts.
 
 mod client;
-mod dealt;
+mod door;
 mod doors;
+mod ends;
+mod entered;
 mod faults;
-mod four;
 mod hall;
+mod house;
 mod lines;
+mod listed;
 mod orders;
-mod pair;
 mod played;
 mod players;
 mod refusals;
+mod stage;
 mod watched;

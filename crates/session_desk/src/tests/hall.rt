@@ -9,12 +9,9 @@ ghost use Rattle.session_desk.specs.Desks.{AreInOrder, IsDeskOf};
 
 use crate::Desk;
 use book_dock::{BookDock, BookPass, make_book};
-use floor_text::Name;
 use history_lock::{Grows, Pass};
 use plan_files::{Words, served_from_toml};
 use std::alloc::{AllocError, Global};
-use std::process::Abort;
-use std::test::Fail;
 use table_dock::{Gate, TableDock, TablePass, make_dock};
 
 /// The seed of all decks and draws.
@@ -39,15 +36,6 @@ pub struct Shape {
     /// The levels as the journal's lines have them.
     pub told: &'static str,
 }
-
-/// A table of two seats.
-pub const PAIR: Shape = Shape {
-    game: "holdem",
-    tables: 1,
-    seats: 2,
-    levels: "[[100, 200, 100]]",
-    told: "# blinds 100 200 100\n",
-};
 
 impl Shape {
     /// Writes the plan file, with the words of the floor and of four players.
@@ -85,6 +73,7 @@ impl Shape {
 /// The book of a plan, the docks of its tables, and the words of its clients.
 #[derive(Drop)]
 pub struct Hall {
+    pub alloc: Global,
     pub shape: Shape,
     pub words: Words,
     pub book: BookDock,
@@ -185,11 +174,9 @@ fn make_tables(alloc: Global, count: u8) -> Result<Tables, AllocError>
     Ok(tables)
 }
 
-/// Opens a hall, with the passes of its staff.
-pub fn open(alloc: Global, shape: Shape) -> Result<(Hall, Staff), Fail>
+/// Makes a hall, with the passes of its staff.
+pub fn make_hall(alloc: Global, shape: Shape) -> Result<(Hall, Staff), AllocError>
     ensures order { IfOk result (λ made. AreInOrder made.0.docks.items) }
-    ensures count { IfOk result (λ made. vec_len made.0.docks ≡ shape.tables) }
-    ensures passes { IfOk result (λ made. vec_len made.1.tables ≡ shape.tables) }
     ensures desk { IfOk result (λ made. IsDeskOf made.0.book made.0.docks.items made.1.desk) }
     ensures other { IfOk result (λ made. IsDeskOf made.0.book made.0.docks.items made.1.other) }
     ensures book { IfOk result (λ made. lock_of made.1.book ≡ book_id made.0.book) }
@@ -198,7 +185,7 @@ pub fn open(alloc: Global, shape: Shape) -> Result<(Hall, Staff), Fail>
         made.1.tables.items made.0.docks.items) }
 {
     let file = shape.file(alloc)?;
-    let (plan, words) = served_from_toml(alloc, file.as_bytes())?;
+    let (plan, words) = served_from_toml(alloc, file.as_bytes()).map_err(|_| AllocError)?;
     let (book, passes) = make_book(alloc, plan, SEED, 3)?;
     let (first, second, third) = three(passes);
     let Tables {
@@ -208,6 +195,7 @@ pub fn open(alloc: Global, shape: Shape) -> Result<(Hall, Staff), Fail>
         other,
     } = make_tables(alloc, shape.tables)?;
     let hall = Hall {
+        alloc,
         shape,
         words,
         book,
@@ -220,9 +208,4 @@ pub fn open(alloc: Global, shape: Shape) -> Result<(Hall, Staff), Fail>
         other: Desk::new(alloc, third, other),
     };
     Ok((hall, staff))
-}
-
-/// Reads a name.
-pub fn name(rt: &impl Abort, bytes: &[u8]) -> Name {
-    Name::read(bytes).expect(rt, "a name")
 }

@@ -1,19 +1,11 @@
 //! The lines of a session, wherever they are cut, and what its turns come to.
 
-use super::client::{ROOM, Talk, begin, check_put, serve, text_of, turn};
-use super::hall::{PAIR, open};
-use crate::{SessionEnd, Step};
-use links::{MemLink, Say};
-use std::alloc::{AllocError, Global};
-use std::process::Abort;
-use std::sync::Wait;
-use std::test::Fail;
+use super::entered::PAIR;
+use super::stage::play;
 
 /// Lines before a right hello, and hellos behind it.
-const HELLOS: Talk<'static> = Talk {
-    name: "hellos",
-    parts: &[
-        "> watch 1
+const HELLOS: &str = "@ session: quit
+> watch 1
 = who
 > act 1 fold
 = who
@@ -63,57 +55,11 @@ const HELLOS: Talk<'static> = Talk {
 > quit
 = ok
 > watch 1
-",
-    ],
-    end: SessionEnd::Quit,
-};
-
-/// A session that says nothing but that it quits.
-const QUIT: Talk<'static> = Talk {
-    name: "quit before a hello",
-    parts: &["> quit\n= ok\n"],
-    end: SessionEnd::Quit,
-};
-
-/// A session that says nothing.
-const NOTHING: Talk<'static> = Talk {
-    name: "nothing",
-    parts: &[".\n"],
-    end: SessionEnd::Ended,
-};
-
-/// The last line has no line feed.
-const LAST: Talk<'static> = Talk {
-    name: "a last line without a line feed",
-    parts: &[
-        "> hello ann a
-= ok
-~ act 1 fo
-.
-# PLAN
-= no 1 Syntax
-",
-    ],
-    end: SessionEnd::Ended,
-};
-
-/// A last line without a line feed is a quit.
-const LAST_QUIT: Talk<'static> = Talk {
-    name: "a last line that quits",
-    parts: &[
-        "~ quit
-.
-= ok
-",
-    ],
-    end: SessionEnd::Quit,
-};
+";
 
 /// Lines that come in pieces. One waits for news in the midst of a line.
-const PIECES: Talk<'static> = Talk {
-    name: "lines in pieces",
-    parts: &[
-        "~ hel
+const PIECES: &str = "@ session: ended
+~ hel
 ~ lo ann\x20
 > a
 = ok
@@ -125,116 +71,95 @@ const PIECES: Talk<'static> = Talk {
 > act 2 fold
 = no 8 NoTable
 .
-",
-    ],
-    end: SessionEnd::Ended,
-};
+";
+
+/// Sessions that are short: a quit before a hello, nothing at all, a last line without a line feed, and one that is a
+/// quit.
+const SHORT: [&str; 4] = [
+    "@ session: quit\n> quit\n= ok\n",
+    "@ session: ended\n.\n",
+    "@ session: ended\n> hello ann a\n= ok\n~ act 1 fo\n.\n# PLAN\n= no 1 Syntax\n",
+    "@ session: quit\n~ quit\n.\n= ok\n",
+];
 
 #[test]
-fn lines_are_replied(rt: HostRuntime) -> Result<(), Fail> {
-    let alloc = rt.alloc();
-    for talk in [&HELLOS, &QUIT, &NOTHING, &LAST, &LAST_QUIT, &PIECES] {
-        let (hall, staff) = open(alloc, PAIR)?;
-        let _desk = serve(&rt, alloc, &hall, staff.desk, talk)?;
+fn lines_are_replied(rt: HostRuntime) {
+    play(&rt, rt.alloc(), PAIR, "", HELLOS);
+    play(&rt, rt.alloc(), PAIR, "", PIECES);
+    for scene in SHORT {
+        play(&rt, rt.alloc(), PAIR, "", scene);
     }
-    Ok(())
 }
 
-/// Gives a line of so many letters.
-fn long_line(alloc: Global, count: usize) -> Result<Say, AllocError> {
-    let mut line = vec![in alloc; b'x'; count]?;
-    line.push(b'\n')?;
-    Ok(Say::Give(line))
-}
-
-/// Gives these bytes.
-fn give(alloc: Global, bytes: &[u8]) -> Result<Say, AllocError> {
-    Ok(Say::Give(bytes.to_vec(alloc)?))
-}
-
-/// Makes turns of a client's session, and compares what each comes to and puts.
-fn check_turns<R: Wait + Abort>(
-    rt: &R,
-    alloc: Global,
-    script: Vec<Say>,
-    turns: &[(Step, &str)],
-    name: &str,
-) -> Result<(), Fail> {
-    let (hall, staff) = open(alloc, PAIR)?;
-    let (mut link, tape) = MemLink::new(alloc, script, ROOM, Vec::new(alloc))?;
-    let mut session = begin(alloc, staff.desk)?;
-    let mut wanted = Vec::new(alloc);
-    for (step, put) in turns {
-        let (next, found) = turn(rt, &hall, session, &mut link);
-        session = next;
-        assert_eq!(rt; found, *step, "{name}");
-        let text = text_of(alloc, &hall.shape, &[*put])?;
-        wanted.extend_from_slice(&text)?;
-        check_put(rt, alloc, &tape, &wanted, name)?;
-    }
-    Ok(())
-}
+/// Two lines come at once, and the last line has no line feed.
+const LAST_LINE: &str = "@ other: comes
+~ hello ann a|watch 1|
+! 1: hand
+~ act 1 fo
+.
+@ other: took
+@ other: replied
+= ok
+@ other: replied
+# PLAN
+= ok
+@ other: idled
+@ other: took
+@ other: replied
+= no 1 Syntax
+@ other: ended
+";
 
 #[test]
-fn turns_come_to_what_they_did(rt: HostRuntime) -> Result<(), Fail> {
-    let alloc = rt.alloc();
-    let script = vec![in alloc;
-        give(alloc, b"hello ann a\nwatch 1\n")?,
-        Say::WaitFor {
-            front: b"1: hand".to_vec(alloc)?,
-            turns: 1
-        },
-        give(alloc, b"act 1 fo")?,
-        Say::Finish,
-    ]?;
-    let turns = [
-        (Step::Took, ""),
-        (Step::Replied, "= ok\n"),
-        (Step::Replied, "# PLAN\n= ok\n"),
-        (Step::Idled, ""),
-        (Step::Took, ""),
-        (Step::Replied, "= no 1 Syntax\n"),
-        (Step::Over(SessionEnd::Ended), ""),
-    ];
-    check_turns(&rt, alloc, script, &turns, "a last line")
+fn turns_come_to_what_they_did(rt: HostRuntime) {
+    play(&rt, rt.alloc(), PAIR, "", LAST_LINE);
 }
 
-#[test]
-fn no_line_is_handled_behind_a_quit(rt: HostRuntime) -> Result<(), Fail> {
-    let alloc = rt.alloc();
-    let script = vec![in alloc; give(alloc, b"hello ann a\nquit\nwatch 1\n")?]?;
-    let turns = [
-        (Step::Took, ""),
-        (Step::Replied, "= ok\n"),
-        (Step::Over(SessionEnd::Quit), "# PLAN\n= ok\n"),
-    ];
-    check_turns(&rt, alloc, script, &turns, "a quit")
-}
+/// A line comes at once with the quit before it.
+const QUIT_BEFORE: &str = "@ other: comes
+~ hello ann a|quit|watch 1|
+@ other: took
+@ other: replied
+= ok
+@ other: quit
+# PLAN
+= ok
+";
 
 #[test]
-fn long_lines_are_replied_once(rt: HostRuntime) -> Result<(), Fail> {
-    let alloc = rt.alloc();
-    let script = vec![in alloc;
-        long_line(alloc, 401)?,
-        give(alloc, b"hello ann a\n")?,
-        long_line(alloc, 400)?,
-        long_line(alloc, 511)?,
-        long_line(alloc, 900)?,
-        Say::Finish,
-    ]?;
-    let turns = [
-        (Step::Took, ""),
-        (Step::Replied, "= who\n"),
-        (Step::Took, ""),
-        (Step::Replied, "= ok\n"),
-        (Step::Took, ""),
-        (Step::Replied, "# PLAN\n= no 1 Syntax\n"),
-        (Step::Took, ""),
-        (Step::Replied, "= no 1 Syntax\n"),
-        (Step::Took, ""),
-        (Step::Took, ""),
-        (Step::Replied, "= no 1 Syntax\n"),
-        (Step::Over(SessionEnd::Ended), ""),
-    ];
-    check_turns(&rt, alloc, script, &turns, "long lines")
+fn no_line_is_handled_behind_a_quit(rt: HostRuntime) {
+    play(&rt, rt.alloc(), PAIR, "", QUIT_BEFORE);
+}
+
+/// Lines of 401, 400, 511 and 900 letters.
+const LONG_LINES: &str = "@ other: comes
+% 401
+> hello ann a
+% 400
+% 511
+% 900
+.
+@ other: took
+@ other: replied
+= who
+@ other: took
+@ other: replied
+= ok
+@ other: took
+@ other: replied
+# PLAN
+= no 1 Syntax
+@ other: took
+@ other: replied
+= no 1 Syntax
+@ other: took
+@ other: took
+@ other: replied
+= no 1 Syntax
+@ other: ended
+";
+
+#[test]
+fn long_lines_are_replied_once(rt: HostRuntime) {
+    play(&rt, rt.alloc(), PAIR, "", LONG_LINES);
 }

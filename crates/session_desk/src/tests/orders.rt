@@ -1,12 +1,8 @@
 //! What the floor asks for, and each refusal of it, as it is replied.
 
-use super::client::{Talk, serve};
-use super::dealt::{Way, begun, bring_back, play, played};
-use super::four::{ENTER_FOUR, FOUR_ENTERED, FOUR_SEATS};
-use super::hall::{Shape, Staff, open};
-use super::pair::{BEGUN, ENTER_BOTH};
-use crate::SessionEnd;
-use std::test::Fail;
+use super::entered::{ENTER_BOTH, ENTER_FOUR, FOUR_SEATS};
+use super::hall::Shape;
+use super::stage::play;
 
 /// Two tables of two seats. The second level has greater chips.
 const RISING: Shape = Shape {
@@ -18,10 +14,8 @@ const RISING: Shape = Shape {
 };
 
 /// Entries, levels, races, and what comes behind the stop.
-const LEVELS: Talk<'static> = Talk {
-    name: "entries, levels and races",
-    parts: &[
-        "> hello floor f
+const LEVELS: &str = "@ session: closed
+> hello floor f
 = ok
 > enter ann 3 1
 # PLAN
@@ -100,25 +94,17 @@ const LEVELS: Talk<'static> = Talk {
 = ok
 > watch 3
 = no 8 NoTable
-",
-    ],
-    end: SessionEnd::Closed,
-};
+@ listed: nothing
+";
 
 #[test]
-fn entries_levels_and_races_are_replied(rt: HostRuntime) -> Result<(), Fail> {
-    let alloc = rt.alloc();
-    let (hall, staff) = open(alloc, RISING)?;
-    let desk = serve(&rt, alloc, &hall, staff.desk, &LEVELS)?;
-    assert!(rt; desk.asked().is_empty());
-    Ok(())
+fn entries_levels_and_races_are_replied(rt: HostRuntime) {
+    play(&rt, rt.alloc(), RISING, "", LEVELS);
 }
 
 /// A table that is broken. Its one player has one seat to go to.
-const BREAK: Talk<'static> = Talk {
-    name: "a break",
-    parts: &[
-        "> hello floor f
+const BREAK: &str = "@ session: ended
+> hello floor f
 = ok
 > enter ann 1 1
 # PLAN
@@ -139,17 +125,11 @@ const BREAK: Talk<'static> = Talk {
 > next
 = none
 .
-",
-    ],
-    end: SessionEnd::Ended,
-};
+";
 
 #[test]
-fn a_break_is_drawn(rt: HostRuntime) -> Result<(), Fail> {
-    let alloc = rt.alloc();
-    let (hall, staff) = open(alloc, RISING)?;
-    let _desk = serve(&rt, alloc, &hall, staff.desk, &BREAK)?;
-    Ok(())
+fn a_break_is_drawn(rt: HostRuntime) {
+    play(&rt, rt.alloc(), RISING, "", BREAK);
 }
 
 /// Three tables of two seats.
@@ -162,10 +142,8 @@ const THREE: Shape = Shape {
 };
 
 /// Moves of players, none of which is lawful.
-const MOVES: Talk<'static> = Talk {
-    name: "moves that are refused",
-    parts: &[
-        "> hello floor f
+const MOVES: &str = "@ session: ended
+> hello floor f
 = ok
 > enter ann 1 1
 # PLAN
@@ -204,29 +182,26 @@ const MOVES: Talk<'static> = Talk {
 > level
 = no 39 LastLevel
 .
-",
-    ],
-    end: SessionEnd::Ended,
-};
+";
 
 #[test]
-fn moves_are_refused(rt: HostRuntime) -> Result<(), Fail> {
-    let alloc = rt.alloc();
-    let (hall, staff) = open(alloc, THREE)?;
-    let _desk = serve(&rt, alloc, &hall, staff.desk, &MOVES)?;
-    Ok(())
+fn moves_are_refused(rt: HostRuntime) {
+    play(&rt, rt.alloc(), THREE, "", MOVES);
 }
 
-/// The floor switches hand-for-hand on before any hand.
-const SWITCH_ON: Talk<'static> = Talk {
-    name: "hand-for-hand begins",
-    parts: &[
-        "> hello floor f
+/// The floor switches hand-for-hand on before any hand, and asks for what is refused while table 1
+/// plays and once it has played. Once both tables have played, the draw of the break is that of the entry with number
+/// 20.
+const ROUND: &str = "@ session: ended
+> hello floor f
 = ok
 > round
-",
-        FOUR_ENTERED,
-        "= no 41 SwitchWrong
+# PLAN
+# enter ann 1 1
+# enter bob 2 1
+# enter cat 1 2
+# enter dan 2 2
+= no 41 SwitchWrong
 > hands off
 = no 41 SwitchWrong
 > hands on
@@ -235,33 +210,19 @@ const SWITCH_ON: Talk<'static> = Talk {
 > hands on
 = no 41 SwitchWrong
 .
-",
-    ],
-    end: SessionEnd::Ended,
-};
-
-/// What is told of the switch, and of the begin of the first hand.
-const ONE_BEGINS: &str = "# hands on
-# begin 1 1
-";
-
-/// What is told of its settle. Whoever was due first has folded.
-const ONE_SETTLED: &str = "# settle 1
-# stack 1 1 ann 900
-# stack 1 2 cat 1100
-";
-
-/// The floor while table 1 plays.
-const ONE_PLAYS: Talk<'static> = Talk {
-    name: "while table 1 plays",
-    parts: &[
-        "> hello floor f
+@ worker: begins at table 1
+@ session: ended
+> hello floor f
 = ok
 > hands off
-",
-        FOUR_ENTERED,
-        ONE_BEGINS,
-        "= no 40 RoundOpen
+# PLAN
+# enter ann 1 1
+# enter bob 2 1
+# enter cat 1 2
+# enter dan 2 2
+# hands on
+# begin 1 1
+= no 40 RoundOpen
 > round
 = no 40 RoundOpen
 > balance 1 2
@@ -273,23 +234,22 @@ const ONE_PLAYS: Talk<'static> = Talk {
 > race 2
 = no 42 NoRace
 .
-",
-    ],
-    end: SessionEnd::Ended,
-};
-
-/// The floor once table 1 has played.
-const ONE_HAS_PLAYED: Talk<'static> = Talk {
-    name: "once table 1 has played",
-    parts: &[
-        "> hello floor f
+@ worker: lets whoever is due fold
+@ session: ended
+> hello floor f
 = ok
 > round
-",
-        FOUR_ENTERED,
-        ONE_BEGINS,
-        ONE_SETTLED,
-        "= no 40 RoundOpen
+# PLAN
+# enter ann 1 1
+# enter bob 2 1
+# enter cat 1 2
+# enter dan 2 2
+# hands on
+# begin 1 1
+# settle 1
+# stack 1 1 ann 900
+# stack 1 2 cat 1100
+= no 40 RoundOpen
 > balance 1 2
 = no 35 EvenEnough
 > break 1
@@ -299,23 +259,23 @@ const ONE_HAS_PLAYED: Talk<'static> = Talk {
 > next
 = none
 .
-",
-    ],
-    end: SessionEnd::Ended,
-};
-
-/// The floor once both tables have played. The draw of the break is that of the entry with number 20.
-const BOTH_HAVE_PLAYED: Talk<'static> = Talk {
-    name: "once both tables have played",
-    parts: &[
-        "> hello floor f
+@ worker: begins at table 2
+@ worker: lets whoever is due fold
+@ session: ended
+> hello floor f
 = ok
 > round
-",
-        FOUR_ENTERED,
-        ONE_BEGINS,
-        ONE_SETTLED,
-        "# begin 2 2
+# PLAN
+# enter ann 1 1
+# enter bob 2 1
+# enter cat 1 2
+# enter dan 2 2
+# hands on
+# begin 1 1
+# settle 1
+# stack 1 1 ann 900
+# stack 1 2 cat 1100
+# begin 2 2
 # settle 2
 # stack 2 1 bob 900
 # stack 2 2 dan 1100
@@ -334,31 +294,11 @@ const BOTH_HAVE_PLAYED: Talk<'static> = Talk {
 > break 1
 = no 37 NoRoom
 .
-",
-    ],
-    end: SessionEnd::Ended,
-};
+";
 
 #[test]
-fn hand_for_hand_is_replied(rt: HostRuntime) -> Result<(), Fail> {
-    let alloc = rt.alloc();
-    let (hall, staff) = open(alloc, FOUR_SEATS)?;
-    let Staff {
-        book,
-        tables: _,
-        desk,
-        other: _,
-    } = staff;
-    let desk = serve(&rt, alloc, &hall, desk, &ENTER_FOUR)?;
-    let desk = serve(&rt, alloc, &hall, desk, &SWITCH_ON)?;
-    let (book, hand) = begun(&rt, &hall.book, book, 1);
-    let desk = serve(&rt, alloc, &hall, desk, &ONE_PLAYS)?;
-    let record = played(&rt, hand, Way::Fold);
-    let book = bring_back(&rt, &hall.book, book, record);
-    let desk = serve(&rt, alloc, &hall, desk, &ONE_HAS_PLAYED)?;
-    let _book = play(&rt, &hall.book, book, 2, Way::Fold);
-    let _desk = serve(&rt, alloc, &hall, desk, &BOTH_HAVE_PLAYED)?;
-    Ok(())
+fn hand_for_hand_is_replied(rt: HostRuntime) {
+    play(&rt, rt.alloc(), FOUR_SEATS, ENTER_FOUR, ROUND);
 }
 
 /// One table of two seats. The second level has greater chips.
@@ -370,47 +310,38 @@ const RISING_PAIR: Shape = Shape {
     told: "# blinds 100 200 100\n# blinds 500 1000 500\n",
 };
 
-/// The floor takes the next level in the midst of the hand.
-const LEVEL_IN_A_HAND: Talk<'static> = Talk {
-    name: "a level in the midst of a hand",
-    parts: &[
-        "> hello floor f
+/// The floor takes the next level in the midst of the hand in which bob goes out. The deck is 6s Td 5d Qc, then a
+/// burned card, Tc Jd 5c, another, Jh, another and 7h: ann has two pair with tens, and bob two pair with fives.
+const OVER_WITH_A_RACE: &str = "@ worker: begins at table 1
+@ session: ended
+> hello floor f
 = ok
 > level
-",
-        BEGUN,
-        "# level
+# PLAN
+# enter ann 1 1
+# enter bob 1 2
+# begin 1 1
+# level
 = ok
 > race 1
 = no 13 Playing
 > level
 = no 17 RaceDue
 .
-",
-    ],
-    end: SessionEnd::Ended,
-};
-
-/// What is told of a settle in which bob is out. The deck is 6s Td 5d Qc, then a burned card, Tc Jd 5c, another, Jh,
-/// another and 7h: ann has two pair with tens, and bob two pair with fives.
-const BOB_IS_OUT: &str = "# settle 1
-# stack 1 1 ann 2000
-# stack 1 2 bob 0
-";
-
-/// The floor once one player is left, while a race is pending.
-const OVER_WITH_A_RACE: Talk<'static> = Talk {
-    name: "over with a race",
-    parts: &[
-        "> hello floor f
+@ worker: lets all put in all
+@ session: ended
+> hello floor f
 = ok
 > race 1
-",
-        BEGUN,
-        "# level
-",
-        BOB_IS_OUT,
-        "= no 43 Over
+# PLAN
+# enter ann 1 1
+# enter bob 1 2
+# begin 1 1
+# level
+# settle 1
+# stack 1 1 ann 2000
+# stack 1 2 bob 0
+= no 43 Over
 > race 2
 = no 8 NoTable
 > hands on
@@ -426,41 +357,28 @@ const OVER_WITH_A_RACE: Talk<'static> = Talk {
 > next
 = none
 .
-",
-    ],
-    end: SessionEnd::Ended,
-};
+";
 
 #[test]
-fn no_race_is_made_once_one_player_is_left(rt: HostRuntime) -> Result<(), Fail> {
-    let alloc = rt.alloc();
-    let (hall, staff) = open(alloc, RISING_PAIR)?;
-    let Staff {
-        book,
-        tables: _,
-        desk,
-        other: _,
-    } = staff;
-    let desk = serve(&rt, alloc, &hall, desk, &ENTER_BOTH)?;
-    let (book, hand) = begun(&rt, &hall.book, book, 1);
-    let desk = serve(&rt, alloc, &hall, desk, &LEVEL_IN_A_HAND)?;
-    let record = played(&rt, hand, Way::AllIn);
-    let _book = bring_back(&rt, &hall.book, book, record);
-    let _desk = serve(&rt, alloc, &hall, desk, &OVER_WITH_A_RACE)?;
-    Ok(())
+fn no_race_is_made_once_one_player_is_left(rt: HostRuntime) {
+    play(&rt, rt.alloc(), RISING_PAIR, ENTER_BOTH, OVER_WITH_A_RACE);
 }
 
-/// The floor once one player is left.
-const OVER: Talk<'static> = Talk {
-    name: "over",
-    parts: &[
-        "> hello floor f
+/// The same hand at the first level, and what the floor asks for once one player is left.
+const OVER: &str = "@ worker: begins at table 1
+@ worker: lets all put in all
+@ session: ended
+> hello floor f
 = ok
 > enter cat 1 2
-",
-        BEGUN,
-        BOB_IS_OUT,
-        "= no 43 Over
+# PLAN
+# enter ann 1 1
+# enter bob 1 2
+# begin 1 1
+# settle 1
+# stack 1 1 ann 2000
+# stack 1 2 bob 0
+= no 43 Over
 > enter bob 1 2
 = no 6 NameKnown
 > level
@@ -472,23 +390,9 @@ const OVER: Talk<'static> = Talk {
 > next
 = none
 .
-",
-    ],
-    end: SessionEnd::Ended,
-};
+";
 
 #[test]
-fn nobody_enters_once_one_player_is_left(rt: HostRuntime) -> Result<(), Fail> {
-    let alloc = rt.alloc();
-    let (hall, staff) = open(alloc, RISING_PAIR)?;
-    let Staff {
-        book,
-        tables: _,
-        desk,
-        other: _,
-    } = staff;
-    let desk = serve(&rt, alloc, &hall, desk, &ENTER_BOTH)?;
-    let _book = play(&rt, &hall.book, book, 1, Way::AllIn);
-    let _desk = serve(&rt, alloc, &hall, desk, &OVER)?;
-    Ok(())
+fn nobody_enters_once_one_player_is_left(rt: HostRuntime) {
+    play(&rt, rt.alloc(), RISING_PAIR, ENTER_BOTH, OVER);
 }

@@ -1,40 +1,58 @@
 //! A whole hand that is served on one thread.
 
-use super::client::{Talk, serve};
-use super::dealt::settle;
-use super::pair::{ANN, BEGUN, Playing, check_asked, close, first_hand, has_the_fold};
-use crate::SessionEnd;
+use super::ends::{close, has_the_fold};
+use super::entered::{ENTER_BOTH, PAIR};
+use super::stage::{open, play};
 use book_dock::BookEnd;
 use floor_events::write_report;
-use std::alloc::{AllocError, Global};
+use std::alloc::Global;
 use std::process::Abort;
-use std::test::Fail;
 
-/// ann folds her hand.
-const ANN_FOLDS: Talk<'static> = Talk {
-    name: "ann folds",
-    parts: &ANN,
-    end: SessionEnd::Quit,
-};
-
-/// The floor stops the tournament, and stays until its session is closed.
-const STOP: Talk<'static> = Talk {
-    name: "the floor stops",
-    parts: &[
-        "> hello floor f
+/// ann folds her hand, and the worker takes it away and settles it. The floor stops the tournament, and stays until its
+/// session is closed.
+const PLAYED: &str = "@ worker: deals
+@ session: quit
+> act 1 fold
+= who
+> hello ann a
+= ok
+> watch 1
+# PLAN
+# enter ann 1 1
+# enter bob 1 2
+# begin 1 1
+= ok
+? 1: hand 1
+1: hand 1 1 1 2
+1: seat 1 ann 1000
+1: seat 2 bob 1000
+1: post ann 100
+1: post bob 200
+1: hole 7c3h
+> act 1 fold
+1: ann fold
+1: win bob 300
+= ok
+> quit
+= ok
+@ listed: ann's fold
+@ worker: takes the hand
+@ worker: settles it
+@ session: closed
+> hello floor f
 = ok
 > stop
-",
-        BEGUN,
-        "# settle 1
+# PLAN
+# enter ann 1 1
+# enter bob 1 2
+# begin 1 1
+# settle 1
 # stack 1 1 ann 900
 # stack 1 2 bob 1100
 # stop
 = ok
-",
-    ],
-    end: SessionEnd::Closed,
-};
+@ listed: ann's fold
+";
 
 /// How the tournament stands at its end.
 const REPORT: &str = "* report
@@ -50,79 +68,52 @@ const REPORT: &str = "* report
 ";
 
 /// Compares the report of a book whose lock was opened.
-fn check_report(rt: &impl Abort, alloc: Global, end: &BookEnd) -> Result<(), AllocError> {
+fn check_report(rt: &impl Abort, alloc: Global, end: &BookEnd) {
+    let report = end.report().expect(rt, "memory");
     let mut text = Vec::new(alloc);
-    write_report(&end.report()?, &mut text)?;
+    write_report(&report, &mut text).expect(rt, "memory");
     assert!(rt; text.as_slice() == REPORT.as_bytes());
-    Ok(())
 }
 
 #[test]
-fn a_hand_is_served(rt: HostRuntime) -> Result<(), Fail> {
-    let alloc = rt.alloc();
-    let Playing {
-        hall,
-        dealt,
-        desk,
-        other,
-    } = first_hand(&rt, alloc)?;
-    let desk = serve(&rt, alloc, &hall, desk, &ANN_FOLDS)?;
-    check_asked(&rt, &desk, true, "her fold is listed");
-    let worker = settle(&rt, alloc, &hall.book, &hall.docks[0], dealt)?;
-    let desk = serve(&rt, alloc, &hall, desk, &STOP)?;
-    check_asked(&rt, &desk, true, "no order is listed");
-    let (book, table) = close(alloc, hall, worker, desk, other)?;
-    check_report(&rt, alloc, &book)?;
+fn a_hand_is_served(rt: HostRuntime) {
+    let stage = open(&rt, rt.alloc(), PAIR, ENTER_BOTH).play(&rt, PLAYED);
+    let (book, table) = close(&rt, stage);
+    check_report(&rt, rt.alloc(), &book);
     let entries = table.entries.items();
     assert!(rt; entries.len() == 3 && has_the_fold(&rt, entries) && table.hand.is_none());
-    Ok(())
 }
 
-/// The floor stops the tournament in the midst of the hand.
-const STOP_IN_A_HAND: Talk<'static> = Talk {
-    name: "the floor stops in the midst of a hand",
-    parts: &[
-        "> hello floor f
+/// At the other desk the floor stops the tournament in the midst of the hand. ann folds the hand that still lies at the
+/// dock, and her session is closed as soon as her link is idle.
+const VOID: &str = "@ worker: deals
+@ desks: change
+@ session: closed
+> hello floor f
 = ok
 > stop
-",
-        BEGUN,
-        "# stop
+# PLAN
+# enter ann 1 1
+# enter bob 1 2
+# begin 1 1
+# stop
 = ok
-",
-    ],
-    end: SessionEnd::Closed,
-};
-
-/// ann folds the hand that still lies at the dock, and her session is closed as soon as her link is idle.
-const FOLD_BEHIND_THE_STOP: Talk<'static> = Talk {
-    name: "ann folds behind the stop",
-    parts: &[
-        "> hello ann a
+@ desks: change
+@ session: closed
+> hello ann a
 = ok
 > act 1 fold
-",
-        BEGUN,
-        "# stop
+# PLAN
+# enter ann 1 1
+# enter bob 1 2
+# begin 1 1
+# stop
 = ok
-",
-    ],
-    end: SessionEnd::Closed,
-};
+@ listed: ann's fold
+@ worker: voids the hand
+";
 
 #[test]
-fn an_act_behind_the_stop_is_taken_in_a_void_hand(rt: HostRuntime) -> Result<(), Fail> {
-    let alloc = rt.alloc();
-    let Playing {
-        hall,
-        dealt,
-        desk,
-        other,
-    } = first_hand(&rt, alloc)?;
-    let _other = serve(&rt, alloc, &hall, other, &STOP_IN_A_HAND)?;
-    let desk = serve(&rt, alloc, &hall, desk, &FOLD_BEHIND_THE_STOP)?;
-    check_asked(&rt, &desk, true, "her fold is listed");
-    let (_table, hand) = hall.docks[0].void_hand(&rt, dealt.table);
-    assert!(rt; hand.is_some());
-    Ok(())
+fn an_act_behind_the_stop_is_taken_in_a_void_hand(rt: HostRuntime) {
+    play(&rt, rt.alloc(), PAIR, ENTER_BOTH, VOID);
 }

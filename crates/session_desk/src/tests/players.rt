@@ -1,204 +1,191 @@
 //! Sessions of one player, and of one who has not entered.
 
-use super::client::{Talk, begin, client_of, go_on, serve};
-use super::dealt::deal;
-use super::hall::{PAIR, Staff, open};
-use super::pair::{BEGUN, ENTER_BOTH, FOLDED, HOLE, OPENED, Playing, check_asked, first_hand};
-use crate::{SessionEnd, Step};
-use std::test::Fail;
+use super::entered::{ENTER_BOTH, PAIR};
+use super::stage::play;
 
-/// ann watches, and is too early with a check.
-const ANN_CHECKS: Talk<'static> = Talk {
-    name: "ann checks",
-    parts: &[
-        "> hello ann a
+/// ann watches, and is too early with a check. She comes again, watches nothing before she asks to, is told of the
+/// floor from its begin, and folds.
+const ANN_COMES_AGAIN: &str = "@ worker: deals
+@ session: quit
+> hello ann a
 = ok
 > watch 1
-",
-        BEGUN,
-        "= ok
+# PLAN
+# enter ann 1 1
+# enter bob 1 2
+# begin 1 1
+= ok
 > act 1 check
-",
-        OPENED,
-        HOLE,
-        "= no 24 CheckFacing
+1: hand 1 1 1 2
+1: seat 1 ann 1000
+1: seat 2 bob 1000
+1: post ann 100
+1: post bob 200
+1: hole 7c3h
+= no 24 CheckFacing
 > quit
 = ok
-",
-    ],
-    end: SessionEnd::Quit,
-};
-
-/// ann comes again: she watches nothing yet, and is told of the floor from its begin.
-const ANN_FOLDS: Talk<'static> = Talk {
-    name: "ann comes again and folds",
-    parts: &[
-        "> hello ann a
+@ listed: nothing
+@ session: ended
+> hello ann a
 = ok
 > act 1 fold
-",
-        BEGUN,
-        "= ok
+# PLAN
+# enter ann 1 1
+# enter bob 1 2
+# begin 1 1
+= ok
 > watch 1
 = ok
 > watch 1
-",
-        OPENED,
-        HOLE,
-        FOLDED,
-        "= ok
+1: hand 1 1 1 2
+1: seat 1 ann 1000
+1: seat 2 bob 1000
+1: post ann 100
+1: post bob 200
+1: hole 7c3h
+1: ann fold
+1: win bob 300
+= ok
 .
-",
-    ],
-    end: SessionEnd::Ended,
-};
+@ listed: ann's fold
+";
 
 #[test]
-fn a_player_comes_again_at_one_desk(rt: HostRuntime) -> Result<(), Fail> {
-    let alloc = rt.alloc();
-    let Playing {
-        hall,
-        dealt: _,
-        desk,
-        other: _,
-    } = first_hand(&rt, alloc)?;
-    let desk = serve(&rt, alloc, &hall, desk, &ANN_CHECKS)?;
-    check_asked(&rt, &desk, false, "a check is refused");
-    let desk = serve(&rt, alloc, &hall, desk, &ANN_FOLDS)?;
-    check_asked(&rt, &desk, true, "her fold is listed");
-    Ok(())
+fn a_player_comes_again_at_one_desk(rt: HostRuntime) {
+    play(&rt, rt.alloc(), PAIR, ENTER_BOTH, ANN_COMES_AGAIN);
 }
 
 /// ann waits at one desk for what she does at the other.
-const ANN_WAITS: [&str; 7] = [
-    "> hello ann a
+const ANN_WAITS: &str = "@ worker: deals
+@ desks: change
+@ other: comes
+> hello ann a
 = ok
 > watch 1
-",
-    BEGUN,
-    "= ok
+# PLAN
+# enter ann 1 1
+# enter bob 1 2
+# begin 1 1
+= ok
 ? 1: ann fold
-",
-    OPENED,
-    HOLE,
-    FOLDED,
-    "> act 1 fold
+1: hand 1 1 1 2
+1: seat 1 ann 1000
+1: seat 2 bob 1000
+1: post ann 100
+1: post bob 200
+1: hole 7c3h
+1: ann fold
+1: win bob 300
+> act 1 fold
 = no 22 HandOver
 .
-",
-];
-
-#[test]
-fn a_player_is_at_two_desks(rt: HostRuntime) -> Result<(), Fail> {
-    let alloc = rt.alloc();
-    let Playing {
-        hall,
-        dealt: _,
-        desk,
-        other,
-    } = first_hand(&rt, alloc)?;
-    let mut waits = client_of(alloc, &hall, &ANN_WAITS)?;
-    let session = go_on(
-        &rt,
-        &hall,
-        begin(alloc, desk)?,
-        &mut waits.link,
-        Step::Idled,
-    );
-    let other = serve(&rt, alloc, &hall, other, &ANN_FOLDS)?;
-    let session = go_on(&rt, &hall, session, &mut waits.link, Step::Idled);
-    let over = Step::Over(SessionEnd::Ended);
-    let session = go_on(&rt, &hall, session, &mut waits.link, over);
-    waits.check(&rt, alloc, "ann waits at one desk")?;
-    check_asked(&rt, &session.parts(), false, "she only watched there");
-    check_asked(&rt, &other, true, "she folded there");
-    Ok(())
-}
-
-/// eve has a word and no seat. She sees no cards but those that are tabled.
-const EVE: Talk<'static> = Talk {
-    name: "eve has not entered",
-    parts: &[
-        "> hello eve e
+@ other: until idled
+@ session: ended
+> hello ann a
 = ok
 > act 1 fold
-",
-        BEGUN,
-        "= no 20 NotDealt
+# PLAN
+# enter ann 1 1
+# enter bob 1 2
+# begin 1 1
+= ok
+> watch 1
+= ok
+> watch 1
+1: hand 1 1 1 2
+1: seat 1 ann 1000
+1: seat 2 bob 1000
+1: post ann 100
+1: post bob 200
+1: hole 7c3h
+1: ann fold
+1: win bob 300
+= ok
+.
+@ other: until idled
+@ other: until ended
+@ listed: ann's fold
+@ desks: change
+@ listed: nothing
+";
+
+#[test]
+fn a_player_is_at_two_desks(rt: HostRuntime) {
+    play(&rt, rt.alloc(), PAIR, ENTER_BOTH, ANN_WAITS);
+}
+
+/// eve has a word and no seat, and sees no cards but those that are tabled, as the floor does. bob sees his own cards:
+/// the first of the deck, and the third.
+const EACH_WATCHES: &str = "@ worker: deals
+@ session: quit
+> hello eve e
+= ok
+> act 1 fold
+# PLAN
+# enter ann 1 1
+# enter bob 1 2
+# begin 1 1
+= no 20 NotDealt
 > watch 1
 = ok
 > act 1 call
-",
-        OPENED,
-        "= no 20 NotDealt
+1: hand 1 1 1 2
+1: seat 1 ann 1000
+1: seat 2 bob 1000
+1: post ann 100
+1: post bob 200
+= no 20 NotDealt
 > quit
 = ok
-",
-    ],
-    end: SessionEnd::Quit,
-};
-
-/// bob sees his own cards: the first of the deck, and the third.
-const BOB: Talk<'static> = Talk {
-    name: "bob watches",
-    parts: &[
-        "> hello bob b
+@ session: quit
+> hello bob b
 = ok
 > watch 1
-",
-        BEGUN,
-        "= ok
+# PLAN
+# enter ann 1 1
+# enter bob 1 2
+# begin 1 1
+= ok
 > act 1 check
-",
-        OPENED,
-        "1: hole QcAd
+1: hand 1 1 1 2
+1: seat 1 ann 1000
+1: seat 2 bob 1000
+1: post ann 100
+1: post bob 200
+1: hole QcAd
 = no 21 NotTurn
 > quit
 = ok
-",
-    ],
-    end: SessionEnd::Quit,
-};
-
-/// The floor sees no cards but those that are tabled.
-const FLOOR: Talk<'static> = Talk {
-    name: "the floor watches",
-    parts: &[
-        "> hello floor f
+@ session: ended
+> hello floor f
 = ok
 > watch 1
-",
-        BEGUN,
-        "= ok
+# PLAN
+# enter ann 1 1
+# enter bob 1 2
+# begin 1 1
+= ok
 > next
-",
-        OPENED,
-        "= none
+1: hand 1 1 1 2
+1: seat 1 ann 1000
+1: seat 2 bob 1000
+1: post ann 100
+1: post bob 200
+= none
 .
-",
-    ],
-    end: SessionEnd::Ended,
-};
+@ listed: nothing
+";
 
 #[test]
-fn each_is_told_his_own_cards(rt: HostRuntime) -> Result<(), Fail> {
-    let alloc = rt.alloc();
-    let Playing {
-        hall,
-        dealt: _,
-        desk,
-        other: _,
-    } = first_hand(&rt, alloc)?;
-    let desk = serve(&rt, alloc, &hall, desk, &EVE)?;
-    let desk = serve(&rt, alloc, &hall, desk, &BOB)?;
-    let desk = serve(&rt, alloc, &hall, desk, &FLOOR)?;
-    assert!(rt; desk.asked().is_empty());
-    Ok(())
+fn each_is_told_his_own_cards(rt: HostRuntime) {
+    play(&rt, rt.alloc(), PAIR, ENTER_BOTH, EACH_WATCHES);
 }
 
 /// ann has said hello before the floor lets her enter.
-const ANN_IS_EARLY: [&str; 6] = [
-    "> hello ann a
+const ANN_IS_EARLY: &str = "@ desks: change
+@ other: comes
+> hello ann a
 = ok
 > act 1 fold
 # PLAN
@@ -210,39 +197,41 @@ const ANN_IS_EARLY: [&str; 6] = [
 = ok
 ? 1: hand
 # begin 1 1
-",
-    OPENED,
-    HOLE,
-    "> act 1 fold
-",
-    FOLDED,
-    "= ok
+1: hand 1 1 1 2
+1: seat 1 ann 1000
+1: seat 2 bob 1000
+1: post ann 100
+1: post bob 200
+1: hole 7c3h
+> act 1 fold
+1: ann fold
+1: win bob 300
+= ok
 .
-",
-];
+@ other: until idled
+@ session: ended
+> hello floor f
+= ok
+> begin 1
+# PLAN
+= no 1 Syntax
+> enter ann 1 1
+# enter ann 1 1
+= ok
+> enter bob 1 2
+# enter bob 1 2
+= ok
+.
+@ other: until idled
+@ other: until idled
+@ worker: deals
+@ other: until idled
+@ other: until ended
+@ desks: change
+@ listed: ann's fold
+";
 
 #[test]
-fn a_player_says_hello_before_he_enters(rt: HostRuntime) -> Result<(), Fail> {
-    let alloc = rt.alloc();
-    let (hall, staff) = open(alloc, PAIR)?;
-    let Staff {
-        book,
-        mut tables,
-        desk,
-        other,
-    } = staff;
-    let mut ann = client_of(alloc, &hall, &ANN_IS_EARLY)?;
-    let session = begin(alloc, desk)?;
-    let session = go_on(&rt, &hall, session, &mut ann.link, Step::Idled);
-    let _other = serve(&rt, alloc, &hall, other, &ENTER_BOTH)?;
-    let session = go_on(&rt, &hall, session, &mut ann.link, Step::Idled);
-    let session = go_on(&rt, &hall, session, &mut ann.link, Step::Idled);
-    let table = tables.remove(0);
-    let _dealt = deal(&rt, alloc, &hall.book, &hall.docks[0], book, table)?;
-    let session = go_on(&rt, &hall, session, &mut ann.link, Step::Idled);
-    let over = Step::Over(SessionEnd::Ended);
-    let session = go_on(&rt, &hall, session, &mut ann.link, over);
-    ann.check(&rt, alloc, "ann is early")?;
-    check_asked(&rt, &session.parts(), true, "her fold is listed");
-    Ok(())
+fn a_player_says_hello_before_he_enters(rt: HostRuntime) {
+    play(&rt, rt.alloc(), PAIR, "", ANN_IS_EARLY);
 }

@@ -1,67 +1,48 @@
 //! Each refusal of an act and of a called time, as it is replied.
 
-ghost use Rattle.std.specs.Prelude.{IfOk};
-ghost use Rattle.session_desk.specs.Desks.{AreInOrder, IsDeskOf};
-
-use super::client::{Talk, serve};
-use super::dealt::{Way, deal, play};
-use super::hall::{Hall, Shape, Staff, name, open};
-use super::pair::{ENTER_BOTH, entered};
-use crate::{Asked, Desk, SessionEnd};
-use Who::{Ann, Bob, Eve, Floor};
-use betting_round::Act;
-use std::alloc::Global;
+use super::entered::{ENTER_BOTH, PAIR};
+use super::hall::Shape;
+use super::stage::{open, play};
+use std::alloc::{AllocError, Global};
 use std::process::Abort;
 use std::sync::Wait;
-use std::test::Fail;
-use table_engine::ActOf;
-
-/// Who asks for something.
-#[derive(Clone, Copy)]
-enum Who {
-    Floor,
-    Ann,
-    Bob,
-    /// A player who has not entered.
-    Eve,
-}
 
 /// Gives the part of a transcript in which somebody says hello.
-fn hello_of(who: Who) -> &'static str {
+fn hello_of(who: &str) -> &'static str {
     match who {
-        Floor => "> hello floor f\n= ok\n",
-        Ann => "> hello ann a\n= ok\n",
-        Bob => "> hello bob b\n= ok\n",
-        Eve => "> hello eve e\n= ok\n",
+        "floor" => "> hello floor f\n= ok\n",
+        "ann" => "> hello ann a\n= ok\n",
+        "bob" => "> hello bob b\n= ok\n",
+        _ => "> hello eve e\n= ok\n",
     }
 }
 
-/// Lets each ask by a line in a session of his own, in which the news are these, and compares what he is replied.
+/// Writes the scene in which one after another asks by a line in a session of his own. Each is told these news, and
+/// replied what stands behind ` = ` in his row: `ann: act 1 fold = ok`.
+fn asking(alloc: Global, news: &str, rows: &str) -> Result<String, AllocError> {
+    let mut scene = String::new(alloc);
+    for row in rows.lines() {
+        let (who, asks) = row.split_once(": ").unwrap_or(("", row));
+        let (line, reply) = asks.split_once(" = ").unwrap_or((asks, ""));
+        scene.push_str("@ session: ended\n")?;
+        scene.push_str(hello_of(who))?;
+        let text = format!(in alloc; "> {line}\n{news}= {reply}\n.\n")?;
+        scene.push_str(text.as_str())?;
+    }
+    Ok(scene)
+}
+
+/// Plays a scene, then that in which each asks, and then one that tells what is listed.
 fn ask_each<R: Wait + Abort>(
     rt: &R,
     alloc: Global,
-    hall: &Hall,
-    desk: Desk,
-    news: &'static str,
-    asks: &[(Who, &'static str, &'static str)],
-) -> Result<Desk, Fail>
-    requires desk { IsDeskOf hall.now.book hall.now.docks.items desk }
-    requires docks { AreInOrder hall.now.docks.items }
-    ensures { IfOk result (λ desk. IsDeskOf hall.now.book hall.now.docks.items desk) }
-{
-    let mut desk = desk;
-    for each in asks {
-        let (who, line, reply) = *each;
-        let hello = hello_of(who);
-        let text = format!(in alloc; "{hello}> {line}\n{news}= {reply}\n.\n")?;
-        let talk = Talk {
-            name: text.as_str(),
-            parts: &[text.as_str()],
-            end: SessionEnd::Ended,
-        };
-        desk = serve(rt, alloc, hall, desk, &talk)?;
-    }
-    Ok(desk)
+    shape: Shape,
+    first: &str,
+    asks: &str,
+    listed: &str,
+) {
+    let stage = open(rt, alloc, shape, first);
+    let _stage = stage.play(rt, asks).play(rt, listed);
 }
 
 /// What is told of the floor before the first hand of ann and bob.
@@ -70,27 +51,26 @@ const ENTERED: &str = "# PLAN
 # enter bob 1 2
 ";
 
+/// What is replied where no hand lies.
+const NO_HAND: &str = "ann: act 1 fold = no 14 NotPlaying
+eve: act 1 fold = no 14 NotPlaying
+floor: time 1 = no 14 NotPlaying
+ann: act 0 fold = no 8 NoTable
+ann: act 2 fold = no 8 NoTable
+ann: act 9007199254740991 fold = no 8 NoTable
+floor: time 2 = no 8 NoTable
+floor: time 0 = no 8 NoTable
+ann: watch 0 = no 8 NoTable
+floor: watch 2 = no 8 NoTable
+ann: act 9007199254740992 fold = no 1 Syntax
+ann: act 1 ann fold = no 1 Syntax
+floor: act 1 fold = no 1 Syntax
+";
+
 #[test]
-fn nothing_is_done_where_no_hand_lies(rt: HostRuntime) -> Result<(), Fail> {
-    let alloc = rt.alloc();
-    let (hall, staff) = entered(&rt, alloc)?;
-    let asks = [
-        (Ann, "act 1 fold", "no 14 NotPlaying"),
-        (Eve, "act 1 fold", "no 14 NotPlaying"),
-        (Floor, "time 1", "no 14 NotPlaying"),
-        (Ann, "act 0 fold", "no 8 NoTable"),
-        (Ann, "act 2 fold", "no 8 NoTable"),
-        (Ann, "act 9007199254740991 fold", "no 8 NoTable"),
-        (Floor, "time 2", "no 8 NoTable"),
-        (Floor, "time 0", "no 8 NoTable"),
-        (Ann, "watch 0", "no 8 NoTable"),
-        (Floor, "watch 2", "no 8 NoTable"),
-        (Ann, "act 9007199254740992 fold", "no 1 Syntax"),
-        (Ann, "act 1 ann fold", "no 1 Syntax"),
-        (Floor, "act 1 fold", "no 1 Syntax"),
-    ];
-    let _desk = ask_each(&rt, alloc, &hall, staff.desk, ENTERED, &asks)?;
-    Ok(())
+fn nothing_is_done_where_no_hand_lies(rt: HostRuntime) {
+    let scene = asking(rt.alloc(), ENTERED, NO_HAND).expect(&rt, "memory");
+    play(&rt, rt.alloc(), PAIR, ENTER_BOTH, scene.as_str());
 }
 
 /// A table of two seats that plays Omaha.
@@ -101,6 +81,26 @@ const OMAHA: Shape = Shape {
     levels: "[[100, 200, 100]]",
     told: "# blinds 100 200 100\n",
 };
+
+/// ann and bob enter, and the worker has the first hand played without a dock. Then the second lies at the dock: ann
+/// has the big blind and 900 chips, bob the button, the small blind and 1,100.
+const SECOND_HAND: &str = "@ session: ended
+> hello floor f
+= ok
+> begin 1
+# PLAN
+= no 1 Syntax
+> enter ann 1 1
+# enter ann 1 1
+= ok
+> enter bob 1 2
+# enter bob 1 2
+= ok
+.
+@ worker: begins at table 1
+@ worker: lets whoever is due fold
+@ worker: deals
+";
 
 /// What is told of the floor once the second hand has begun. ann has folded the first.
 const SECOND: &str = "# PLAN
@@ -113,90 +113,58 @@ const SECOND: &str = "# PLAN
 # begin 1 2
 ";
 
-/// Opens a hall in which the second hand lies at the dock: ann has the big blind and 900 chips, bob the button, the
-/// small blind and 1,100.
-fn second_hand<R: Wait + Abort>(rt: &R, alloc: Global) -> Result<(Hall, Desk), Fail>
-    ensures order { IfOk result (λ made. AreInOrder made.0.docks.items) }
-    ensures desk { IfOk result (λ made. IsDeskOf made.0.book made.0.docks.items made.1) }
-{
-    let (hall, staff) = open(alloc, OMAHA)?;
-    let Staff {
-        book,
-        mut tables,
-        desk,
-        other: _,
-    } = staff;
-    let desk = serve(rt, alloc, &hall, desk, &ENTER_BOTH)?;
-    let pass = play(rt, &hall.book, book, 1, Way::Fold);
-    let table = tables.remove(0);
-    let _dealt = deal(rt, alloc, &hall.book, &hall.docks[0], pass, table)?;
-    Ok((hall, desk))
-}
+/// What is replied before the flop, and at the flop.
+const ACTS: &str = "eve: act 1 fold = no 20 NotDealt
+ann: act 1 fold = no 21 NotTurn
+bob: act 1 check = no 24 CheckFacing
+bob: act 1 bet 400 = no 26 BetFacing
+bob: act 1 raise 300 = no 28 TooSmall
+bob: act 1 raise 1200 = no 29 PastStack
+bob: act 1 raise 700 = no 30 PastPot
+bob: act 1 allin = no 30 PastPot
+bob: act 1 raise 450 = no 32 NotUnit
+bob: act 1 call = ok
+ann: act 1 call = no 25 NothingToCall
+ann: act 1 check = ok
+ann: act 1 raise 400 = no 27 NothingToRaise
+ann: act 1 bet 100 = no 28 TooSmall
+ann: act 1 bet 800 = no 29 PastStack
+ann: act 1 bet 500 = no 30 PastPot
+ann: act 1 bet 250 = no 32 NotUnit
+ann: act 1 bet 200 = ok
+bob: act 1 raise 600 = ok
+ann: act 1 allin = ok
+bob: act 1 raise 900 = no 31 NotReopened
+bob: act 1 allin = no 31 NotReopened
+bob: act 1 call = ok
+bob: act 1 fold = no 22 HandOver
+ann: act 1 fold = no 22 HandOver
+eve: act 1 fold = no 20 NotDealt
+floor: time 1 = no 22 HandOver
+";
 
 #[test]
-fn each_refusal_of_an_act_is_replied(rt: HostRuntime) -> Result<(), Fail> {
-    let alloc = rt.alloc();
-    let (hall, desk) = second_hand(&rt, alloc)?;
-    let before_the_flop = [
-        (Eve, "act 1 fold", "no 20 NotDealt"),
-        (Ann, "act 1 fold", "no 21 NotTurn"),
-        (Bob, "act 1 check", "no 24 CheckFacing"),
-        (Bob, "act 1 bet 400", "no 26 BetFacing"),
-        (Bob, "act 1 raise 300", "no 28 TooSmall"),
-        (Bob, "act 1 raise 1200", "no 29 PastStack"),
-        (Bob, "act 1 raise 700", "no 30 PastPot"),
-        (Bob, "act 1 allin", "no 30 PastPot"),
-        (Bob, "act 1 raise 450", "no 32 NotUnit"),
-        (Bob, "act 1 call", "ok"),
-        (Ann, "act 1 call", "no 25 NothingToCall"),
-        (Ann, "act 1 check", "ok"),
-    ];
-    let desk = ask_each(&rt, alloc, &hall, desk, SECOND, &before_the_flop)?;
-    let flop = [
-        (Ann, "act 1 raise 400", "no 27 NothingToRaise"),
-        (Ann, "act 1 bet 100", "no 28 TooSmall"),
-        (Ann, "act 1 bet 800", "no 29 PastStack"),
-        (Ann, "act 1 bet 500", "no 30 PastPot"),
-        (Ann, "act 1 bet 250", "no 32 NotUnit"),
-        (Ann, "act 1 bet 200", "ok"),
-        (Bob, "act 1 raise 600", "ok"),
-        (Ann, "act 1 allin", "ok"),
-        (Bob, "act 1 raise 900", "no 31 NotReopened"),
-        (Bob, "act 1 allin", "no 31 NotReopened"),
-        (Bob, "act 1 call", "ok"),
-        (Bob, "act 1 fold", "no 22 HandOver"),
-        (Ann, "act 1 fold", "no 22 HandOver"),
-        (Eve, "act 1 fold", "no 20 NotDealt"),
-        (Floor, "time 1", "no 22 HandOver"),
-    ];
-    let desk = ask_each(&rt, alloc, &hall, desk, SECOND, &flop)?;
-    assert_eq!(rt; desk.asked().len(), 6);
-    Ok(())
+fn each_refusal_of_an_act_is_replied(rt: HostRuntime) {
+    let scene = asking(rt.alloc(), SECOND, ACTS).expect(&rt, "memory");
+    ask_each(
+        &rt,
+        rt.alloc(),
+        OMAHA,
+        SECOND_HAND,
+        scene.as_str(),
+        "@ listed: six acts\n",
+    );
 }
+
+/// What is replied to who calls time.
+const TIMES: &str = "ann: time 1 = no 1 Syntax
+floor: time 1 = ok
+floor: time 1 = no 22 HandOver
+";
 
 #[test]
-fn time_is_called_for_the_floor(rt: HostRuntime) -> Result<(), Fail> {
-    let alloc = rt.alloc();
-    let (hall, desk) = second_hand(&rt, alloc)?;
-    let asks = [
-        (Ann, "time 1", "no 1 Syntax"),
-        (Floor, "time 1", "ok"),
-        (Floor, "time 1", "no 22 HandOver"),
-    ];
-    let desk = ask_each(&rt, alloc, &hall, desk, SECOND, &asks)?;
-    assert!(rt; is_called_fold(&rt, desk.asked()));
-    Ok(())
-}
-
-/// Tells whether the one act listed is bob's fold by a time that the floor called.
-fn is_called_fold(rt: &impl Abort, asked: &[Asked]) -> bool {
-    match asked {
-        [one] => one.who.is_none() && one.table == 1 && is_bobs_fold(rt, &one.act),
-        _ => false,
-    }
-}
-
-/// Tells whether an act is bob's fold by a called time.
-fn is_bobs_fold(rt: &impl Abort, act: &ActOf) -> bool {
-    act.name == name(rt, b"bob") && act.act == Act::Fold && act.by_time
+fn time_is_called_for_the_floor(rt: HostRuntime) {
+    let scene = asking(rt.alloc(), SECOND, TIMES).expect(&rt, "memory");
+    let listed = "@ listed: bob's fold by the floor's call\n";
+    ask_each(&rt, rt.alloc(), OMAHA, SECOND_HAND, scene.as_str(), listed);
 }

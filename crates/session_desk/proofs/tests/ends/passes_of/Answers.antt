@@ -6,7 +6,7 @@ use Rattle.history_lock.specs.declared.pass.Pass.{Pass}
 use Rattle.history_lock.specs.Passes.{lock_of}
 use Rattle.table_dock.specs.declared.dock.TableDock.{TableDock}
 use Rattle.table_dock.specs.Docks.{dock_id}
-use Rattle.session_desk.proofs.tests.pair.passes_of.Goals as goal
+use Rattle.session_desk.proofs.tests.ends.passes_of.Goals as goal
 
 -- A pass of the first dock is that of the only one.
 only : {Val E : Type 0} {g : Ghosts Val E} (docks : List TableDock) (pass : Pass Val E g) → length docks ≡ 1

@@ -1,4 +1,4 @@
-use Rattle.std.proofs.Common.{◌≡◌, ◌∷◌, ◌∙◌, ℕ, zero, suc, [], List, Some, ap, subst, arith}
+use Rattle.std.proofs.Common.{◌≡◌, ◌∷◌, ◌∙◌, ℕ, zero, suc, [], List, Some, ap, subst}
 use Rattle.std.specs.Prelude.{IfSome, slice_get}
 use Rattle.std.specs.List.{AllZip}
 use Rattle.std.proofs.lemmas.Slice.Zip.{AllZip-long}
@@ -9,7 +9,7 @@ use Rattle.book_dock.specs.declared.dock.BookDock.{BookDock}
 use Rattle.book_dock.specs.Docks.{book_id}
 use Rattle.session_desk.specs.declared.desk.Desk.{Desk}
 use Rattle.session_desk.specs.Desks.{ArePassesOf, IsDeskOf}
-use Rattle.session_desk.proofs.tests.hall.open.Goals as goal
+use Rattle.session_desk.proofs.tests.hall.make_hall.Goals as goal
 
 -- What holds of two lists place by place holds of what stands in the one where an item is found in the other.
 zip-found : {A B : Type 0} (R : A → B → Type 0) (xs : List A) (ys : List B) → AllZip R xs ys → (k : ℕ) (y : B)
@@ -48,9 +48,3 @@ returns-clause-other c =
 
 pub returns-clause-book : goal.returns-clause-book
 returns-clause-book c = (c.three-first.ensures _ _ c.in_ok-book.ensures.fresh).0.its_lock
-
-pub returns-clause-passes : goal.returns-clause-passes
-returns-clause-passes c =
-    let long = AllZip-long _ _ _ c.in_ok-docks.ensures.worker in
-    let count = c.in_ok-docks.ensures.count in
-    omega (arith, long, count, c.in_ok-docks.docks.ok.0, c.in_ok-docks.worker.ok.0)

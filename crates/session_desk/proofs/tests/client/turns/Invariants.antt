@@ -1,5 +1,5 @@
 use Rattle.session_desk.specs.Desks.{IsDeskOf}
-use Rattle.session_desk.proofs.tests.client.go_on.Given as goal
+use Rattle.session_desk.proofs.tests.client.turns.Given as goal
 
 -- the session's desk stays one of this hall
 abbrev pub invariant-loop : goal.invariant-loop
