@@ -1,23 +1,21 @@
 -- A journal and the histories of all tables match, where each hand is begun and settled by the worker of its table.
 use Rattle.std.proofs.Common.{◌≡◌, ◌⊎◌, ◌∙◌, inl, inr, refl, sym, ap, subst, ◌==◌, ℕ, ◌+◌, ◌<◌, ◌≤◌, Bool, true, false, cond, List, [], ◌∷◌, ◌++◌, length, append-nil, arith}
 use Rattle.std.specs.Prelude.{Option, None, Some, slice_get}
-use Rattle.std.proofs.lemmas.Bool.{eqb-true}
 use Rattle.std.proofs.lemmas.Bool.Decides.{nat_tests}
 use Rattle.std.proofs.lemmas.Option.{same_Some}
 use mathlib.Core.List.{IsPrefix}
 use Rattle.table_engine.specs.Hands.{HandTerms}
-use Rattle.floor_events.specs.declared.event.Event.{Event}
-use Rattle.floor_events.specs.declared.event.Event.TheVariants as events
 use Rattle.history_lock.specs.Entries.{IsGrownByPasses, entries_by}
 use Rattle.view_rules.specs.declared.entries.JournalEntry.{JournalEntry}
 use Rattle.view_rules.specs.declared.entries.TableEntry.{TableEntry}
 use Rattle.view_rules.specs.declared.entries.TableEntry.TheVariants.{Acted, Closed, Opened}
-use Rattle.dock_rules.specs.Journals.{Tale, journal_caller, tale_of}
+use Rattle.dock_rules.specs.Journals.{journal_caller, tale_of}
 use Rattle.dock_rules.specs.Tables.{IsLegalTableHistory, MayComeInTurn, lying_hand, table_caller}
 use Rattle.dock_rules.specs.Whole.{IsMatch, hands_of}
 use Rattle.dock_rules.proofs.Tables.{legal-back, legal-nil}
 use Rattle.table_worker.specs.Alone.{is_hand_at}
-use Rattle.table_worker.specs.Ties.{IsBrought, work_owed}
+use Rattle.table_worker.specs.Ties.{IsBrought}
+use Rattle.table_worker.proofs.Alone.{here-of}
 use Rattle.table_worker.proofs.Events.{brought-free}
 use Rattle.table_worker.proofs.Matching.{brought-matches}
 use Rattle.table_worker.proofs.Splits.{split-append}
@@ -61,15 +59,6 @@ none-above k (entry ∷ journal) above =
     let other : (entry.caller == k) ≡ false = grind (arith, nat_tests) in
     ap (λ (is : Bool). cond is (entry ∷ entries_by journal_caller k journal) (entries_by journal_caller k journal)) other
     ∙ none-above k journal (omega (arith, most))
-
--- A hand of a worker's work is one of its table.
-here-of : (table : ℕ) (tale : Tale) (event : Event) → work_owed table tale event ≡ Some event → (other : ℕ)
-    → is_hand_at other event ≡ true → other ≡ table
-here-of table tale (events.Begin there row) is other at =
-    let same : table ≡ there = cc in sym (eqb-true there other at) ∙ sym same
-here-of table tale (events.Settle there) is other at =
-    let same : table ≡ there = cc in sym (eqb-true there other at) ∙ sym same
-here-of table tale event is other at = absurd cc
 
 module _ (journal : List JournalEntry) (worker_of : ℕ → Option ℕ) where
   -- Whoever has a number is the worker of a table, or begins and settles no hand.

@@ -36,12 +36,3 @@ pub use laws::{
     what_was_held_is_one_tournament,
 };
 pub use server::serve;
-
-#[cfg(test)]
-mod fault_tests;
-#[cfg(test)]
-mod gate_tests;
-#[cfg(test)]
-mod support;
-#[cfg(test)]
-mod tests;

@@ -44,6 +44,15 @@ out-here tale table start valid is = by_play tale.state.play refl
         (((valid.play play at).book).hands.starts table start
         (sym (ap (λ (book : BookState). start_at book.started table) (book-of tale (Some play) at)) ∙ is)).here
 
+-- A hand of a worker's work is one of its table.
+pub here-of : (table : ℕ) (tale : Tale) (event : Event) → work_owed table tale event ≡ Some event → (other : ℕ)
+    → is_hand_at other event ≡ true → other ≡ table
+here-of table tale (events.Begin there row) is other at =
+    let same : table ≡ there = cc in sym (eqb-true there other at) ∙ sym same
+here-of table tale (events.Settle there) is other at =
+    let same : table ≡ there = cc in sym (eqb-true there other at) ∙ sym same
+here-of table tale event is other at = absurd cc
+
 module _ (caller table : ℕ) where
   -- What is so of the caller and the event of an entry, where this caller alone has hands at the table and none
   -- elsewhere.
@@ -114,15 +123,6 @@ module _ (caller table : ℕ) where
             (settled_by seeds entry.caller entry.event entry.acts)));
       }
 
-  -- what an own entry's work says of its table
-  here-of : (tale : Tale) (event : Event) → work_owed table tale event ≡ Some event → (other : ℕ)
-      → is_hand_at other event ≡ true → other ≡ table
-  here-of tale (events.Begin there row) is other at =
-      let same : table ≡ there = cc in sym (eqb-true there other at) ∙ sym same
-  here-of tale (events.Settle there) is other at =
-      let same : table ≡ there = cc in sym (eqb-true there other at) ∙ sym same
-  here-of tale event is other at = absurd cc
-
   valid-told : (journal : List JournalEntry) → IsValidState (tale_of journal).state
   valid-told journal = subst IsValidState (sym (state-told journal)) (valid_events (expand journal))
 
@@ -138,7 +138,7 @@ module _ (caller table : ℕ) where
         (same-next (tale_of front) entry (valid-told front)
         (record {
           theirs = alone front rest entry is;
-          here = λ mine. here-of (tale_of front) entry.event (work front rest entry is mine);
+          here = λ mine. here-of table (tale_of front) entry.event (work front rest entry is mine);
         }) same))
 
     -- What the caller began and settled is what began and was settled at the table.

@@ -18,10 +18,6 @@ mod laws;
 mod ordering;
 mod returning;
 mod stage;
-#[cfg(test)]
-mod tests;
-#[cfg(test)]
-mod threads_tests;
 mod turn;
 mod waiting;
 mod watch;

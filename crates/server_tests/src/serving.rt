@@ -1,0 +1,6 @@
+//! Whole runs of the server over memory.
+
+mod faults;
+mod gate;
+mod served;
+mod support;
