@@ -12,7 +12,7 @@ threads=$(nproc)
 replay=$PWD/crates/floor_replay/out/floor_replay
 ./floor replay < /dev/null > /dev/null
 . bench/scratch.sh
-scratch docks $(sed -n 's/^\([a-z_]*\)[ :].*/\1/p' crates.txt | grep -vx floor_replay) < /dev/null
+scratch docks $(libraries) < /dev/null
 
 # how many threads act: one for each processor, but no more than there are tables
 acting() { echo $(($1 < threads ? $1 : threads)); }

@@ -3,8 +3,16 @@
 # and leaves the built program in `program`. What earlier checks kept of the crates is begun with, and what is written of
 # the program's own proofs stands in bench/NAME_proofs, in texts. `lay_out NAME CRATES..` only lays out that folder, with
 # the program's crate in `crate`, for `rt try`.
+# `libraries` lists the crates that are no programs.
 work=$(mktemp -d)
 trap 'rm -rf "$work"' EXIT
+
+libraries() {
+    local name
+    for name in $(sed -n 's/^\([a-z_]*\)[ :].*/\1/p' crates.txt); do
+        if [ -f "crates/$name/src/lib.rt" ]; then echo "$name"; fi
+    done
+}
 
 lay_out() {
     local name=$1 part

@@ -11,12 +11,11 @@ if [ "${1-}" = --unproved ]; then
     shift
 fi
 . bench/scratch.sh
-crates=$(sed -n 's/^\([a-z_]*\)[ :].*/\1/p' crates.txt | grep -vx 'floor_replay\|floor_desk')
 words=(--scripts "${1:-10000}" --seed "${2:-1}")
 if [ -n "$unproved" ]; then
-    lay_out sessions $crates
+    lay_out sessions $(libraries)
     bench/sessions.py --crate "$crate" "${words[@]}"
 else
-    scratch sessions $crates < /dev/null
+    scratch sessions $(libraries) < /dev/null
     bench/sessions.py --program "$program" "${words[@]}"
 fi

@@ -1,6 +1,7 @@
-"""Refuses each allocation of a served hand in turn, until a run makes no more: each run ends with status 0 and a text that
-replays, or with 5 and a front of one. Who is answered `= memory` asks again, and whose session ends comes again. Where a
-thread cannot be started its work waits until that of another is done, so that a door may stay shut; such a run is ended.
+"""Refuses each allocation of a served hand in turn, until a run makes no more: each run ends with status 0 and a text
+that replays, or with 5 and a front of one. Who is answered `= memory` asks again, and whose session ends comes again.
+Where a thread cannot be started its work waits until that of another is done, so that a door may stay shut; such a run is
+ended.
 
 python3 -m serving.refused_memory"""
 import collections
@@ -11,6 +12,7 @@ import subprocess
 import tempfile
 import time
 
+import refusing
 from serving.hostile import Client
 from serving.server import TOP, check_replay, plan
 
@@ -19,53 +21,6 @@ PORT = 25000
 SERVER = os.environ.get("SERVER", str(TOP / "crates/floor_desk/out/floor_desk"))
 # how many seconds a client waits for a line
 PATIENCE = 5
-# fails the one allocation of the program itself that has this number, and keeps in a file how many it made
-PRELOAD = r"""
-#define _GNU_SOURCE
-#include <dlfcn.h>
-#include <errno.h>
-#include <fcntl.h>
-#include <stdatomic.h>
-#include <stdint.h>
-#include <stdio.h>
-#include <stdlib.h>
-#include <string.h>
-#include <sys/mman.h>
-static atomic_long *made;
-static long refused = -1;
-static uintptr_t first, last;
-static void *(*real_malloc)(size_t), *(*real_realloc)(void *, size_t);
-__attribute__((constructor)) static void begin(void) {
-    real_malloc = dlsym(RTLD_NEXT, "malloc");
-    real_realloc = dlsym(RTLD_NEXT, "realloc");
-    char line[512], name[256], end[256] = "";
-    FILE *maps = fopen("/proc/self/maps", "r");
-    while (fgets(line, sizeof line, maps)) {
-        uintptr_t from, to;
-        *name = 0;
-        if (sscanf(line, "%lx-%lx %*s %*s %*s %*s %255s", &from, &to, name) < 2) continue;
-        if (!*end) { strcpy(end, name); first = from; }
-        if (!strcmp(end, name)) last = to;
-    }
-    fclose(maps);
-    made = mmap(0, sizeof *made, PROT_READ | PROT_WRITE, MAP_SHARED, open(getenv("MADE"), O_RDWR), 0);
-    refused = atol(getenv("REFUSED"));
-}
-static int refuses(void *caller) {
-    if (refused < 0 || (uintptr_t)caller < first || (uintptr_t)caller >= last) return 0;
-    return atomic_fetch_add(made, 1) + 1 == refused;
-}
-void *malloc(size_t size) {
-    if (!real_malloc) real_malloc = dlsym(RTLD_NEXT, "malloc");
-    if (refuses(__builtin_return_address(0))) { errno = ENOMEM; return 0; }
-    return real_malloc(size);
-}
-void *realloc(void *old, size_t size) {
-    if (!real_realloc) real_realloc = dlsym(RTLD_NEXT, "realloc");
-    if (refuses(__builtin_return_address(0))) { errno = ENOMEM; return 0; }
-    return real_realloc(old, size);
-}
-"""
 
 
 class Guest:
@@ -108,14 +63,9 @@ class Guest:
                 return
 
 
-def made_in(folder):
-    return int.from_bytes((folder / "made").read_bytes(), "little")
-
-
 def serve(preload, number, folder, seen):
     """Serves a hand with one allocation refused. Gives the status, and how many allocations were made."""
-    (folder / "made").write_bytes(bytes(8))
-    environment = dict(os.environ, LD_PRELOAD=str(preload), REFUSED=str(number), MADE=str(folder / "made"))
+    environment = refusing.begin(preload, number)
     with open(folder / "text", "wb") as out:
         server = subprocess.Popen([SERVER, "serve", str(PORT), "2"], stdin=subprocess.PIPE, stdout=out,
                                   stderr=subprocess.PIPE, env=environment, cwd=TOP)
@@ -140,20 +90,18 @@ def serve(preload, number, folder, seen):
     except TimeoutError:
         server.kill()
         server.wait()
-        return None, made_in(folder)
+        return None, refusing.made(preload)
     except OSError:
         pass
     said = server.stderr.read()
     status = server.wait(60)
     assert (status, said) in ((0, b""), (5, b"out of memory\n")), (number, status, said)
-    return status, made_in(folder)
+    return status, refusing.made(preload)
 
 
 def main():
     folder = pathlib.Path(tempfile.mkdtemp())
-    (folder / "refuse.c").write_text(PRELOAD)
-    preload = folder / "refuse.so"
-    subprocess.run(["cc", "-O1", "-shared", "-fPIC", "-o", preload, folder / "refuse.c", "-ldl"], check=True)
+    preload = refusing.build(folder)
     seen = collections.Counter()
     for number in itertools.count(1):
         status, made = serve(preload, number, folder, seen)
