@@ -14,7 +14,7 @@ use Rattle.hand_rank.specs.Values.{ranks_down, count_of_rank, ranks_that_occur, 
 use Rattle.hand_rank.specs.Cards.{count_of_suit, AreOnce}
 use Rattle.rulebook.proofs.Tests.{count_by-cons}
 use Rattle.hand_rank.proofs.CountLaws.{count_of_rank-cons}
-use Rattle.hand_rank.specs.RankedHand.{falling}
+use Rattle.hand_rank.specs.Sets.{falling}
 use Rattle.hand_rank.proofs.Sections.{sections, total, total-same}
 
 -- the numbers below a bound, from the highest down
@@ -46,7 +46,8 @@ other-rank (card ∷ cards) r out =
     let other : eqb card.rank r ≡ false = grind (arith, nat_tests) in
     count_of_rank-cons card cards r ∙ rw other (omega arith)
 
-that_occur-falling : (cards : List Card) (times : ℕ) → 1 ≤ times
+-- the ranks that occur so often
+pub that_occur-falling : (cards : List Card) (times : ℕ) → 1 ≤ times
     → ranks_that_occur cards times ≡ falling (λ r. eqb (count_of_rank cards r) times) 15
 unfolding ranks_that_occur
 that_occur-falling cards times some =

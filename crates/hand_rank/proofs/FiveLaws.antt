@@ -7,8 +7,7 @@ use Rattle.std.proofs.lemmas.List.Sums.{sum_by-append}
 use Rattle.card_set.specs.declared.card.Card.{Card}
 use Rattle.rulebook.proofs.Tests.{count_by-cons}
 use Rattle.hand_rank.specs.Runs.{highest_run}
-use Rattle.hand_rank.specs.Sets.{has_rank}
-use Rattle.hand_rank.specs.RankedHand.{falling, ranks_of}
+use Rattle.hand_rank.specs.Sets.{has_rank, falling, ranks_of}
 use Rattle.hand_rank.specs.Values.{count_of_rank, distinct_ranks, run_top}
 use Rattle.hand_rank.proofs.CardCounts.{other-rank, distinct_ranks-sections, total-cards}
 use Rattle.hand_rank.proofs.Chosen.{occurs}
@@ -142,11 +141,12 @@ are-ones five often =
     }
 
 -- numbers that pass a test, each lower than the one before
-abbrev Lower : (ℕ → Bool) → ℕ → List ℕ → Type 0
+abbrev pub Lower : (ℕ → Bool) → ℕ → List ℕ → Type 0
 Lower test n [] = Unit {0}
 Lower test n (x ∷ xs) = (x < n) × (test x ≡ true) × Lower test x xs
 
-falling-lower : (test : ℕ → Bool) (n m : ℕ) → n ≤ m → Lower test m (falling test n)
+-- and numbers that are listed are such
+pub falling-lower : (test : ℕ → Bool) (n m : ℕ) → n ≤ m → Lower test m (falling test n)
 unfolding falling
 falling-lower test zero m few = tt
 falling-lower test (suc n) m few =

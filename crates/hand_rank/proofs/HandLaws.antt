@@ -8,11 +8,9 @@ use Rattle.card_choices.proofs.Combined.{combined}
 use Rattle.card_choices.proofs.ListOrder.{Upto, upto_through, upto_both, max_upper, max-above_left}
 use Rattle.card_choices.specs.Choices.{choices}
 use Rattle.hand_rank.specs.declared.category.Category.{Category}
-use Rattle.hand_rank.specs.declared.ranked_hand.RankedHand.{RankedHand}
 use Rattle.hand_rank.specs.BestHigh.{greater, best_high}
-use Rattle.hand_rank.specs.Held.{hands, has_number, value_in, best_in, value_of, IsBestIn, IsBest}
+use Rattle.hand_rank.specs.Held.{hands, has_number, value_in, best_in, value_or_none, IsBestIn}
 use Rattle.hand_rank.specs.Cards.{count_of_suit, AreOnce}
-use Rattle.hand_rank.specs.RankedHand.{ranked_value, IsSized}
 use Rattle.hand_rank.specs.Values.{category_number, category_of, count_of_rank, distinct_ranks, run_top, are_of_one_suit, value_by, five_card_value}
 use Rattle.hand_rank.proofs.CardCounts.{other-rank, once-few, total-cards}
 use Rattle.hand_rank.proofs.Chosen.{IsChoice, whole, count-choice, occurs, choice-with, chosen-within, chosen-above}
@@ -288,40 +286,37 @@ pub upto-of : (v w : List ℕ) → greater v w ≡ w → Upto v w
 upto-of v w is = subst (λ x. Upto v x) is (max-above_left v w)
 
 -- no hand is of a category
-pub no-best : (number : ℕ) (best : Option RankedHand) (hole board : List Card) → best ≡ None
+pub no-best : (number : ℕ) (best : Option (List ℕ)) (hole board : List Card) → best ≡ None
     → ((others : List Card) (ranks : List ℕ) → IsChoice others board
-    → length others ≡ 5 - length hole → five_card_value (hole ++ others) ≡ number ∷ ranks → ⊥) → IsBestIn number best (hands hole board)
+    → length others ≡ 5 - length hole → five_card_value (hole ++ others) ≡ number ∷ ranks → ⊥)
+    → IsBestIn number best (hands hole board)
 no-best number best hole board is none =
     subst (λ o. IsBestIn number o (hands hole board)) (sym is) (record {
       over = max_upper (best_in number (hands hole board)) [] (all-within_in number hole board []
           (λ others ranks chosen count at. absurd (none others ranks chosen count at)));
       under = max_upper [] (best_high (hands hole board)) tt;
-      sized = λ shown found. absurd (let bad : None ≡ Some shown = found in cc);
       category = λ shown found. absurd (let bad : None ≡ Some shown = found in cc);
     })
 
 -- some cards show no less than this with the hole cards
-pub record Reaches (shown : RankedHand) (hole board : List Card) : Type 0 where
+pub record Reaches (shown : List ℕ) (hole board : List Card) : Type 0 where
   pub others : List Card
   pub choice : IsChoice others board
   pub count : length others ≡ 5 - length hole
-  pub up : Upto (ranked_value shown) (five_card_value (hole ++ others))
+  pub up : Upto shown (five_card_value (hole ++ others))
 
 -- some hand shows no less, and no hand of the category more
-pub some-best : (number : ℕ) (shown : RankedHand) (hole board : List Card) → category_number shown.category ≡ number
-    → IsSized shown → Reaches shown hole board
+pub some-best : (number : ℕ) (shown : List ℕ) (hole board : List Card) → has_number number shown ≡ true
+    → Reaches shown hole board
     → ((others : List Card) (ranks : List ℕ) → IsChoice others board
-    → length others ≡ 5 - length hole → five_card_value (hole ++ others) ≡ number ∷ ranks → Upto (number ∷ ranks) (ranked_value shown))
+    → length others ≡ 5 - length hole → five_card_value (hole ++ others) ≡ number ∷ ranks → Upto (number ∷ ranks) shown)
     → IsBestIn number (Some shown) (hands hole board)
-some-best number shown hole board category sized reach bound = record {
-  over = max_upper (best_in number (hands hole board)) (ranked_value shown)
-      (all-within_in number hole board (ranked_value shown) bound);
-  under = max_upper (ranked_value shown) (best_high (hands hole board))
-      (upto_through (ranked_value shown) (five_card_value (hole ++ reach.others)) (best_high (hands hole board))
+some-best number shown hole board category reach bound = record {
+  over = max_upper (best_in number (hands hole board)) shown (all-within_in number hole board shown bound);
+  under = max_upper shown (best_high (hands hole board))
+      (upto_through shown (five_card_value (hole ++ reach.others)) (best_high (hands hole board))
       reach.up (some-above hole board reach.others reach.choice reach.count));
-  sized = λ other is. subst (λ s. IsSized s) (same_Some shown other is) sized;
-  category = λ other is. subst (λ (s : RankedHand). category_number s.category ≡ number) (same_Some shown other is)
-      category;
+  category = λ other is. subst (λ v. has_number number v ≡ true) (same_Some shown other is) category;
 }
 
 -- no hand is of a category from a number on
@@ -343,49 +338,53 @@ none-beyond hole board = record {
 }
 
 -- and none from the next lower number on, where none is of that category either
-pub none-more : (number : ℕ) (best : Option RankedHand) (hole board : List Card) → NoneFrom (suc number) hole board
+pub none-more : (number : ℕ) (best : Option (List ℕ)) (hole board : List Card) → NoneFrom (suc number) hole board
     → IsBestIn number best (hands hole board) → best ≡ None → NoneFrom number hole board
 none-more number best hole board above is none = record {
   at = λ n from. elim (eqb n number) as (λ b. eqb n number ≡ b → best_in n (hands hole board) ≡ []) [
     | true ↦ λ same. ap (λ m. best_in m (hands hole board)) (eqb-true n number same)
         ∙ nothing (best_in number (hands hole board)) (subst (λ v. Upto (best_in number (hands hole board)) v)
-        (ap value_of none) (upto-of (best_in number (hands hole board)) (value_of best) is.over))
+        (ap value_or_none none) (upto-of (best_in number (hands hole board)) (value_or_none best) is.over))
     | false ↦ λ apart. above.at n (grind (arith, nat_tests))
   ] refl;
 }
 
+-- a value of a lower category comes before
+lower-upto : (number n : ℕ) (ranks shown : List ℕ) → has_number number shown ≡ true → n < number
+    → Upto (n ∷ ranks) shown
+lower-upto number n ranks [] at less = absurd (let bad : false ≡ true = at in cc)
+lower-upto number n ranks (first ∷ shown) at less = inl (grind (arith, nat_tests))
+
 -- the best of the highest category that there is, is the best
-pub best-first : (number : ℕ) (best : Option RankedHand) (shown : RankedHand) (hole board : List Card)
+pub best-first : (number : ℕ) (best : Option (List ℕ)) (shown : List ℕ) (hole board : List Card)
     → NoneFrom (suc number) hole board → IsBestIn number best (hands hole board) → best ≡ Some shown
-    → IsBest shown (hands hole board)
-best-first number best shown hole board above is some = record {
-  value =
-      let under = subst (λ v. Upto v (best_high (hands hole board))) (ap value_of some)
-      (upto-of (value_of best) (best_high (hands hole board)) is.under) in
-      let over = subst (λ v. Upto (best_in number (hands hole board)) v) (ap value_of some)
-      (upto-of (best_in number (hands hole board)) (value_of best) is.over) in
-      upto_both (ranked_value shown) (best_high (hands hole board)) under
-      (all-within hole board (ranked_value shown) (λ others chosen count.
-      let five = numbered-five (hole ++ others) in
-      let up = some-above_in five.number hole board others five.ranks chosen count five.is in
-      let as_number = is.category shown some in
-      elim (ltb five.number number) as (λ b. ltb five.number number ≡ b
-      → Upto (five_card_value (hole ++ others)) (ranked_value shown)) [
-        | true ↦ λ less. subst (λ v. Upto v (ranked_value shown)) (sym five.is) (inl (grind (arith, nat_tests)))
-        | false ↦ λ not_less. elim (eqb five.number number) as (λ b. eqb five.number number ≡ b
-            → Upto (five_card_value (hole ++ others)) (ranked_value shown)) [
-              | true ↦ λ same. upto_through (five_card_value (hole ++ others)) (best_in number (hands hole board))
-                  (ranked_value shown)
-                  (subst (λ n. Upto (five_card_value (hole ++ others)) (best_in n (hands hole board)))
-                  (eqb-true five.number number same) up) over
-              | false ↦ λ apart.
-                  let none = above.at five.number (grind (arith, nat_tests)) in
-                  absurd (subst (λ v. Upto v []) five.is
-                  (subst (λ v. Upto (five_card_value (hole ++ others)) v) none up))
-            ] refl
-      ] refl));
-  sized = is.sized shown some;
-}
+    → shown ≡ best_high (hands hole board)
+best-first number best shown hole board above is some =
+    let under = subst (λ v. Upto v (best_high (hands hole board))) (ap value_or_none some)
+    (upto-of (value_or_none best) (best_high (hands hole board)) is.under) in
+    let over = subst (λ v. Upto (best_in number (hands hole board)) v) (ap value_or_none some)
+    (upto-of (best_in number (hands hole board)) (value_or_none best) is.over) in
+    upto_both shown (best_high (hands hole board)) under
+    (all-within hole board shown (λ others chosen count.
+    let five = numbered-five (hole ++ others) in
+    let up = some-above_in five.number hole board others five.ranks chosen count five.is in
+    let as_number = is.category shown some in
+    elim (ltb five.number number) as (λ b. ltb five.number number ≡ b
+    → Upto (five_card_value (hole ++ others)) shown) [
+      | true ↦ λ less. subst (λ v. Upto v shown) (sym five.is)
+          (lower-upto number five.number five.ranks shown as_number (grind (arith, nat_tests)))
+      | false ↦ λ not_less. elim (eqb five.number number) as (λ b. eqb five.number number ≡ b
+          → Upto (five_card_value (hole ++ others)) shown) [
+            | true ↦ λ same. upto_through (five_card_value (hole ++ others)) (best_in number (hands hole board))
+                shown
+                (subst (λ n. Upto (five_card_value (hole ++ others)) (best_in n (hands hole board)))
+                (eqb-true five.number number same) up) over
+            | false ↦ λ apart.
+                let none = above.at five.number (grind (arith, nat_tests)) in
+                absurd (subst (λ v. Upto v []) five.is
+                (subst (λ v. Upto (five_card_value (hole ++ others)) v) none up))
+          ] refl
+    ] refl))
 
 -- there is a hand
 pub some-hand : (hole board : List Card) → length hole ≤ 2 → 5 ≤ length hole + length board → NoneFrom 0 hole board → ⊥

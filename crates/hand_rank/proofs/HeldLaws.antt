@@ -8,7 +8,7 @@ use Rattle.card_set.specs.declared.card.Card.{Card}
 use Rattle.hand_rank.specs.Held.{count_of_some_suit, AreSuited}
 use Rattle.hand_rank.specs.Cards.{count_of_suit}
 use Rattle.hand_rank.specs.Sets.{has_rank, HasRanks}
-use Rattle.hand_rank.specs.RankedHand.{suit_of}
+use Rattle.hand_rank.specs.Held.{suit_of}
 use Rattle.hand_rank.specs.Values.{count_of_rank}
 use Rattle.hand_rank.proofs.CardCounts.{other-rank, count_of_suit-cons, suited-rank}
 use Rattle.hand_rank.proofs.CountLaws.{count_of_rank-cons}

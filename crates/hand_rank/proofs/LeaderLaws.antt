@@ -10,7 +10,7 @@ use Rattle.hand_rank.specs.declared.rank_set.RankSet.{RankSet}
 use Rattle.hand_rank.specs.Held.{MayLead, HasOneOf, OneHasToLead}
 use Rattle.hand_rank.specs.Picks.{highest_below}
 use Rattle.hand_rank.specs.Sets.{has_rank, HasRanks}
-use Rattle.hand_rank.specs.RankedHand.{falling, ranks_of}
+use Rattle.hand_rank.specs.Sets.{falling, ranks_of}
 use Rattle.hand_rank.specs.SoMany.{AreSoMany, IsGreatest, IsGreatestWith}
 use Rattle.hand_rank.specs.Values.{count_of_rank}
 use Rattle.hand_rank.proofs.CardCounts.{other-rank, total-cards}

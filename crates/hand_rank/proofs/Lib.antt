@@ -6,6 +6,7 @@ pub mod CountLaws
 pub mod FiveLaws
 pub mod HandLaws
 pub mod HeldLaws
+pub mod KindLaws
 pub mod LeaderLaws
 pub mod ShapedLaws
 pub mod NearLaws
@@ -24,3 +25,4 @@ pub mod SingleLaws
 pub mod SoManyLaws
 pub mod StraightLaws
 pub mod SuitLaws
+pub mod ValueLaws

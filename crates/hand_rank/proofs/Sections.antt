@@ -3,7 +3,7 @@ use Rattle.std.proofs.Common.{◌≡◌, ℕ, zero, suc, ◌+◌, ◌<◌, ◌�
 use Rattle.std.specs.Prelude.{map}
 use Rattle.std.proofs.lemmas.Bool.Decides.{nat_tests}
 use Rattle.hand_rank.specs.Picks.{without}
-use Rattle.hand_rank.specs.RankedHand.{falling}
+use Rattle.hand_rank.specs.Sets.{falling}
 use Rattle.hand_rank.proofs.PickLaws.{IsHighest, Falls, without-other, without-less, without-some}
 
 -- two tests that agree below a bound list the same numbers from the highest down

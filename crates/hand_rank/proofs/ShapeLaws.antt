@@ -8,8 +8,8 @@ use Rattle.card_set.specs.declared.card.Card.{Card}
 use Rattle.card_choices.proofs.ListOrder.{Upto, upto_itself}
 use Rattle.rulebook.proofs.Tests.{count_by-cons}
 use Rattle.hand_rank.specs.declared.category.Category.{Category}
-use Rattle.hand_rank.specs.RankedHand.{falling, most_of}
-use Rattle.hand_rank.specs.Shapes.{repeated, shape_at, number_of, is_form}
+use Rattle.hand_rank.specs.Sets.{falling}
+use Rattle.hand_rank.specs.Shapes.{most_of, repeated, shape_at, number_of, is_form}
 use Rattle.hand_rank.specs.Values.{category_of, count_of_rank, distinct_ranks, run_top, are_of_one_suit, value_of_distinct, value_by, five_card_value}
 use Rattle.hand_rank.proofs.CardCounts.{other-rank, distinct_ranks-sections}
 use Rattle.hand_rank.proofs.Chosen.{occurs}
@@ -249,7 +249,7 @@ pub shaped-inside : (p q : ℕ → Bool) (k j r : ℕ) → r < 15
 shaped-inside p q k j r within = let low : leb 15 r ≡ false = grind (arith, nat_tests) in rw low refl
 
 -- ranks that occur so often do so
-all-so_often : (count : ℕ → ℕ) (i n : ℕ) → map count (falling (λ r. eqb (count r) i) n)
+pub all-so_often : (count : ℕ → ℕ) (i n : ℕ) → map count (falling (λ r. eqb (count r) i) n)
     ≡ repeated (length (falling (λ r. eqb (count r) i) n)) i
 unfolding falling
 all-so_often count i zero = refl

@@ -1,5 +1,5 @@
 -- The best hand of a category in which some ranks occur most often, and others beside them.
-use Rattle.std.proofs.Common.{◌≡◌, ℕ, zero, suc, ◌⊎◌, ◌+◌, ◌*◌, ◌<◌, ◌≤◌, inl, inr, Bool, true, false, ◌&&◌, ◌||◌, not, eqb, leb, cond, List, [], ◌∷◌, ◌++◌, length, Some, None, refl, sym, ap, ap₂, ◌∙◌, subst, zero-add, zero-le, le_trans, eqb-true, leb-true, le-leb, lit≤, arith}
+use Rattle.std.proofs.Common.{◌≡◌, ℕ, zero, suc, ◌⊎◌, ◌+◌, ◌*◌, ◌<◌, ◌≤◌, inl, inr, Bool, true, false, ◌&&◌, ◌||◌, not, eqb, leb, cond, List, [], ◌∷◌, ◌++◌, length, Some, None, refl, sym, ap, ap₂, ◌∙◌, subst, zero-add, zero-le, le_trans, eqb-true, leb-true, le-leb, lit≤, eq-eqb, arith}
 use Rattle.std.specs.Prelude.{Option}
 use Rattle.std.proofs.lemmas.Bool.Decides.{nat_tests}
 use Rattle.card_set.specs.declared.card.Card.{Card}
@@ -7,12 +7,10 @@ use Rattle.card_choices.proofs.ListOrder.{Upto}
 use Rattle.rulebook.proofs.Tests.{count_by-cons}
 use Rattle.hand_rank.specs.declared.held.Held.{Held}
 use Rattle.hand_rank.specs.declared.rank_set.RankSet.{RankSet}
-use Rattle.hand_rank.specs.declared.ranked_hand.RankedHand.{RankedHand}
 use Rattle.hand_rank.specs.Held.{hands, IsHeld, MayLead, IsBestIn}
-use Rattle.hand_rank.specs.Sets.{has_rank, HasRanks}
-use Rattle.hand_rank.specs.RankedHand.{falling, ranks_of, ranked_value, most_of}
+use Rattle.hand_rank.specs.Sets.{has_rank, falling, ranks_of, HasRanks}
 use Rattle.hand_rank.specs.SoMany.{AreSoMany, IsGreatest, IsGreatestWith}
-use Rattle.hand_rank.specs.Values.{category_number, count_of_rank, five_card_value}
+use Rattle.hand_rank.specs.Values.{count_of_rank, five_card_value}
 use Rattle.hand_rank.proofs.CardCounts.{other-rank}
 use Rattle.hand_rank.proofs.Chosen.{occurs}
 use Rattle.hand_rank.proofs.FiveLaws.{exactly}
@@ -278,38 +276,34 @@ hand-beside held hole board five ranks number m k c j most from form is has hand
     }
 
 -- the best hand of the category, where the greatest ranks lead and the greatest are beside them
-pub shaped-best : (number m k c j : ℕ) (held : Held) (hole board : List Card) (shown : RankedHand) (from : RankSet)
+pub shaped-best : (number m k c j : ℕ) (held : Held) (hole board : List Card) (most others from : RankSet)
     (leaders beside : Option RankSet) → IsForm number m k c j → IsHeld held hole board
-    → category_number shown.category ≡ number → HasRanks from.bits j (count_of_rank (hole ++ board))
-    → IsGreatest leaders (MayLead hole board m k c j) → leaders ≡ Some shown.most
-    → IsGreatestWith beside (λ r. has_rank from.bits r && not (has_rank shown.most.bits r))
-    (λ r. has_rank held.hole.once.bits r && not (has_rank shown.most.bits r)) c → beside ≡ Some shown.others
-    → IsBestIn number (Some shown) (hands hole board)
-shaped-best number m k c j held hole board shown from leaders beside form is category has leading is_most greatest
+    → HasRanks from.bits j (count_of_rank (hole ++ board))
+    → IsGreatest leaders (MayLead hole board m k c j) → leaders ≡ Some most
+    → IsGreatestWith beside (λ r. has_rank from.bits r && not (has_rank most.bits r))
+    (λ r. has_rank held.hole.once.bits r && not (has_rank most.bits r)) c → beside ≡ Some others
+    → IsBestIn number (Some (number ∷ ranks_of most.bits ++ ranks_of others.bits)) (hands hole board)
+shaped-best number m k c j held hole board most others from leaders beside form is has leading is_most greatest
     is_others =
-    let p = has_rank shown.most.bits in
-    let q = has_rank shown.others.bits in
+    let p = has_rank most.bits in
+    let q = has_rank others.bits in
     let some = form.some in
     let less = form.less in
-    let lead = leading.are shown.most is_most in
-    let near = greatest.is.are shown.others is_others in
+    let lead = leading.are most is_most in
+    let near = greatest.is.are others is_others in
     let first = falling-15 p (leads-15 hole board number m k c j p form lead) in
     let second = within-15 (has_rank from.bits) q (high-none from.bits j (count_of_rank (hole ++ board)) has)
     (λ r below at. (both-are (has_rank from.bits r) (p r) (near.within r below at)).0) in
-    let found = found-beside held hole board m k c j shown.most shown.others from is has lead near in
+    let found = found-beside held hole board m k c j most others from is has lead near in
     let many : length (falling p 15) ≡ m = ap length (sym first) ∙ lead.many in
     let many_others : length (falling q 15) ≡ c = ap length (sym second) ∙ near.many in
     let reached = shaped-reached hole board p q k j is.few is.enough (omega arith)
     (ap₂ (λ x y. x * k + y * j) many many_others ∙ form.sum) found in
     let hand = is-hand hole board reached.others reached.choice reached.count is.few is.once in
     let five = hole ++ reached.others in
-    let value : ranked_value shown ≡ number ∷ falling p 15 ++ falling q 15 =
-    (λ i. category i ∷ first i ++ second i) in
-    some-best number shown hole board category
-    (record {
-      most = lead.many ∙ sym form.most ∙ ap most_of (sym category);
-      few = let a = lead.many in let b = near.many in let few = form.few in omega arith;
-    })
+    let shown = number ∷ falling p 16 ++ falling q 16 in
+    let value : shown ≡ number ∷ falling p 15 ++ falling q 15 = (λ i. number ∷ first i ++ second i) in
+    some-best number shown hole board (eq-eqb number number refl)
     (record {
       others = reached.others;
       choice = reached.choice;
@@ -318,26 +312,23 @@ shaped-best number m k c j held hole board shown from leaders beside form is cat
           (shows-above five p q number m k c j form many many_others
           (shows five p q k j form.some form.less form.times found.apart reached.counts));
     })
-    (λ others ranks chosen count at.
-    let this = is-hand hole board others chosen count is.few is.once in
-    let are = shaped (hole ++ others) ranks number m k c j form this.shown at in
-    let test : ℕ → Bool = λ r. eqb (count_of_rank (hole ++ others) r) k in
-    let test_others : ℕ → Bool = λ r. eqb (count_of_rank (hole ++ others) r) j in
-    let theirs = hand-leads hole board (hole ++ others) ranks number m k c j form this are in
-    let of_most = exactly-16 (hole ++ others) k (omega arith) in
-    let of_others = exactly-16 (hole ++ others) j form.some in
-    let up = upto-of (falling test 16) (falling p 16) (leading.greatest shown.most test is_most theirs) in
-    subst (λ rs. Upto (number ∷ rs) (ranked_value shown)) (ap₂ (λ xs ys. xs ++ ys) of_most of_others ∙ sym are.whole)
-    (subst (λ n. Upto (number ∷ falling test 16 ++ falling test_others 16) (n ∷ falling p 16 ++ falling q 16))
-    (sym category)
+    (λ cards ranks chosen count at.
+    let this = is-hand hole board cards chosen count is.few is.once in
+    let are = shaped (hole ++ cards) ranks number m k c j form this.shown at in
+    let test : ℕ → Bool = λ r. eqb (count_of_rank (hole ++ cards) r) k in
+    let test_others : ℕ → Bool = λ r. eqb (count_of_rank (hole ++ cards) r) j in
+    let theirs = hand-leads hole board (hole ++ cards) ranks number m k c j form this are in
+    let of_most = exactly-16 (hole ++ cards) k (omega arith) in
+    let of_others = exactly-16 (hole ++ cards) j form.some in
+    let up = upto-of (falling test 16) (falling p 16) (leading.greatest most test is_most theirs) in
+    subst (λ rs. Upto (number ∷ rs) shown) (ap₂ (λ xs ys. xs ++ ys) of_most of_others ∙ sym are.whole)
     (inr (
       refl,
       upto-joined (falling test 16) (falling p 16) (falling test_others 16) (falling q 16)
           (theirs.many ∙ sym lead.many) up (λ same.
-          upto-of (falling test_others 16) (falling q 16) (greatest.is.greatest shown.others test_others is_others
-          (hand-beside held hole board (hole ++ others) ranks number m k c j shown.most from form is has this are
-          same))),
-    ))))
+          upto-of (falling test_others 16) (falling q 16) (greatest.is.greatest others test_others is_others
+          (hand-beside held hole board (hole ++ cards) ranks number m k c j most from form is has this are same))),
+    )))
 
 -- ranks that pass one test or another are, but for those that pass a third, no fewer than both but for that
 falling-over : (p q s : ℕ → Bool) (n : ℕ) → ((r : ℕ) → r < n → p r ≡ true → q r ≡ false)
@@ -364,7 +355,7 @@ falling-over p q s (suc n) apart =
 
 -- and none where no ranks may lead
 pub shaped-none : (number m k c j : ℕ) (held : Held) (hole board : List Card) (leaders : Option RankSet)
-    (best : Option RankedHand) → IsForm number m k c j → IsHeld held hole board
+    (best : Option (List ℕ)) → IsForm number m k c j → IsHeld held hole board
     → IsGreatest leaders (MayLead hole board m k c j) → leaders ≡ None → best ≡ None
     → IsBestIn number best (hands hole board)
 shaped-none number m k c j held hole board leaders best form is leading none is_none =
@@ -378,7 +369,7 @@ shaped-none number m k c j held hole board leaders best form is leading none is_
 
 -- nor where there are too few beside them
 pub shaped-lost : (number m k c j : ℕ) (held : Held) (hole board : List Card) (most from : RankSet)
-    (leaders beside : Option RankSet) (best : Option RankedHand) → IsForm number m k c j → IsHeld held hole board
+    (leaders beside : Option RankSet) (best : Option (List ℕ)) → IsForm number m k c j → IsHeld held hole board
     → HasRanks from.bits j (count_of_rank (hole ++ board))
     → IsGreatest leaders (MayLead hole board m k c j) → leaders ≡ Some most
     → IsGreatestWith beside (λ r. has_rank from.bits r && not (has_rank most.bits r))

@@ -11,14 +11,12 @@ use Rattle.rulebook.proofs.Found.{some-found}
 use Rattle.rulebook.proofs.Tests.{count_by-cons}
 use Rattle.hand_rank.specs.declared.held.Held.{Held}
 use Rattle.hand_rank.specs.declared.rank_set.RankSet.{RankSet}
-use Rattle.hand_rank.specs.declared.ranked_hand.RankedHand.{RankedHand}
 use Rattle.hand_rank.specs.Held.{hands, count_of_some_suit, AreSuited, IsHeld, IsBestIn}
 use Rattle.hand_rank.specs.Cards.{count_of_suit, AreOnce}
-use Rattle.hand_rank.specs.Sets.{has_rank, HasRanks}
-use Rattle.hand_rank.specs.RankedHand.{falling, ranks_of, ranked_value, most_of}
+use Rattle.hand_rank.specs.Sets.{has_rank, falling, ranks_of, HasRanks}
 use Rattle.hand_rank.specs.Shapes.{repeated}
 use Rattle.hand_rank.specs.SoMany.{AreSoMany, IsGreatestWith}
-use Rattle.hand_rank.specs.Values.{category_number, count_of_rank, distinct_ranks, run_top, are_of_one_suit, value_of_distinct, five_card_value}
+use Rattle.hand_rank.specs.Values.{count_of_rank, distinct_ranks, run_top, are_of_one_suit, value_of_distinct, five_card_value}
 use Rattle.hand_rank.proofs.CardCounts.{total-cards, suit-joined, suited-rank, all-suited, one_suit-all, all-one_suit}
 use Rattle.hand_rank.proofs.Chosen.{IsChoice, count-choice, choice-filter}
 use Rattle.hand_rank.proofs.FiveLaws.{exactly, ones, are-ones}
@@ -235,11 +233,6 @@ five-found hole others from forced are fails held apart = record {
   among = λ r below some. are.among r (omega arith) (held r (omega arith) some);
 }
 
--- what five ranks show alone
-ranks-shown : (shown : RankedHand) (number : ℕ) → category_number shown.category ≡ number
-    → ranks_of shown.most.bits ≡ [] → ranked_value shown ≡ number ∷ ranks_of shown.others.bits
-ranks-shown shown number category none = (λ i. category i ∷ none i ++ ranks_of shown.others.bits)
-
 -- where all pass a test, it counts all
 all-counted : {A : Type 0} (p : A → Bool) (xs : List A) → list_all p xs ≡ true → count_by p xs ≡ length xs
 all-counted p [] all = refl
@@ -294,13 +287,12 @@ flush-many held hole board others ranks is hand one suit =
     (λ r below has. leb-true 1 (count_of_rank hole r) (sym (is.of_hole.of_once.at r below) ∙ has))
 
 -- the best flush
-pub flush-best : (held : Held) (hole board : List Card) (shown : RankedHand) → IsHeld held hole board
-    → category_number shown.category ≡ 5 → ranks_of shown.most.bits ≡ []
-    → IsGreatestWith (Some shown.others) (has_rank held.suited.bits) (has_rank held.hole.once.bits) 5
-    → IsBestIn 5 (Some shown) (hands hole board)
-flush-best held hole board shown is category none greatest =
-    let p = has_rank shown.others.bits in
-    let found = greatest.is.are shown.others refl in
+pub flush-best : (held : Held) (hole board : List Card) (set : RankSet) → IsHeld held hole board
+    → IsGreatestWith (Some set) (has_rank held.suited.bits) (has_rank held.hole.once.bits) 5
+    → IsBestIn 5 (Some (5 ∷ ranks_of set.bits)) (hands hole board)
+flush-best held hole board set is greatest =
+    let p = has_rank set.bits in
+    let found = greatest.is.are set refl in
     let suit = some-found is.suited.suit no_suit in
     let all_suited = is.suited.of_hole suit.0 suit.1 in
     let of_suit : HasRanks held.suited.bits 1 (count_of_suit (hole ++ board) suit.0) =
@@ -315,18 +307,13 @@ flush-best held hole board shown is category none greatest =
     let hand = is-hand hole board reached.others reached.choice reached.count is.few is.once in
     let five = hole ++ reached.others in
     let single = are-single five p hand.shown are.many reached.counts in
-    let value = ranks-shown shown 5 category none in
     let all : falling p 16 ≡ falling p 15 = within-15 (has_rank held.suited.bits) p fails found.within in
-    some-best 5 shown hole board category
-    (record {
-      most = ap length none ∙ sym (ap most_of category);
-      few = let a = ap length none in let b = found.many in omega arith;
-    })
+    some-best 5 (5 ∷ ranks_of set.bits) hole board refl
     (record {
       others = reached.others;
       choice = reached.choice;
       count = reached.count;
-      up = subst (λ v. Upto v (five_card_value five)) (sym (value ∙ ap (λ rs. 5 ∷ rs) all))
+      up = subst (λ rs. Upto (5 ∷ rs) (five_card_value five)) (sym all)
           (subst (λ v. Upto (5 ∷ falling p 15) v) (single-value five single.often)
           (subst (λ b. Upto (5 ∷ falling p 15)
           (value_of_distinct (run_top (distinct_ranks five)) b (distinct_ranks five)))
@@ -340,13 +327,12 @@ flush-best held hole board shown is category none greatest =
     let told = (tells (run_top (distinct_ranks (hole ++ others))) (are_of_one_suit (hole ++ others))
     (distinct_ranks (hole ++ others)) ranks 5 one.value).flush refl in
     let many = flush-many held hole board others ranks is this one told.0 in
-    subst (λ v. Upto (5 ∷ ranks) v) (sym value)
-    (inr (
+    inr (
       refl,
-      subst (λ rs. Upto rs (ranks_of shown.others.bits))
+      subst (λ rs. Upto rs (ranks_of set.bits))
           (exactly-16 (hole ++ others) 1 (lit≤ tt) ∙ sym (told.1 ∙ one.distinct))
-          (upto-of (falling test 16) (ranks_of shown.others.bits) (greatest.is.greatest shown.others test refl many)),
-    )))
+          (upto-of (falling test 16) (ranks_of set.bits) (greatest.is.greatest set test refl many)),
+    ))
   where
     above : (top : Option ℕ) (ranks others : List ℕ) → Upto others ranks
         → Upto (5 ∷ others) (value_of_distinct top true ranks)
@@ -357,9 +343,9 @@ flush-best held hole board shown is category none greatest =
     no_suit at =
         let nothing : HasRanks held.suited.bits 1 (λ r. 0) =
         subst (λ s. HasRanks held.suited.bits 1 (count_of_some_suit s (hole ++ board))) at is.suited.ranks in
-        let found = greatest.is.are shown.others refl in
-        let empty = falling-empty (has_rank shown.others.bits) 16 (λ r below.
-        either_way (has_rank shown.others.bits r) (has_rank shown.others.bits r ≡ false)
+        let found = greatest.is.are set refl in
+        let empty = falling-empty (has_rank set.bits) 16 (λ r below.
+        either_way (has_rank set.bits r) (has_rank set.bits r ≡ false)
         (λ has. let bad = sym (nothing.at r below) ∙ found.within r below has in
         let fails : leb 1 0 ≡ false = refl in absurd cc) (λ is_not. is_not)) in
         let many = found.many in
@@ -367,7 +353,7 @@ flush-best held hole board shown is category none greatest =
         absurd (omega (arith, many, long))
 
 -- where five ranks of a suit are not found, there is no flush
-pub no-flush : (held : Held) (hole board : List Card) (found : Option RankSet) (best : Option RankedHand)
+pub no-flush : (held : Held) (hole board : List Card) (found : Option RankSet) (best : Option (List ℕ))
     → IsHeld held hole board
     → IsGreatestWith found (has_rank held.suited.bits) (has_rank held.hole.once.bits) 5 → found ≡ None → best ≡ None
     → IsBestIn 5 best (hands hole board)

@@ -1,6 +1,6 @@
 -- So many ranks of some, with others among them: which are the greatest.
 use Rattle.std.proofs.Common.{◌≡◌, ℕ, zero, suc, ◌+◌, ◌<◌, ◌≤◌, inr, Bool, true, false, ◌&&◌, ◌||◌, not, eqb, cond, List, [], ◌∷◌, length, Some, None, refl, sym, ap, ap₂, ◌∙◌, subst, eqb-true, zero-le, le_refl, arith}
-use Rattle.std.specs.Prelude.{Option}
+use Rattle.std.specs.Prelude.{Option, IfSome}
 use Rattle.std.proofs.lemmas.Bool.{and_from, and_parts, not-false, not-true}
 use Rattle.std.proofs.lemmas.Bool.Decides.{nat_tests}
 use Rattle.std.proofs.lemmas.Option.{same_Some}
@@ -10,7 +10,7 @@ use Rattle.hand_rank.specs.declared.rank_set.RankSet.{RankSet}
 use Rattle.hand_rank.specs.BestHigh.{greater}
 use Rattle.hand_rank.specs.Picks.{highest_below}
 use Rattle.hand_rank.specs.Sets.{has_rank}
-use Rattle.hand_rank.specs.RankedHand.{falling, ranks_of}
+use Rattle.hand_rank.specs.Sets.{falling, ranks_of}
 use Rattle.hand_rank.specs.SoMany.{AreSoMany, IsGreatest, IsGreatestWith}
 use Rattle.hand_rank.proofs.PickLaws.{IsHighest, highest-is, highest-none}
 use Rattle.hand_rank.proofs.Sections.{falling-same, falling-leads, falling-none, falling-empty}
@@ -253,6 +253,12 @@ greatest-none from forced count cannot = record {
       (subst (λ n. n ≤ length (falling from 16)) are.many (falling-fewer ranks from 16 are.within)));
   enough = λ inside low high. absurd (cannot inside low high);
 }
+
+-- there are so many of those that are found
+pub many-found : (result : Option RankSet) (from forced : ℕ → Bool) (count : ℕ)
+    → IsGreatestWith result from forced count → IfSome result (λ set. length (ranks_of set.bits) ≡ count)
+many-found None from forced count is = tt
+many-found (Some set) from forced count is = (is.is.are set refl).many
 
 -- a set that has ranks has one
 pub some-rank : (bits : ℕ) → 1 ≤ length (ranks_of bits) → (rank : ℕ) × (rank < 16) × (has_rank bits rank ≡ true)

@@ -9,13 +9,11 @@ use Rattle.card_choices.proofs.ListOrder.{Upto}
 use Rattle.rulebook.proofs.Found.{some-found}
 use Rattle.rulebook.proofs.Sides.{others_alone}
 use Rattle.hand_rank.specs.declared.held.Held.{Held}
-use Rattle.hand_rank.specs.declared.ranked_hand.RankedHand.{RankedHand}
 use Rattle.hand_rank.specs.Held.{hands, count_of_some_suit, IsHeld, RunsWith, IsHighestRunWith, IsBestIn}
 use Rattle.hand_rank.specs.Cards.{count_of_suit}
 use Rattle.hand_rank.specs.Runs.{is_in_run}
-use Rattle.hand_rank.specs.Sets.{HasRanks}
-use Rattle.hand_rank.specs.RankedHand.{falling, ranks_of, ranked_value, most_of, IsSized}
-use Rattle.hand_rank.specs.Values.{category_number, count_of_rank, distinct_ranks, run_top, are_of_one_suit, value_of_distinct, five_card_value}
+use Rattle.hand_rank.specs.Sets.{falling, HasRanks}
+use Rattle.hand_rank.specs.Values.{count_of_rank, distinct_ranks, run_top, are_of_one_suit, value_of_distinct}
 use Rattle.hand_rank.proofs.CardCounts.{other-rank, total-cards}
 use Rattle.hand_rank.proofs.FiveLaws.{ones, shown-run, run-top_same}
 use Rattle.hand_rank.proofs.HandLaws.{IsHandOf, is-hand, no-best, some-best}
@@ -106,18 +104,6 @@ hand-runs hole board five number ranks count top hand single is more =
         let a = ace.0 in let b = ace.1 in grind (arith, nat_tests)
     of_run r last from which low (inr (inr (inr (inr (inr none))))) = absurd none
 
--- what a run shows alone
-run-value : (shown : RankedHand) (number top : ℕ) → category_number shown.category ≡ number
-    → ranks_of shown.most.bits ≡ top ∷ [] → ranks_of shown.others.bits ≡ [] → ranked_value shown ≡ number ∷ top ∷ []
-run-value shown number top category most others = λ i. category i ∷ most i ++ others i
-
-run-sized : (shown : RankedHand) (number top : ℕ) → category_number shown.category ≡ number → most_of number ≡ 1
-    → ranks_of shown.most.bits ≡ top ∷ [] → ranks_of shown.others.bits ≡ [] → IsSized shown
-run-sized shown number top category one most others = record {
-  most = ap length most ∙ sym one ∙ ap most_of (sym category);
-  few = let a = ap length most in let b = ap length others in omega arith;
-}
-
 upto-one : (number top high : ℕ) → top ≤ high → Upto (number ∷ top ∷ []) (number ∷ high ∷ [])
 upto-one number top high up = inr (
   refl,
@@ -128,11 +114,10 @@ upto-one number top high up = inr (
 )
 
 -- the best straight
-pub straight-best : (held : Held) (hole board : List Card) (shown : RankedHand) (top : ℕ) (result : Option ℕ)
-    → IsHeld held hole board → category_number shown.category ≡ 4 → ranks_of shown.most.bits ≡ top ∷ []
-    → ranks_of shown.others.bits ≡ [] → IsHighestRunWith result (count_of_rank (hole ++ board)) hole
-    → result ≡ Some top → IsBestIn 4 (Some shown) (hands hole board)
-straight-best held hole board shown top result is category most others highest found =
+pub straight-best : (held : Held) (hole board : List Card) (top : ℕ) (result : Option ℕ)
+    → IsHeld held hole board → IsHighestRunWith result (count_of_rank (hole ++ board)) hole
+    → result ≡ Some top → IsBestIn 4 (Some (4 ∷ top ∷ [])) (hands hole board)
+straight-best held hole board top result is highest found =
     let count = count_of_rank (hole ++ board) in
     let run = highest.is top found in
     let are = run-five hole count top run in
@@ -142,16 +127,14 @@ straight-best held hole board shown top result is category most others highest f
     let five = hole ++ reached.others in
     let single = are-single five (is_in_run top) hand.shown are.many reached.counts in
     let at = runs five top run.low run.high single reached.counts in
-    let value = run-value shown 4 top category most others in
-    some-best 4 shown hole board category (run-sized shown 4 top category refl most others)
+    some-best 4 (4 ∷ top ∷ []) hole board refl
     (record {
       others = reached.others;
       choice = reached.choice;
       count = reached.count;
-      up = subst (λ v. Upto v (five_card_value five)) (sym value)
-          (subst (λ v. Upto (4 ∷ top ∷ []) v) (single-value five single.often)
+      up = subst (λ v. Upto (4 ∷ top ∷ []) v) (single-value five single.often)
           (subst (λ o. Upto (4 ∷ top ∷ []) (value_of_distinct o (are_of_one_suit five) (distinct_ranks five)))
-          (sym at.is) (above (are_of_one_suit five) at.high (distinct_ranks five) at.up)));
+          (sym at.is) (above (are_of_one_suit five) at.high (distinct_ranks five) at.up));
     })
     (λ others ranks chosen others_long is_value.
     let this = is-hand hole board others chosen others_long is.few is.once in
@@ -162,9 +145,8 @@ straight-best held hole board shown top result is category most others highest f
     let with = highest.others told.0
     (hand-runs hole board (hole ++ others) 4 ranks count told.0 this one told.1 this.most) in
     let same : with.0 ≡ top = same_Some with.0 top (sym with.1 ∙ found) in
-    subst (λ v. Upto (4 ∷ ranks) v) (sym value)
-    (subst (λ rs. Upto (4 ∷ rs) (4 ∷ top ∷ [])) (sym told.2)
-    (subst (λ t. Upto (4 ∷ told.0 ∷ []) (4 ∷ t ∷ [])) same (upto-one 4 told.0 with.0 with.2))))
+    subst (λ rs. Upto (4 ∷ rs) (4 ∷ top ∷ [])) (sym told.2)
+    (subst (λ t. Upto (4 ∷ told.0 ∷ []) (4 ∷ t ∷ [])) same (upto-one 4 told.0 with.0 with.2)))
   where
     above : (one : Bool) (high : ℕ) (ranks : List ℕ) → top ≤ high
         → Upto (4 ∷ top ∷ []) (value_of_distinct (Some high) one ranks)
@@ -172,7 +154,7 @@ straight-best held hole board shown top result is category most others highest f
     above false high ranks up = upto-one 4 top high up
 
 -- where no run has both, there is no straight
-pub no-straight : (held : Held) (hole board : List Card) (result : Option ℕ) (best : Option RankedHand)
+pub no-straight : (held : Held) (hole board : List Card) (result : Option ℕ) (best : Option (List ℕ))
     → IsHeld held hole board → IsHighestRunWith result (count_of_rank (hole ++ board)) hole → result ≡ None
     → best ≡ None → IsBestIn 4 best (hands hole board)
 no-straight held hole board result best is highest none is_none =
@@ -189,12 +171,11 @@ no-straight held hole board result best is highest none is_none =
     absurd cc)
 
 -- the best straight flush
-pub straight_flush-best : (held : Held) (hole board : List Card) (shown : RankedHand) (top : ℕ) (result : Option ℕ)
-    (is : IsHeld held hole board) → category_number shown.category ≡ 8 → ranks_of shown.most.bits ≡ top ∷ []
-    → ranks_of shown.others.bits ≡ []
+pub straight_flush-best : (held : Held) (hole board : List Card) (top : ℕ) (result : Option ℕ)
+    (is : IsHeld held hole board)
     → IsHighestRunWith result (count_of_some_suit is.suited.suit (hole ++ board)) hole
-    → result ≡ Some top → IsBestIn 8 (Some shown) (hands hole board)
-straight_flush-best held hole board shown top result is category most others highest found =
+    → result ≡ Some top → IsBestIn 8 (Some (8 ∷ top ∷ [])) (hands hole board)
+straight_flush-best held hole board top result is highest found =
     let run = highest.is top found in
     let suit = some-found is.suited.suit no_suit in
     let all_suited = is.suited.of_hole suit.0 suit.1 in
@@ -210,18 +191,16 @@ straight_flush-best held hole board shown top result is category most others hig
     let five = hole ++ reached.others in
     let single = are-single five (is_in_run top) hand.shown are.many reached.counts in
     let at = runs five top run.low run.high single reached.counts in
-    let value = run-value shown 8 top category most others in
-    some-best 8 shown hole board category (run-sized shown 8 top category refl most others)
+    some-best 8 (8 ∷ top ∷ []) hole board refl
     (record {
       others = reached.others;
       choice = reached.choice;
       count = reached.count;
-      up = subst (λ v. Upto v (five_card_value five)) (sym value)
-          (subst (λ v. Upto (8 ∷ top ∷ []) v) (single-value five single.often)
+      up = subst (λ v. Upto (8 ∷ top ∷ []) v) (single-value five single.often)
           (subst (λ o. Upto (8 ∷ top ∷ []) (value_of_distinct o (are_of_one_suit five) (distinct_ranks five)))
           (sym at.is)
           (subst (λ b. Upto (8 ∷ top ∷ []) (value_of_distinct (Some at.high) b (distinct_ranks five)))
-          (sym reached.one) (upto-one 8 top at.high at.up))));
+          (sym reached.one) (upto-one 8 top at.high at.up)));
     })
     (λ others ranks chosen others_long is_value.
     let this = is-hand hole board others chosen others_long is.few is.once in
@@ -234,9 +213,8 @@ straight_flush-best held hole board shown top result is category most others hig
     told.1.1 (λ r. hand-suited hole board (hole ++ others) held.suited.bits r is.suited this told.0
     (λ s all. suited-hole hole others s all))) in
     let same : with.0 ≡ top = same_Some with.0 top (sym with.1 ∙ found) in
-    subst (λ v. Upto (8 ∷ ranks) v) (sym value)
-    (subst (λ rs. Upto (8 ∷ rs) (8 ∷ top ∷ [])) (sym told.1.2)
-    (subst (λ t. Upto (8 ∷ told.1.0 ∷ []) (8 ∷ t ∷ [])) same (upto-one 8 told.1.0 with.0 with.2))))
+    subst (λ rs. Upto (8 ∷ rs) (8 ∷ top ∷ [])) (sym told.1.2)
+    (subst (λ t. Upto (8 ∷ told.1.0 ∷ []) (8 ∷ t ∷ [])) same (upto-one 8 told.1.0 with.0 with.2)))
   where
     no_suit : is.suited.suit ≡ None → ⊥
     no_suit at =
@@ -247,7 +225,7 @@ straight_flush-best held hole board shown top result is category most others hig
         absurd (omega (arith, some))
 
 -- where no run of the suit has both, there is no straight flush
-pub no-straight_flush : (held : Held) (hole board : List Card) (result : Option ℕ) (best : Option RankedHand)
+pub no-straight_flush : (held : Held) (hole board : List Card) (result : Option ℕ) (best : Option (List ℕ))
     (is : IsHeld held hole board) → IsHighestRunWith result (count_of_some_suit is.suited.suit (hole ++ board)) hole
     → result ≡ None → best ≡ None → IsBestIn 8 best (hands hole board)
 no-straight_flush held hole board result best is highest none is_none =

@@ -11,7 +11,7 @@ use Rattle.hand_rank.specs.declared.rank_set.RankSet.{RankSet}
 use Rattle.hand_rank.specs.Cards.{count_of_suit, AreOnce}
 use Rattle.hand_rank.specs.Held.{AreSuited}
 use Rattle.hand_rank.specs.Sets.{has_rank, IsTallyOf, AreSuitsOf}
-use Rattle.hand_rank.specs.RankedHand.{ranks_of}
+use Rattle.hand_rank.specs.Sets.{ranks_of}
 use Rattle.hand_rank.specs.Values.{count_of_rank}
 use Rattle.hand_rank.proofs.CardCounts.{other-rank, total-cards, by-suits, suit-joined, suited-rank, count_of_suit-cons}
 use Rattle.hand_rank.proofs.Sections.{total-same}

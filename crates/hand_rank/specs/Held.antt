@@ -5,13 +5,11 @@ use Rattle.card_set.specs.declared.card.Card.{Card}
 use Rattle.card_choices.specs.Choices.{choices}
 use Rattle.hand_rank.specs.declared.board.Board.{Board}
 use Rattle.hand_rank.specs.declared.held.Held.{Held}
-use Rattle.hand_rank.specs.declared.ranked_hand.RankedHand.{RankedHand}
 use Rattle.hand_rank.specs.BestHigh.{greater, greatest, best_high}
 use Rattle.hand_rank.specs.Cards.{count_of_suit, AreOnce}
 use Rattle.hand_rank.specs.Runs.{is_run, is_in_run}
-use Rattle.hand_rank.specs.Sets.{has_rank, HasRanks, IsTallyOf, AreSuitsOf}
-use Rattle.hand_rank.specs.RankedHand.{falling, ranks_of, ranked_value, IsSized}
-use Rattle.hand_rank.specs.Values.{category_number, count_of_rank, five_card_value}
+use Rattle.hand_rank.specs.Sets.{has_rank, falling, ranks_of, HasRanks, IsTallyOf, AreSuitsOf}
+use Rattle.hand_rank.specs.Values.{count_of_rank, five_card_value}
 
 -- the hands of hole cards with each choice of cards of a board that makes them five
 abbrev pub hands : List Card → List Card → List (List Card)
@@ -30,23 +28,17 @@ value_in number five = if has_number number (five_card_value five) then five_car
 unfoldable pub best_in : ℕ → List (List Card) → List ℕ
 best_in number hands = greatest (map (value_in number) hands)
 
--- the value of a ranked hand, if there is one
-abbrev pub value_of : Option RankedHand → List ℕ
-value_of None = []
-value_of (Some hand) = ranked_value hand
+-- the value, and the empty list where there is none
+abbrev pub value_or_none : Option (List ℕ) → List ℕ
+value_or_none None = []
+value_or_none (Some value) = value
 
--- a ranked hand stands for a category among some hands: no hand of the category is worth more, and it is worth no more
--- than the best hand; there is none only where no hand is of the category
-pub record IsBestIn (number : ℕ) (best : Option RankedHand) (hands : List (List Card)) : Type 0 where
-  pub over : greater (best_in number hands) (value_of best) ≡ value_of best
-  pub under : greater (value_of best) (best_high hands) ≡ best_high hands
-  pub sized : (hand : RankedHand) → best ≡ Some hand → IsSized hand
-  pub category : (hand : RankedHand) → best ≡ Some hand → category_number hand.category ≡ number
-
--- a ranked hand is the best of some hands
-pub record IsBest (best : RankedHand) (hands : List (List Card)) : Type 0 where
-  pub value : ranked_value best ≡ best_high hands
-  pub sized : IsSized best
+-- a value stands for a category among some hands: it is of the category, no hand of the category is worth more, and it
+-- is worth no more than the best hand; there is none only where no hand is of the category
+pub record IsBestIn (number : ℕ) (best : Option (List ℕ)) (hands : List (List Card)) : Type 0 where
+  pub over : greater (best_in number hands) (value_or_none best) ≡ value_or_none best
+  pub under : greater (value_or_none best) (best_high hands) ≡ best_high hands
+  pub category : (value : List ℕ) → best ≡ Some value → has_number number value ≡ true
 
 -- the ranks of a board, suit by suit and by how often they occur
 pub record IsBoardOf (board : Board) (cards : List Card) : Type 0 where
@@ -58,6 +50,11 @@ pub record IsBoardOf (board : Board) (cards : List Card) : Type 0 where
 abbrev pub count_of_some_suit : Option ℕ → List Card → ℕ → ℕ
 count_of_some_suit None cards rank = 0
 count_of_some_suit (Some suit) cards rank = count_of_suit cards suit rank
+
+-- the suit that all cards have, if there is one
+abbrev pub suit_of : List Card → Option ℕ
+suit_of [] = None
+suit_of (first ∷ others) = if list_all (λ other. other.suit == first.suit) others then Some first.suit else None
 
 -- the ranks of the only suit that hole cards can have in a flush, among them and a board, or none
 pub record AreSuited (bits : ℕ) (hole board : List Card) : Type 0 where

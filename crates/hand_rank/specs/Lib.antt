@@ -1,10 +1,11 @@
 pub mod BestHigh
 pub mod Cards
 pub mod Counts
+pub mod GivenBack
 pub mod Held
+pub mod HighValue
 pub mod Padded
 pub mod Picks
-pub mod RankedHand
 pub mod Runs
 pub mod Sets
 pub mod Shapes

@@ -1,5 +1,5 @@
 -- Sets of ranks as bits: a rank, from 2 to 14, is in the set where the bit of its number is 1. This project's own.
-use Rattle.std.specs.Prelude.{◌≡◌, ℕ, ◌<◌, ◌≤◌, ◌⊎◌, ◌==◌, nat_le, Bool, List}
+use Rattle.std.specs.Prelude.{◌≡◌, ℕ, zero, suc, ◌<◌, ◌≤◌, ◌⊎◌, ◌==◌, nat_le, Bool, cond, List, [], ◌∷◌}
 use Rattle.std.specs.Int.{bit_at}
 use Rattle.std.specs.List.{slice_index_or}
 use Rattle.card_set.specs.declared.card.Card.{Card}
@@ -9,6 +9,15 @@ use Rattle.hand_rank.specs.Cards.{count_of_suit}
 -- whether a rank is in a set
 abbrev pub has_rank : ℕ → ℕ → Bool
 has_rank bits rank = bit_at bits rank == 1
+
+-- the numbers below a bound that pass a test, from the highest down
+unfoldable pub falling : (ℕ → Bool) → ℕ → List ℕ
+falling test zero = []
+falling test (suc n) = cond (test n) (n ∷ falling test n) (falling test n)
+
+-- the ranks of a set, from the highest down
+abbrev pub ranks_of : ℕ → List ℕ
+ranks_of bits = falling (has_rank bits) 16
 
 -- a set has the ranks that occur so often or more often
 pub record HasRanks (bits often : ℕ) (count : ℕ → ℕ) : Type 0 where

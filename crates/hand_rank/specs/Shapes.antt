@@ -1,8 +1,11 @@
 -- How often the ranks of five cards occur, category by category. This project's own.
 use Rattle.std.specs.Prelude.{ℕ, zero, suc, ◌+◌, ◌*◌, Bool, ◌&&◌, ◌==◌, nat_le, nat_lt, if◌then◌else◌, List, [], ◌∷◌, Option, Some, None}
 use Rattle.hand_rank.specs.declared.category.Category.{Category}
-use Rattle.hand_rank.specs.RankedHand.{most_of}
 use Rattle.hand_rank.specs.Values.{category_number, category_of}
+
+-- how many ranks occur most often, by the number of the category: two pairs have two, five distinct ranks none
+abbrev pub most_of : ℕ → ℕ
+most_of number = if number == 2 then 2 else if number == 0 then 0 else if number == 5 then 0 else 1
 
 -- a number so many times
 abbrev pub repeated : ℕ → ℕ → List ℕ

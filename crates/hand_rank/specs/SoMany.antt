@@ -2,8 +2,7 @@
 use Rattle.std.specs.Prelude.{◌≡◌, ℕ, ◌<◌, ◌≤◌, Bool, true, length, Option, Some}
 use Rattle.hand_rank.specs.declared.rank_set.RankSet.{RankSet}
 use Rattle.hand_rank.specs.BestHigh.{greater}
-use Rattle.hand_rank.specs.Sets.{has_rank}
-use Rattle.hand_rank.specs.RankedHand.{falling}
+use Rattle.hand_rank.specs.Sets.{has_rank, falling}
 
 -- so many ranks below 16 of some, with all of others among them
 pub record AreSoMany (from forced : ℕ → Bool) (count : ℕ) (ranks : ℕ → Bool) : Type 0 where

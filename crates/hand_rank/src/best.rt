@@ -7,7 +7,6 @@ ghost use Rattle.hand_rank.specs.BestHigh.{best_high};
 use crate::board::Board;
 use crate::held::Held;
 use crate::high_value::HighValue;
-use crate::ranked_hand::RankedHand;
 use card_choices::pairs;
 use card_set::Card;
 
@@ -26,7 +25,7 @@ pub fn best_holdem(hole: [Card; 2], board: [Card; 5]) -> HighValue
     requires distinct { AreDistinct (hole ++ board) }
     ensures best { result ≡ best_high (holdem_choices hole board) }
 {
-    Held::none(together(hole, board)).best_hand().value()
+    Held::none(together(hole, board)).best_hand()
 }
 
 /// Gives the best value of two of four hole cards with three of five board cards, as the list of its category and its
@@ -37,10 +36,10 @@ pub fn best_omaha(hole: [Card; 4], board: [Card; 5]) -> HighValue
     ensures best { result ≡ best_high (omaha_choices hole board) }
 {
     let prepared = Board::of(board);
-    let mut best = RankedHand::least();
+    let mut best = HighValue::least();
     let pairs = pairs(hole);
     for pair in &pairs {
         best = best.max(Held::of(*pair, &prepared).best_hand());
     }
-    best.value()
+    best
 }

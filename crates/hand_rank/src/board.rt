@@ -3,9 +3,8 @@
 ghost use Rattle.std.specs.Prelude.{◌∷◌, ◌++◌, [], List};
 ghost use Rattle.card_set.specs.declared.card.Card.{Card};
 ghost use Rattle.hand_rank.specs.Cards.{AreOnce};
-ghost use Rattle.hand_rank.specs.Held.{count_of_some_suit, IsBoardOf};
+ghost use Rattle.hand_rank.specs.Held.{count_of_some_suit, suit_of, IsBoardOf};
 ghost use Rattle.hand_rank.specs.Sets.{HasRanks};
-ghost use Rattle.hand_rank.specs.RankedHand.{suit_of};
 
 use crate::rank_set::RankSet;
 use crate::suits::Suits;

@@ -1,17 +1,17 @@
 //! The value of five cards, by how often their ranks occur.
 
-ghost use Rattle.std.specs.Prelude.{◌≡◌, ◌++◌, ◌+◌, ◌<◌, ◌≤◌, ◌==◌, ℕ, length, map, MatchOption, Some, None};
+ghost use Rattle.std.specs.Prelude.{◌≡◌, ◌≤◌, ◌==◌, List, length};
 ghost use Rattle.std.specs.List.{list_all};
-ghost use Rattle.hand_rank.specs.Counts.{AreCountsOf};
-ghost use Rattle.hand_rank.specs.Values.{count_of_rank, ranks_that_occur, distinct_ranks, category_of, run_top, are_of_one_suit, value_of_distinct, five_card_value};
+ghost use Rattle.card_set.specs.declared.card.Card.{Card};
+ghost use Rattle.hand_rank.specs.Counts.{AreCountsOf, AreKindsOf};
+ghost use Rattle.hand_rank.specs.Sets.{ranks_of};
+ghost use Rattle.hand_rank.specs.Values.{ranks_that_occur, run_top, are_of_one_suit, value_of_distinct, five_card_value};
 
 use crate::category::Category;
 use crate::high_value::HighValue;
 use crate::numbers::Numbers;
+use crate::rank_set::RankSet;
 use card_set::Card;
-
-/// The ranks from the ace down to the two.
-const RANKS_DOWN: [u8; 13] = [14, 13, 12, 11, 10, 9, 8, 7, 6, 5, 4, 3, 2];
 
 /// Tells how often each rank occurs, by its number.
 fn count_ranks(cards: &[Card; 5]) -> [u8; 15]
@@ -24,44 +24,42 @@ fn count_ranks(cards: &[Card; 5]) -> [u8; 15]
     counts
 }
 
-/// Adds the ranks that occur so often, higher ones first, and beside each how often it occurs.
-fn add_ranks(
-    ranks: &mut Numbers,
-    times: &mut Numbers,
-    cards: &[Card; 5],
-    counts: &[u8; 15],
-    often: u8,
-)
-    requires counted { AreCountsOf counts.now cards.now }
-    requires beside { times.old ≡ map (count_of_rank cards.now) ranks.old }
-    requires room { length ranks.old + length (ranks_that_occur cards.now often) ≤ 6 }
-    ensures ranks { ranks.new ≡ ranks.old ++ ranks_that_occur cards.now often }
-    ensures times { times.new ≡ map (count_of_rank cards.now) ranks.new }
+/// Gives the ranks that occur so often.
+fn ranks_that_occur(counts: &[u8; 15], often: u8) -> RankSet
+    requires { 1 ≤ often }
+    ensures { (cards : List Card) → AreCountsOf counts.now cards
+        → ranks_of result.bits ≡ ranks_that_occur cards often }
 {
-    for rank in &RANKS_DOWN {
-        if counts[*rank as usize] == often {
-            ranks.push(*rank);
-            times.push(often);
+    let mut ranks = RankSet::empty();
+    for rank in 2..15 {
+        if counts[rank as usize] == often {
+            ranks = ranks.with(rank);
         }
     }
+    ranks
 }
 
-/// Gives the category by how often the distinct ranks occur, in their order. `None` where five ranks occur once.
-fn category_of(counts: &[u8]) -> Option<Category>
-    ensures { result ≡ category_of counts.now }
-{
-    if counts == [4, 1].as_slice() {
-        Some(Category::FourOfAKind)
-    } else if counts == [3, 2].as_slice() {
-        Some(Category::FullHouse)
-    } else if counts == [3, 1, 1].as_slice() {
-        Some(Category::ThreeOfAKind)
-    } else if counts == [2, 2, 1].as_slice() {
-        Some(Category::TwoPair)
-    } else if counts == [2, 1, 1, 1].as_slice() {
-        Some(Category::OnePair)
-    } else {
-        None
+/// The ranks that occur four times, three times, twice and once.
+#[derive(Clone, Copy, Debug)]
+struct Kinds {
+    four: RankSet,
+    three: RankSet,
+    two: RankSet,
+    one: RankSet,
+}
+
+impl Kinds {
+    /// Tells how often the ranks of five cards occur.
+    fn of(cards: &[Card; 5]) -> Kinds
+        ensures { AreKindsOf result.four.bits result.three.bits result.two.bits result.one.bits cards.now }
+    {
+        let counts = count_ranks(cards);
+        Kinds {
+            four: ranks_that_occur(&counts, 4),
+            three: ranks_that_occur(&counts, 3),
+            two: ranks_that_occur(&counts, 2),
+            one: ranks_that_occur(&counts, 1),
+        }
     }
 }
 
@@ -94,15 +92,18 @@ fn are_of_one_suit(cards: &[Card]) -> bool
 }
 
 /// Gives the value of five cards of distinct ranks.
-fn value_of_distinct(top: Option<u8>, one_suit: bool, ranks: &[u8]) -> HighValue
-    requires { length ranks.now ≤ 5 }
-    ensures { result ≡ value_of_distinct top one_suit ranks.now }
+fn value_of_distinct(cards: &[Card; 5], ranks: RankSet) -> HighValue
+    requires { length (ranks_of ranks.bits) ≤ 5 }
+    ensures { result
+        ≡ value_of_distinct (run_top (ranks_of ranks.bits)) (are_of_one_suit cards.now) (ranks_of ranks.bits) }
 {
-    match (top, one_suit) {
-        (Some(top), true) => HighValue::of(Category::StraightFlush, &[top]),
-        (Some(top), false) => HighValue::of(Category::Straight, &[top]),
-        (None, true) => HighValue::of(Category::Flush, ranks),
-        (None, false) => HighValue::of(Category::HighCard, ranks),
+    let mut numbers = Numbers::new();
+    numbers.push_ranks(ranks);
+    match (run_top(numbers.as_slice()), are_of_one_suit(cards)) {
+        (Some(top), true) => HighValue::of_run(Category::StraightFlush, top),
+        (Some(top), false) => HighValue::of_run(Category::Straight, top),
+        (None, true) => HighValue::of_distinct(Category::Flush, ranks),
+        (None, false) => HighValue::of_distinct(Category::HighCard, ranks),
     }
 }
 
@@ -110,16 +111,21 @@ fn value_of_distinct(top: Option<u8>, one_suit: bool, ranks: &[u8]) -> HighValue
 pub fn five_card_value(cards: &[Card; 5]) -> HighValue
     ensures { result ≡ five_card_value cards.now }
 {
-    let counts = count_ranks(cards);
-    let mut ranks = Numbers::new();
-    let mut times = Numbers::new();
-    add_ranks(&mut ranks, &mut times, cards, &counts, 4);
-    add_ranks(&mut ranks, &mut times, cards, &counts, 3);
-    add_ranks(&mut ranks, &mut times, cards, &counts, 2);
-    add_ranks(&mut ranks, &mut times, cards, &counts, 1);
-    let ranks = ranks.as_slice();
-    match category_of(times.as_slice()) {
-        Some(category) => HighValue::of(category, ranks),
-        None => value_of_distinct(run_top(ranks), are_of_one_suit(cards), ranks),
+    let kinds = Kinds::of(cards);
+    if !kinds.four.is_empty() {
+        return HighValue::of(Category::FourOfAKind, kinds.four, kinds.one);
     }
+    if !kinds.three.is_empty() {
+        if kinds.two.is_empty() {
+            return HighValue::of(Category::ThreeOfAKind, kinds.three, kinds.one);
+        }
+        return HighValue::of(Category::FullHouse, kinds.three, kinds.two);
+    }
+    if kinds.two.has_more(1) {
+        return HighValue::of(Category::TwoPair, kinds.two, kinds.one);
+    }
+    if !kinds.two.is_empty() {
+        return HighValue::of(Category::OnePair, kinds.two, kinds.one);
+    }
+    value_of_distinct(cards, kinds.one)
 }

@@ -5,17 +5,18 @@
 
 ghost use Rattle.std.specs.Prelude.{◌≡◌, ◌<◌, ◌≤◌, ◌++◌, ℕ, List, [], length, IfSome, true};
 ghost use Rattle.card_set.specs.declared.card.Card.{Card};
+ghost use Rattle.hand_rank.specs.BestHigh.{best_high};
 ghost use Rattle.hand_rank.specs.Cards.{AreOnce};
-ghost use Rattle.hand_rank.specs.Held.{hands, IsBoardOf, IsHeld, AreNear, MayLead, OneHasToLead, IsHighestRunWith, IsBestIn, IsBest};
-ghost use Rattle.hand_rank.specs.Sets.{has_rank, HasRanks};
+ghost use Rattle.hand_rank.specs.Held.{hands, IsBoardOf, IsHeld, AreNear, MayLead, OneHasToLead, IsHighestRunWith, IsBestIn};
+ghost use Rattle.hand_rank.specs.Sets.{has_rank, ranks_of, HasRanks};
 ghost use Rattle.hand_rank.specs.Shapes.{repeated, shape_at, is_form};
 ghost use Rattle.hand_rank.specs.SoMany.{IsGreatest};
 ghost use Rattle.hand_rank.specs.Values.{category_number};
 
 use crate::board::Board;
 use crate::category::Category;
+use crate::high_value::HighValue;
 use crate::rank_set::RankSet;
-use crate::ranked_hand::RankedHand;
 use crate::suits::Suits;
 use crate::tally::Tally;
 use card_choices::Pair;
@@ -95,7 +96,8 @@ impl Held {
         requires each { 1 ≤ others.each }
         requires less { others.each < most.each }
         requires high { most.each ≤ 4 }
-        ensures { (hole board : List Card) → IsHeld self hole board
+        ensures many { IfSome result (λ set. length (ranks_of set.bits) ≡ most.ranks) }
+        ensures greatest { (hole board : List Card) → IsHeld self hole board
             → IsGreatest result (MayLead hole board most.ranks most.each others.ranks others.each) }
     {
         let from = self.all.ranks(most.each);
@@ -109,7 +111,7 @@ impl Held {
 
     /// Gives the best hand of a category in which so many ranks occur most often and so many others beside them.
     #[inline(always)]
-    fn shaped(self, category: Category, most: Times, others: Times) -> Option<RankedHand>
+    fn shaped(self, category: Category, most: Times, others: Times) -> Option<HighValue>
         requires shape { shape_at (category_number category)
             ≡ repeated most.ranks most.each ++ repeated others.ranks others.each }
         requires form { is_form (category_number category) most.ranks most.each others.ranks others.each ≡ true }
@@ -118,11 +120,8 @@ impl Held {
     {
         let leaders = self.leaders(most, others)?;
         let beside = self.all.ranks(others.each).minus(leaders);
-        Some(RankedHand {
-            category,
-            most: leaders,
-            others: beside.greatest_with(self.hole.once.minus(leaders), others.ranks)?,
-        })
+        let others = beside.greatest_with(self.hole.once.minus(leaders), others.ranks)?;
+        Some(HighValue::of(category, leaders, others))
     }
 
     /// Gives the top rank of the highest run among some ranks that has the hole cards in it.
@@ -136,42 +135,31 @@ impl Held {
     }
 
     #[inline(always)]
-    fn straight_flush(self) -> Option<RankedHand>
+    fn straight_flush(self) -> Option<HighValue>
         ensures { (hole board : List Card) → IsHeld self hole board → IsBestIn 8 result (hands hole board) }
     {
         let top = self.run(self.suited)?;
-        Some(RankedHand {
-            category: Category::StraightFlush,
-            most: RankSet::of(top),
-            others: RankSet::empty(),
-        })
+        Some(HighValue::of_run(Category::StraightFlush, top))
     }
 
     #[inline(always)]
-    fn flush(self) -> Option<RankedHand>
+    fn flush(self) -> Option<HighValue>
         ensures { (hole board : List Card) → IsHeld self hole board → IsBestIn 5 result (hands hole board) }
     {
-        Some(RankedHand {
-            category: Category::Flush,
-            most: RankSet::empty(),
-            others: self.suited.greatest_with(self.hole.once, 5)?,
-        })
+        let ranks = self.suited.greatest_with(self.hole.once, 5)?;
+        Some(HighValue::of_distinct(Category::Flush, ranks))
     }
 
     #[inline(always)]
-    fn straight(self) -> Option<RankedHand>
+    fn straight(self) -> Option<HighValue>
         ensures { (hole board : List Card) → IsHeld self hole board → IsBestIn 4 result (hands hole board) }
     {
         let top = self.run(self.all.once)?;
-        Some(RankedHand {
-            category: Category::Straight,
-            most: RankSet::of(top),
-            others: RankSet::empty(),
-        })
+        Some(HighValue::of_run(Category::Straight, top))
     }
 
     #[inline(always)]
-    fn four_of_a_kind(self) -> Option<RankedHand>
+    fn four_of_a_kind(self) -> Option<HighValue>
         ensures { (hole board : List Card) → IsHeld self hole board → IsBestIn 7 result (hands hole board) }
     {
         self.shaped(
@@ -182,7 +170,7 @@ impl Held {
     }
 
     #[inline(always)]
-    fn full_house(self) -> Option<RankedHand>
+    fn full_house(self) -> Option<HighValue>
         ensures { (hole board : List Card) → IsHeld self hole board → IsBestIn 6 result (hands hole board) }
     {
         self.shaped(
@@ -193,7 +181,7 @@ impl Held {
     }
 
     #[inline(always)]
-    fn three_of_a_kind(self) -> Option<RankedHand>
+    fn three_of_a_kind(self) -> Option<HighValue>
         ensures { (hole board : List Card) → IsHeld self hole board → IsBestIn 3 result (hands hole board) }
     {
         self.shaped(
@@ -204,7 +192,7 @@ impl Held {
     }
 
     #[inline(always)]
-    fn two_pair(self) -> Option<RankedHand>
+    fn two_pair(self) -> Option<HighValue>
         ensures { (hole board : List Card) → IsHeld self hole board → IsBestIn 2 result (hands hole board) }
     {
         self.shaped(
@@ -215,7 +203,7 @@ impl Held {
     }
 
     #[inline(always)]
-    fn one_pair(self) -> Option<RankedHand>
+    fn one_pair(self) -> Option<HighValue>
         ensures { (hole board : List Card) → IsHeld self hole board → IsBestIn 1 result (hands hole board) }
     {
         self.shaped(
@@ -226,7 +214,7 @@ impl Held {
     }
 
     #[inline(always)]
-    fn high_card(self) -> Option<RankedHand>
+    fn high_card(self) -> Option<HighValue>
         ensures { (hole board : List Card) → IsHeld self hole board → IsBestIn 0 result (hands hole board) }
     {
         self.shaped(
@@ -238,36 +226,36 @@ impl Held {
 
     /// Gives the best hand of the hole cards with cards of the board.
     #[inline(always)]
-    pub fn best_hand(self) -> RankedHand
-        ensures { (hole board : List Card) → IsHeld self hole board → IsBest result (hands hole board) }
+    pub fn best_hand(self) -> HighValue
+        ensures { (hole board : List Card) → IsHeld self hole board → result ≡ best_high (hands hole board) }
     {
-        if let Some(hand) = self.straight_flush() {
-            return hand;
+        if let Some(value) = self.straight_flush() {
+            return value;
         }
-        if let Some(hand) = self.four_of_a_kind() {
-            return hand;
+        if let Some(value) = self.four_of_a_kind() {
+            return value;
         }
-        if let Some(hand) = self.full_house() {
-            return hand;
+        if let Some(value) = self.full_house() {
+            return value;
         }
-        if let Some(hand) = self.flush() {
-            return hand;
+        if let Some(value) = self.flush() {
+            return value;
         }
-        if let Some(hand) = self.straight() {
-            return hand;
+        if let Some(value) = self.straight() {
+            return value;
         }
-        if let Some(hand) = self.three_of_a_kind() {
-            return hand;
+        if let Some(value) = self.three_of_a_kind() {
+            return value;
         }
-        if let Some(hand) = self.two_pair() {
-            return hand;
+        if let Some(value) = self.two_pair() {
+            return value;
         }
-        if let Some(hand) = self.one_pair() {
-            return hand;
+        if let Some(value) = self.one_pair() {
+            return value;
         }
         match self.high_card() {
-            Some(hand) => hand,
-            None => RankedHand::least(),
+            Some(value) => value,
+            None => HighValue::least(),
         }
     }
 }

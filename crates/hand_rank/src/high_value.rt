@@ -1,7 +1,8 @@
 //! The value of five cards.
 
-ghost use Rattle.std.specs.Prelude.{◌≡◌, ◌+◌, ◌≤◌, ◌∷◌, ◌++◌, [], length, nat_eq, Some};
-ghost use Rattle.hand_rank.specs.RankedHand.{ranks_of};
+ghost use Rattle.std.specs.Prelude.{◌≡◌, ◌+◌, ◌≤◌, ◌<◌, ◌∷◌, ◌++◌, [], length, nat_eq, Some};
+ghost use Rattle.hand_rank.specs.Sets.{ranks_of};
+ghost use Rattle.hand_rank.specs.Shapes.{most_of};
 ghost use Rattle.hand_rank.specs.Values.{category_number};
 ghost use Rattle.std.proofs.Common.{rules};
 ghost use Rattle.std.specs.Ordering.{nat_cmp};
@@ -9,16 +10,19 @@ ghost use Rattle.std.specs.Cmp.{partial_equiv_from_equiv};
 ghost use Rattle.std.specs.Cmp.Lexicographic.{pointwise, slice_cmp, nat_list_eq_equiv, nat_list_cmp_total, texts_ties, texts_po};
 
 use crate::category::Category;
-use crate::numbers::{MOST, Numbers};
+use crate::numbers::Numbers;
 use crate::rank_set::RankSet;
 use std::cmp::Ordering;
 use std::marker::Model;
 
-/// The value of five cards: the number of their category, and then the ranks that decide between hands of that
-/// category. Contracts see it as the list of these numbers, and values compare as these lists do. Suits break no tie.
+/// The value of five cards: their category, the ranks that occur most often, and the other ranks that decide. A
+/// straight has its top rank alone, and ranks that all occur once are the others. Contracts see it as the list of the
+/// category's number and these ranks, and values compare as these lists do. Suits break no tie.
 #[derive(Clone, Copy, Debug)]
 pub struct HighValue {
-    numbers: Numbers,
+    category: Category,
+    most: RankSet,
+    others: RankSet,
 }
 
 impl Model for HighValue {
@@ -26,56 +30,69 @@ impl Model for HighValue {
 
     ghost Value = { List ℕ };
 
-    ghost view = { λ value. value.numbers };
+    ghost use Rattle.hand_rank.specs.HighValue.{numbers_of, value_with, IsSized};
+    ghost use Rattle.hand_rank.specs.GivenBack.{given_back};
 
-    ghost inverse = { λ numbers. record { numbers = numbers } };
+    ghost view = { numbers_of };
+
+    ghost invariant = { IsSized };
+
+    ghost inverse = { value_with };
+
+    ghost inverse_ok = { given_back };
 }
 
 impl HighValue {
-    /// Gives the empty list, which comes before every value.
-    pub(crate) fn least() -> HighValue
-        ensures { result ≡ [] }
+    /// Gives the value of a category, with the ranks that occur most often and the others.
+    #[inline(always)]
+    pub(crate) fn of(category: Category, most: RankSet, others: RankSet) -> HighValue
+        requires most { length (ranks_of most.bits) ≡ most_of (category_number category) }
+        requires few { length (ranks_of most.bits) + length (ranks_of others.bits) ≤ 5 }
+        ensures { result ≡ category_number category ∷ ranks_of most.bits ++ ranks_of others.bits }
     {
         HighValue {
-            numbers: Numbers::new(),
+            category,
+            most,
+            others,
         }
     }
 
-    /// Gives the value of a category and the ranks that decide.
-    pub(crate) fn of(category: Category, ranks: &[u8]) -> HighValue
-        requires { length ranks.now ≤ 5 }
-        ensures { result ≡ category_number category ∷ ranks.now }
+    /// Gives the value of a run, by its top rank alone.
+    #[inline(always)]
+    pub(crate) fn of_run(category: Category, top: u8) -> HighValue
+        requires one { most_of (category_number category) ≡ 1 }
+        requires within { top < 16 }
+        ensures { result ≡ category_number category ∷ top ∷ [] }
     {
-        let mut numbers = Numbers::new();
-        numbers.push(category.number());
-        for rank in ranks {
-            numbers.push(*rank);
-        }
-        HighValue { numbers }
+        HighValue::of(category, RankSet::of(top), RankSet::empty())
     }
 
-    /// Gives the value with the ranks of a set behind those that it has, higher ones first.
-    pub(crate) fn with_ranks(self, ranks: RankSet) -> HighValue
-        requires { length self + length (ranks_of ranks.bits) ≤ 6 }
-        ensures { result ≡ self ++ ranks_of ranks.bits }
+    /// Gives the value of ranks that all occur once.
+    #[inline(always)]
+    pub(crate) fn of_distinct(category: Category, ranks: RankSet) -> HighValue
+        requires none { most_of (category_number category) ≡ 0 }
+        requires few { length (ranks_of ranks.bits) ≤ 5 }
+        ensures { result ≡ category_number category ∷ ranks_of ranks.bits }
     {
-        let mut numbers = self.numbers;
-        let mut left = ranks;
-        for _ in 0..MOST {
-            let Some(rank) = left.highest() else {
-                return HighValue { numbers };
-            };
-            left = left.without(rank);
-            numbers.push(rank);
-        }
-        HighValue { numbers }
+        HighValue::of(category, RankSet::empty(), ranks)
+    }
+
+    /// Gives a value that no five cards come before.
+    pub(crate) fn least() -> HighValue
+        ensures { result ≡ 0 ∷ [] }
+    {
+        HighValue::of_distinct(Category::HighCard, RankSet::empty())
     }
 
     /// Gives the numbers of the value: its category, from 0 to 8, and then its ranks, from 2 to 14.
-    pub fn numbers(&self) -> &[u8]
-        ensures { result.now ≡ self.now }
+    pub fn numbers(&self) -> Numbers
+        ensures { result ≡ self.now }
     {
-        self.numbers.as_slice()
+        let mut numbers = Numbers::new();
+        numbers.push(self.category.number());
+        numbers.push_ranks(self.most);
+        numbers.push_ranks(self.others);
+        numbers
     }
 }
 
@@ -85,7 +102,7 @@ impl PartialEq for HighValue {
     ghost laws = { partial_equiv_from_equiv nat_list_eq_equiv };
 
     fn eq(&self, other: &HighValue) -> bool {
-        self.numbers() == other.numbers()
+        self.cmp(other).is_eq()
     }
 }
 
@@ -112,7 +129,12 @@ impl Ord for HighValue {
 
     ghost matches_eq = { texts_ties };
 
+    /// Compares by the category, then by the ranks that occur most often, then by the others. Of sets of as many ranks
+    /// the one with the higher ranks is the greater number.
     fn cmp(&self, other: &HighValue) -> Ordering {
-        self.numbers().cmp(other.numbers())
+        let category = self.category.number().cmp(&other.category.number());
+        let most = self.most.bits.cmp(&other.most.bits);
+        let others = self.others.bits.cmp(&other.others.bits);
+        category.then(most).then(others)
     }
 }

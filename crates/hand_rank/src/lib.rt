@@ -14,7 +14,6 @@ mod high_value;
 mod laws;
 mod numbers;
 mod rank_set;
-mod ranked_hand;
 mod suits;
 mod tally;
 #[cfg(test)]
@@ -25,3 +24,4 @@ pub use category::Category;
 pub use five_cards::five_card_value;
 pub use high_value::HighValue;
 pub use laws::{order_does_not_count, suits_break_no_tie};
+pub use numbers::Numbers;

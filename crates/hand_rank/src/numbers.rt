@@ -1,11 +1,13 @@
 //! A list of at most six numbers that takes no memory.
 
-ghost use Rattle.std.specs.Prelude.{◌≡◌, ◌<◌, ◌++◌, ◌∷◌, [], length};
+ghost use Rattle.std.specs.Prelude.{◌≡◌, ◌+◌, ◌<◌, ◌≤◌, ◌++◌, ◌∷◌, [], length};
+ghost use Rattle.hand_rank.specs.Sets.{ranks_of};
 
+use crate::rank_set::RankSet;
 use std::marker::Model;
 
 /// The most numbers that a list has.
-pub const MOST: usize = 6;
+const MOST: usize = 6;
 
 /// A list of at most six numbers. Contracts see it as the list.
 #[derive(Clone, Copy, Debug)]
@@ -32,7 +34,7 @@ impl Model for Numbers {
 
 impl Numbers {
     /// Gives the list of no numbers.
-    pub fn new() -> Numbers
+    pub(crate) fn new() -> Numbers
         ensures { result ≡ [] }
     {
         Numbers {
@@ -42,12 +44,27 @@ impl Numbers {
     }
 
     /// Adds a number at the end.
-    pub fn push(&mut self, number: u8)
+    pub(crate) fn push(&mut self, number: u8)
         requires { length self.old < 6 }
         ensures { self.new ≡ self.old ++ number ∷ [] }
     {
         self.numbers[self.len] = number;
         self.len += 1;
+    }
+
+    /// Adds the ranks of a set at the end, higher ones first.
+    pub(crate) fn push_ranks(&mut self, ranks: RankSet)
+        requires { length self.old + length (ranks_of ranks.bits) ≤ 6 }
+        ensures { self.new ≡ self.old ++ ranks_of ranks.bits }
+    {
+        let mut left = ranks;
+        for _ in 0..MOST {
+            let Some(rank) = left.highest() else {
+                return;
+            };
+            left = left.without(rank);
+            self.push(rank);
+        }
     }
 
     /// Gives the numbers.

@@ -1,12 +1,11 @@
 //! Sets of ranks.
 
-ghost use Rattle.std.specs.Prelude.{◌≡◌, ◌<◌, ◌≤◌, ℕ, ◌+◌, ◌&&◌, ◌||◌, ◌==◌, List, [], length, cond, not, nat_le, nat_lt, true, false, IfSome};
+ghost use Rattle.std.specs.Prelude.{◌≡◌, ◌<◌, ◌≤◌, ℕ, ◌+◌, ◌-◌, ◌&&◌, ◌||◌, ◌==◌, List, [], length, cond, not, nat_le, nat_lt, true, false, IfSome};
 ghost use Rattle.card_set.specs.declared.card.Card.{Card};
 ghost use Rattle.hand_rank.specs.Held.{AreNear};
 ghost use Rattle.hand_rank.specs.Picks.{highest_below};
 ghost use Rattle.hand_rank.specs.Runs.{highest_run, is_near};
-ghost use Rattle.hand_rank.specs.Sets.{has_rank, HasRanks};
-ghost use Rattle.hand_rank.specs.RankedHand.{ranks_of};
+ghost use Rattle.hand_rank.specs.Sets.{has_rank, ranks_of, HasRanks};
 ghost use Rattle.hand_rank.specs.SoMany.{IsGreatestWith};
 ghost use Rattle.hand_rank.specs.Values.{count_of_rank};
 
@@ -66,6 +65,15 @@ impl RankSet {
         }
     }
 
+    /// Gives the set without its lowest rank, if it has one.
+    fn without_lowest(self) -> RankSet
+        ensures { length (ranks_of result.bits) ≡ length (ranks_of self.bits) - 1 }
+    {
+        RankSet {
+            bits: self.bits & self.bits.wrapping_sub(1),
+        }
+    }
+
     /// Gives the ranks of either set.
     #[tactic(auto, using(crate::proofs::SetLaws::has_rank_or))]
     pub fn union(self, other: RankSet) -> RankSet
@@ -107,7 +115,11 @@ impl RankSet {
     pub fn has_more(self, count: u8) -> bool
         ensures { result ≡ nat_lt count (length (ranks_of self.bits)) }
     {
-        self.count() > count
+        let mut left = self;
+        for _ in 0..count {
+            left = left.without_lowest();
+        }
+        !left.is_empty()
     }
 
     /// Gives the highest rank. `None` where there is none.

@@ -24,6 +24,7 @@ fn omaha(rt: &impl Abort, hole: &[u8; 8], board: &[u8; 10]) -> HighValue {
 /// Tests that a value has a category and, behind it, these ranks.
 fn is_value(rt: &impl Abort, value: HighValue, category: Category, ranks: &[u8]) {
     let numbers = value.numbers();
+    let numbers = numbers.as_slice();
     assert!(rt; numbers.len() == ranks.len() + 1, "{numbers:?}");
     assert!(rt; numbers[0] == category.number(), "{numbers:?}");
     let behind = &numbers[1..];
@@ -322,7 +323,7 @@ fn is_as_walked(hole: [Card; 4], board: [Card; 5]) -> Option<(bool, Option<u8>)>
     let best = best_omaha(hole, board);
     Some((
         best == walk_omaha(hole, board),
-        best.numbers().first().copied(),
+        best.numbers().as_slice().first().copied(),
     ))
 }
 

@@ -6,18 +6,12 @@ use Rattle.hand_rank.proofs.BestLaws.{map-itself}
 use Rattle.hand_rank.proofs.CardCounts.{distinct-once}
 use Rattle.hand_rank.proofs.best.best_holdem.Goals as goal
 
-pub value-requires : goal.value-requires
-value-requires c =
-    let once = distinct-once (c.args.hole ++ c.args.board) c.requires.distinct in
-    let held = c.none.ensures (subst (λ all. AreOnce all) (sym c.together.ensures) once) in
-    (c.best_hand.ensures [] c.together.result held).sized
-
 pub returns : goal.returns
 returns c =
     let once = distinct-once (c.args.hole ++ c.args.board) c.requires.distinct in
     let held = c.none.ensures (subst (λ all. AreOnce all) (sym c.together.ensures) once) in
     record {
-      best = c.value.ensures ∙ (c.best_hand.ensures [] c.together.result held).value
+      best = c.best_hand.ensures [] c.together.result held
           ∙ ap best_high (map-itself (choices 5 c.together.result))
           ∙ ap (λ cards. best_high (choices 5 cards)) c.together.ensures;
     }

@@ -15,10 +15,7 @@ use Rattle.hand_rank.proofs.PartLaws.{best-above}
 use Rattle.hand_rank.proofs.best.best_omaha.Goals as goal
 
 pub loop-pair-init : goal.loop-pair-init
-loop-pair-init c = record {
-  value = c.least-best.ensures.value ∙ sym (ap (greater (0 ∷ [])) best_high-none ∙ max_lower (0 ∷ []) [] tt);
-  sized = c.least-best.ensures.sized;
-}
+loop-pair-init c = c.least-best.ensures ∙ sym (ap (greater (0 ∷ [])) best_high-none ∙ max_lower (0 ∷ []) [] tt)
 
 pub loop-pair-preserved : goal.loop-pair-preserved
 loop-pair-preserved c =
@@ -39,18 +36,15 @@ loop-pair-preserved c =
     let apart = subst (λ (cards : List Card). AreOnce (cards ++ board)) c.pair-item.is once in
     let held = subst (λ cards. IsHeld c.of.result cards board) (sym c.pair-item.is)
     (c.of.ensures board (c.of-prepared.ensures board_once) two five apart) in
-    let best = c.best_hand.ensures pair board held in
-    let shown = best.value ∙ ap (λ n. best_high (map (λ three. pair ++ three) (choices (5 - n) board))) is.1 in
+    let shown = c.best_hand.ensures pair board held
+    ∙ ap (λ n. best_high (map (λ three. pair ++ three) (choices (5 - n) board))) is.1 in
     let before = best_high (flat_map hands_of (take c.loop-pair.pair-index c.pairs-pairs.result)) in
-    record {
-      value = c.max-best.ensures.value c.loop-pair.invariant.sized best.sized
-          ∙ ap₂ greater c.loop-pair.invariant.value shown
-          ∙ max_assoc (0 ∷ []) before (best_high (hands_of pair))
-          ∙ ap (greater (0 ∷ []))
-          (best_high-pair hands_of c.pairs-pairs.result c.loop-pair.pair-index pair before
-          (best_high (hands_of pair)) within c.pair-item.is refl refl);
-      sized = c.max-best.ensures.sized c.loop-pair.invariant.sized best.sized;
-    }
+    c.max-best.ensures
+    ∙ ap₂ greater c.loop-pair.invariant shown
+    ∙ max_assoc (0 ∷ []) before (best_high (hands_of pair))
+    ∙ ap (greater (0 ∷ []))
+    (best_high-pair hands_of c.pairs-pairs.result c.loop-pair.pair-index pair before
+    (best_high (hands_of pair)) within c.pair-item.is refl refl)
 
 pub returns : goal.returns
 returns c =
@@ -61,6 +55,6 @@ returns c =
     let all = best_high-all (flat_map hands) c.pairs-pairs.result _ c.loop-pair.pair-index _
     (omega (arith, six, c.loop-pair-test.false)) c.pairs-pairs.ensures refl in
     record {
-      best = c.value.ensures ∙ c.loop-pair.invariant.value ∙ ap (greater (0 ∷ [])) all
+      best = c.loop-pair.invariant ∙ ap (greater (0 ∷ [])) all
           ∙ best-above c.args.hole c.args.board four five;
     }

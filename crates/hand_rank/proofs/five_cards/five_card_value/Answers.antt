@@ -1,100 +1,90 @@
-use Rattle.std.proofs.Common.{◌∙◌, length, ap, ap₂, sym, arith, length-append, Some, None}
-use Rattle.std.specs.Prelude.{map}
-use Rattle.hand_rank.specs.Values.{count_of_rank, ranks_that_occur, value_of_distinct}
-use Rattle.hand_rank.proofs.CountLaws.{length-distinct, length-distinct_ranks, distinct_ranks-of, value-by}
+use Rattle.std.proofs.Common.{◌≡◌, ◌≤◌, ◌∙◌, ℕ, false, ltb, ap, length, sym, arith}
+use Rattle.std.proofs.lemmas.Bool.Decides.{nat_tests}
+use Rattle.hand_rank.proofs.KindLaws.{four_of_a_kind, three_of_a_kind, full_house, two_pair, one_pair, all_distinct}
 use Rattle.hand_rank.proofs.five_cards.five_card_value.Goals as goal
 
-pub add_ranks-requires-clause-room : goal.add_ranks-requires-clause-room
-add_ranks-requires-clause-room c =
-    omega (arith, length-distinct c.args.cards.now, c.told-cards, ap length c.new-ranks.ensures)
-
-pub add_ranks-requires-2-clause-room : goal.add_ranks-requires-2-clause-room
-add_ranks-requires-2-clause-room c =
-    omega (
-      arith,
-      length-distinct c.args.cards.now,
-      c.told-cards,
-      ap length c.new-ranks.ensures,
-      ap length c.add_ranks.ensures.ranks,
-      length-append c.new-ranks.result (ranks_that_occur c.args.cards.now 4),
-    )
-
-pub add_ranks-requires-3-clause-room : goal.add_ranks-requires-3-clause-room
-add_ranks-requires-3-clause-room c =
-    omega (
-      arith,
-      length-distinct c.args.cards.now,
-      c.told-cards,
-      ap length c.new-ranks.ensures,
-      ap length c.add_ranks.ensures.ranks,
-      length-append c.new-ranks.result (ranks_that_occur c.args.cards.now 4),
-      ap length c.add_ranks-2.ensures.ranks,
-      length-append c.add_ranks.new.ranks (ranks_that_occur c.args.cards.now 3),
-    )
-
-pub add_ranks-requires-4-clause-room : goal.add_ranks-requires-4-clause-room
-add_ranks-requires-4-clause-room c =
-    omega (
-      arith,
-      length-distinct c.args.cards.now,
-      c.told-cards,
-      ap length c.new-ranks.ensures,
-      ap length c.add_ranks.ensures.ranks,
-      length-append c.new-ranks.result (ranks_that_occur c.args.cards.now 4),
-      ap length c.add_ranks-2.ensures.ranks,
-      length-append c.add_ranks.new.ranks (ranks_that_occur c.args.cards.now 3),
-      ap length c.add_ranks-3.ensures.ranks,
-      length-append c.add_ranks-2.new.ranks (ranks_that_occur c.args.cards.now 2),
-    )
+one_alone : (n : ℕ) → 1 ≤ n → ltb 1 n ≡ false → n ≡ 1
+one_alone n some few = grind (arith, nat_tests)
 
 pub of-requires : goal.of-requires
-of-requires c = omega (
-  arith,
-  ap length (c.as_slice-ranks.ensures
-      ∙ distinct_ranks-of c.args.cards.now c.new-ranks.result c.add_ranks.new.ranks c.add_ranks-2.new.ranks
-      c.add_ranks-3.new.ranks c.add_ranks-4.new.ranks
-      c.new-ranks.ensures c.add_ranks.ensures.ranks c.add_ranks-2.ensures.ranks c.add_ranks-3.ensures.ranks
-      c.add_ranks-4.ensures.ranks),
-  length-distinct_ranks c.args.cards.now,
-  c.told-cards,
-)
+of-requires c =
+    let made = four_of_a_kind c.told-cards c.of-kinds.ensures
+    (c.is_empty.ensures.some c.if-not-is_empty.true) in
+    record { most = made.most; few = made.few }
+
+pub returns-then-not-is_empty : goal.returns-then-not-is_empty
+returns-then-not-is_empty c =
+    c.of.ensures
+    ∙ (four_of_a_kind c.told-cards c.of-kinds.ensures
+    (c.is_empty.ensures.some c.if-not-is_empty.true)).value
+
+pub of-requires-then-is_empty : goal.of-requires-then-is_empty
+of-requires-then-is_empty c =
+    let made = three_of_a_kind c.told-cards c.of-kinds.ensures
+    (c.is_empty-2.ensures.some c.if-not-is_empty-2.true)
+    (ap length (c.is_empty-then-not-is_empty-2.ensures.none c.if-is_empty.true)) in
+    record { most = made.most; few = made.few }
+
+pub returns-then-is_empty : goal.returns-then-is_empty
+returns-then-is_empty c =
+    c.of-then-is_empty.ensures
+    ∙ (three_of_a_kind c.told-cards c.of-kinds.ensures
+    (c.is_empty-2.ensures.some c.if-not-is_empty-2.true)
+    (ap length (c.is_empty-then-not-is_empty-2.ensures.none c.if-is_empty.true))).value
+
+pub of-requires-then-not-is_empty-2 : goal.of-requires-then-not-is_empty-2
+of-requires-then-not-is_empty-2 c =
+    let made = full_house c.told-cards c.of-kinds.ensures
+    (c.is_empty-2.ensures.some c.if-not-is_empty-2.true)
+    (c.is_empty-then-not-is_empty-2.ensures.some c.if-is_empty.false) in
+    record { most = made.most; few = made.few }
+
+pub returns-then-not-is_empty-2 : goal.returns-then-not-is_empty-2
+returns-then-not-is_empty-2 c =
+    c.of-then-not-is_empty-2.ensures
+    ∙ (full_house c.told-cards c.of-kinds.ensures
+    (c.is_empty-2.ensures.some c.if-not-is_empty-2.true)
+    (c.is_empty-then-not-is_empty-2.ensures.some c.if-is_empty.false)).value
+
+pub of-requires-then-has_more : goal.of-requires-then-has_more
+of-requires-then-has_more c =
+    let made = two_pair c.told-cards c.of-kinds.ensures
+    (grind (arith, nat_tests, c.has_more.ensures, c.if-has_more.true)) in
+    record { most = made.most; few = made.few }
+
+pub returns-then-has_more : goal.returns-then-has_more
+returns-then-has_more c =
+    c.of-then-has_more.ensures
+    ∙ (two_pair c.told-cards c.of-kinds.ensures
+    (grind (arith, nat_tests, c.has_more.ensures, c.if-has_more.true))).value
+
+pub of-requires-then-not-is_empty-3 : goal.of-requires-then-not-is_empty-3
+of-requires-then-not-is_empty-3 c =
+    let made = one_pair c.told-cards c.of-kinds.ensures
+    (ap length (c.is_empty-2.ensures.none c.if-not-is_empty-2.false))
+    (one_alone _ (c.is_empty-3.ensures.some c.if-not-is_empty-3.true)
+    (sym c.has_more.ensures ∙ c.if-has_more.false)) in
+    record { most = made.most; few = made.few }
+
+pub returns-then-not-is_empty-3 : goal.returns-then-not-is_empty-3
+returns-then-not-is_empty-3 c =
+    c.of-then-not-is_empty-3.ensures
+    ∙ (one_pair c.told-cards c.of-kinds.ensures
+    (ap length (c.is_empty-2.ensures.none c.if-not-is_empty-2.false))
+    (one_alone _ (c.is_empty-3.ensures.some c.if-not-is_empty-3.true)
+    (sym c.has_more.ensures ∙ c.if-has_more.false))).value
 
 pub value_of_distinct-requires : goal.value_of_distinct-requires
-value_of_distinct-requires c = omega (
-  arith,
-  ap length (c.as_slice-ranks.ensures
-      ∙ distinct_ranks-of c.args.cards.now c.new-ranks.result c.add_ranks.new.ranks c.add_ranks-2.new.ranks
-      c.add_ranks-3.new.ranks c.add_ranks-4.new.ranks
-      c.new-ranks.ensures c.add_ranks.ensures.ranks c.add_ranks-2.ensures.ranks c.add_ranks-3.ensures.ranks
-      c.add_ranks-4.ensures.ranks),
-  length-distinct_ranks c.args.cards.now,
-  c.told-cards,
-)
+value_of_distinct-requires c =
+    (all_distinct c.told-cards c.of-kinds.ensures
+    (ap length (c.is_empty.ensures.none c.if-not-is_empty.false))
+    (ap length (c.is_empty-2.ensures.none c.if-not-is_empty-2.false))
+    (ap length (c.is_empty-3.ensures.none c.if-not-is_empty-3.false))).few
 
-pub returns-in-Some : goal.returns-in-Some
-returns-in-Some c =
-    c.of.ensures
-    ∙ value-by c.args.cards.now c.as_slice-ranks.result.now c.as_slice.result.now (Some c.in-Some.category)
-    (c.as_slice-ranks.ensures
-    ∙ distinct_ranks-of c.args.cards.now c.new-ranks.result c.add_ranks.new.ranks c.add_ranks-2.new.ranks
-    c.add_ranks-3.new.ranks c.add_ranks-4.new.ranks
-    c.new-ranks.ensures c.add_ranks.ensures.ranks c.add_ranks-2.ensures.ranks c.add_ranks-3.ensures.ranks
-    c.add_ranks-4.ensures.ranks)
-    (c.as_slice.ensures ∙ c.add_ranks-4.ensures.times
-    ∙ ap (map (count_of_rank c.args.cards.now)) (sym c.as_slice-ranks.ensures))
-    (sym c.in-Some.is ∙ c.category_of.ensures)
-
-pub returns-in-None : goal.returns-in-None
-returns-in-None c =
+pub returns : goal.returns
+returns c =
     c.value_of_distinct.ensures
-    ∙ ap₂ (λ top one_suit. value_of_distinct top one_suit c.as_slice-ranks.result.now) c.run_top.ensures
-    c.are_of_one_suit.ensures
-    ∙ value-by c.args.cards.now c.as_slice-ranks.result.now c.as_slice.result.now None
-    (c.as_slice-ranks.ensures
-    ∙ distinct_ranks-of c.args.cards.now c.new-ranks.result c.add_ranks.new.ranks c.add_ranks-2.new.ranks
-    c.add_ranks-3.new.ranks c.add_ranks-4.new.ranks
-    c.new-ranks.ensures c.add_ranks.ensures.ranks c.add_ranks-2.ensures.ranks c.add_ranks-3.ensures.ranks
-    c.add_ranks-4.ensures.ranks)
-    (c.as_slice.ensures ∙ c.add_ranks-4.ensures.times
-    ∙ ap (map (count_of_rank c.args.cards.now)) (sym c.as_slice-ranks.ensures))
-    (sym c.in-None.is ∙ c.category_of.ensures)
+    ∙ (all_distinct c.told-cards c.of-kinds.ensures
+    (ap length (c.is_empty.ensures.none c.if-not-is_empty.false))
+    (ap length (c.is_empty-2.ensures.none c.if-not-is_empty-2.false))
+    (ap length (c.is_empty-3.ensures.none c.if-not-is_empty-3.false))).value

@@ -1,6 +1,6 @@
 use Rattle.std.proofs.Common.{◌<◌, ◌≤◌, length, arith}
 use Rattle.std.proofs.lemmas.Bool.Decides.{nat_tests}
-use Rattle.hand_rank.specs.RankedHand.{ranks_of}
+use Rattle.hand_rank.specs.Sets.{ranks_of}
 use Rattle.hand_rank.specs.Values.{count_of_rank}
 use Rattle.hand_rank.proofs.LeaderLaws.{lead-more, lead-once, lead-none, hole-fits}
 use Rattle.hand_rank.proofs.held.Held.leading.Goals as goal

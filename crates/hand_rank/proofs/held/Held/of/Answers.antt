@@ -2,7 +2,7 @@ use Rattle.std.proofs.Common.{◌≡◌, ◌+◌, ◌∷◌, ◌++◌, ◌∙◌
 use Rattle.card_set.specs.declared.card.Card.{Card}
 use Rattle.hand_rank.specs.Held.{count_of_some_suit, AreNear}
 use Rattle.hand_rank.specs.Sets.{HasRanks, IsTallyOf}
-use Rattle.hand_rank.specs.RankedHand.{suit_of}
+use Rattle.hand_rank.specs.Held.{suit_of}
 use Rattle.hand_rank.specs.Values.{count_of_rank}
 use Rattle.hand_rank.proofs.CountLaws.{count_of_rank-cons}
 use Rattle.hand_rank.proofs.HeldLaws.{one-count, suited-pair}

@@ -1,8 +1,7 @@
-use Rattle.std.proofs.Common.{◌++◌, ◌<◌, refl, subst}
+use Rattle.std.proofs.Common.{◌++◌, ◌<◌, Some, refl, subst, sym}
 use Rattle.std.specs.Prelude.{IfSome}
+use Rattle.hand_rank.specs.Held.{hands, IsBestIn}
 use Rattle.hand_rank.specs.Values.{count_of_rank}
-use Rattle.hand_rank.proofs.FiveLaws.{ranks-one}
-use Rattle.hand_rank.proofs.SetOrder.{ranks-empty}
 use Rattle.hand_rank.proofs.StraightLaws.{straight-best, no-straight}
 use Rattle.hand_rank.proofs.held.Held.straight.Goals as goal
 
@@ -12,10 +11,14 @@ returns-in_err-top c hole board is =
     (c.run.ensures.highest hole (count_of_rank (hole ++ board)) is.near is.all.of_once) c.in_err-top.was
     c.from_residual.ensures
 
+pub of_run-requires : goal.of_run-requires
+of_run-requires c = record {
+  one = refl;
+  within = subst (λ o. IfSome o (λ top. top < 16)) c.in_ok-top.was c.run.ensures.within;
+}
+
 pub returns : goal.returns
 returns c hole board is =
-    straight-best c.args.self hole board _ c.in_ok-top.top c.run.result is refl
-    (ranks-one c.of.result.bits c.in_ok-top.top
-    (subst (λ o. IfSome o (λ top. top < 16)) c.in_ok-top.was c.run.ensures.within) c.of.ensures.ranks)
-    (ranks-empty c.empty.result.bits c.empty.ensures)
-    (c.run.ensures.highest hole (count_of_rank (hole ++ board)) is.near is.all.of_once) c.in_ok-top.was
+    subst (λ v. IsBestIn 4 (Some v) (hands hole board)) (sym c.of_run.ensures)
+    (straight-best c.args.self hole board c.in_ok-top.top c.run.result is
+    (c.run.ensures.highest hole (count_of_rank (hole ++ board)) is.near is.all.of_once) c.in_ok-top.was)
