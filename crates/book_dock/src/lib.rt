@@ -25,8 +25,6 @@ mod opening;
 mod order;
 mod room;
 mod settle;
-#[cfg(test)]
-mod tests;
 
 pub use dock::{BookDock, BookPass, make_book};
 pub use dock_rules::{Ask, AskAnswer};

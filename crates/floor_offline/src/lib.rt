@@ -13,6 +13,3 @@ mod teller;
 mod view;
 
 pub use run::run_offline;
-
-#[cfg(test)]
-mod tests;

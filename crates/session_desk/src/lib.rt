@@ -27,6 +27,3 @@ pub use links::{
 pub use session::{Session, SessionEnd, Step};
 pub use sessions::serve_session;
 pub use work::work_desk;
-
-#[cfg(test)]
-mod tests;

@@ -1,0 +1,5 @@
+//! The tests of book_dock.
+#![tactic(auto)]
+
+#[cfg(test)]
+mod book;
