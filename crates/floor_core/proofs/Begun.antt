@@ -3,7 +3,7 @@ use Rattle.std.proofs.Common.{◌≡◌, ◌∙◌, refl, sym, ap, ◌≤◌, �
 use Rattle.std.specs.Prelude.{not, nat_le, ◌&&◌, slice_set, Option, Some, None}
 use Rattle.std.specs.List.{list_all}
 use Rattle.std.proofs.lemmas.Bool.Decides.{nat_tests}
-use Rattle.std.proofs.lemmas.List.{get_or_default}
+use Rattle.std.proofs.lemmas.List.{get_or_default, set-get_or}
 use Rattle.card_set.specs.declared.card.Card.{Card}
 use Rattle.card_set.specs.declared.card.CardRow.{CardRow}
 use Rattle.card_set.specs.declared.game.Game.{Game}
@@ -31,6 +31,7 @@ use Rattle.tournament_rules.specs.Players.{start_seat, dealt_seats, dealt_in, pu
 use Rattle.tournament_rules.specs.Dealing.{next_at, next_start}
 use Rattle.tournament_rules.specs.Checks.{begin_checks, book_refusal}
 use Rattle.tournament_rules.specs.Effects.{with_table, playing_from, at_rest, begun_book, ended, busted_by, bust_of, next_group, settled, void_at, void_first, stopped_book}
+use Rattle.tournament_rules.specs.Valid.{IsFitting}
 use Rattle.tournament_rules.proofs.Ends.{left-void_first}
 use Rattle.floor_core.specs.Pay.{ArePayees}
 use Rattle.floor_core.specs.Seats.{has_lawful_seat, dealt_of}
@@ -144,6 +145,25 @@ pub taken_out : (started : List (Option HandStart)) (index table : ℕ) (slot ta
 taken_out started index table slot taken start within same slot_is taken_is is =
     ap (λ (table : ℕ). start_at started table) (sym same)
     ∙ (get_or_default started index None slot within ∙ (sym slot_is ∙ (sym taken_is ∙ is)))
+
+-- The book has a place for each of its tables.
+pub place_of_table : (book : BookState) (index table : ℕ) → IsFitting book.plan book.seating book.started
+    → index ≡ table → table ≤ book.seating.table_count → index < length book.started
+place_of_table book index table fits same last = omega (arith, fits.tables, fits.room)
+
+-- Where no start is out at a table, its void leaves the book.
+pub voided_none : (book : BookState) (index table : ℕ) (slot taken after : Option HandStart)
+    → index < length book.started → index ≡ table → slot ≡ get_or book.started index slot → taken ≡ slot
+    → taken ≡ None → after ≡ None → record book { started = slice_set book.started index after } ≡ void_at book table
+voided_none book index table slot taken after within same slot_is taken_is none after_is =
+    let nobody : start_at book.started index ≡ None =
+    get_or_default book.started index None slot within ∙ (sym slot_is ∙ (sym taken_is ∙ none)) in
+    let left : slice_set book.started index after ≡ book.started =
+    ap (slice_set book.started index) (after_is ∙ sym nobody) ∙ set-get_or book.started index None in
+    let there : start_at book.started table ≡ None =
+    ap (λ (table : ℕ). start_at book.started table) (sym same) ∙ nobody in
+    let state : void_at book table ≡ book = rw there refl in
+    ap (λ (started : List (Option HandStart)). record book { started = started }) left ∙ sym state
 
 -- The book has a place for each table of which it keeps a start.
 pub kept_within : (started : List (Option HandStart)) (table : ℕ) (start : HandStart)

@@ -1,6 +1,6 @@
 -- What single checks make of the answer of their group.
-use Rattle.std.proofs.Common.{◌≡◌, ◌∙◌, refl, ap, ℕ, Bool, true, false, ◌==◌, List, [], ◌∷◌, length, arith}
-use Rattle.std.specs.Prelude.{not, nat_lt, ◌&&◌, Option, Some, None, is_some, option_map, IsTrue, ◌≢◌, ◌↔◌}
+use Rattle.std.proofs.Common.{◌≡◌, ◌≤◌, ◌<◌, ◌∙◌, refl, ap, ℕ, Bool, true, false, ◌==◌, List, [], ◌∷◌, length, arith}
+use Rattle.std.specs.Prelude.{not, nat_lt, ◌&&◌, ◌||◌, Option, Some, None, is_some, option_map, IsTrue, ◌≢◌, ◌↔◌}
 use Rattle.std.specs.Option.{option_map_or}
 use Rattle.std.proofs.lemmas.Bool.Decides.{nat_tests}
 use Rattle.rulebook.specs.Checks.{first_that_holds}
@@ -15,7 +15,7 @@ use Rattle.seat_book.specs.Counts.{count_at}
 use Rattle.balance_rule.specs.Filling.{fill_seats, lacks_room}
 use Rattle.break_draw.specs.Draws.{is_draw}
 use Rattle.tournament_rules.specs.Books.{BookState, has_table}
-use Rattle.tournament_rules.specs.Checks.{is_table_open, is_over_for_all, is_right_draw, draw_checks}
+use Rattle.tournament_rules.specs.Checks.{is_table_open, may_be_entered, is_over_for_all, is_right_draw, draw_checks}
 use Rattle.tournament_rules.specs.Racing.{stacks_at, unit_after, race_at}
 
 -- The first of three checks answers where it holds.
@@ -87,6 +87,41 @@ empty_closed book table there nobody = λ i. there i && nat_lt 0 (nobody i)
 pub taken_open : (book : BookState) (table : ℕ) → has_table book table ≡ true → count_at book.seating.players table ≢ 0
     → is_table_open book table ≡ true
 taken_open book table there some = λ i. there i && is_some_one (count_at book.seating.players table) some i
+
+-- A table that the plan lacks may not be entered.
+pub lacking_not_entered : (book : BookState) (table : ℕ) → has_table book table ≡ false
+    → may_be_entered book table ≡ false
+lacking_not_entered book table lacks =
+    λ i. lacks i && (book.begun == 0 || nat_lt 0 (count_at book.seating.players table))
+
+is_later : (count : ℕ) → 0 < count → (count == 0) ≡ false
+is_later count some = grind (arith, nat_tests)
+
+is_first : (count : ℕ) → count ≤ 0 → (count == 0) ≡ true
+is_first count none = grind (arith, nat_tests)
+
+-- Once a hand has begun a table where nobody sits may not be entered.
+pub empty_not_entered : (book : BookState) (table : ℕ) → has_table book table ≡ true → 0 < book.begun
+    → count_at book.seating.players table ≡ 0 → may_be_entered book table ≡ false
+empty_not_entered book table there begun nobody =
+    λ i. there i && (is_later book.begun begun i || nat_lt 0 (nobody i))
+
+-- Before any hand each table of the plan may be entered.
+pub entered_before : (book : BookState) (table : ℕ) → has_table book table ≡ true → book.begun ≤ 0
+    → may_be_entered book table ≡ true
+entered_before book table there none =
+    λ i. there i && (is_first book.begun none i || nat_lt 0 (count_at book.seating.players table))
+
+-- A table of the plan where somebody sits may be entered.
+pub entered_open : (book : BookState) (table : ℕ) → has_table book table ≡ true
+    → count_at book.seating.players table ≢ 0 → may_be_entered book table ≡ true
+entered_open book table there some =
+    by_begun (book.begun == 0) (nat_lt 0 (count_at book.seating.players table))
+    (is_some_one (count_at book.seating.players table) some)
+  where
+    by_begun : (none opened : Bool) → opened ≡ true → has_table book table && (none || opened) ≡ true
+    by_begun true opened is = λ i. there i && true
+    by_begun false opened is = λ i. there i && is i
 
 is_some_then : (count : ℕ) → (count == 0) ≡ false → nat_lt 0 count ≡ true
 is_some_then count some = grind (arith, nat_tests)
