@@ -4,3 +4,4 @@ pub mod Counted
 pub mod AnswersTold
 pub mod ViewTold
 pub mod Fronts
+pub mod AtErrors

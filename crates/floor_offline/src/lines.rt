@@ -5,7 +5,7 @@ ghost use Rattle.floor_text.specs.Outside.{Rose, Puts};
 ghost use Rattle.floor_text.specs.LineReader.{lines_of_next};
 ghost use Rattle.floor_text.specs.Reading.{bytes_ahead};
 ghost use Rattle.level_plan.specs.declared.line.PlanItem.{PlanItem};
-ghost use Rattle.tournament_rules.specs.States.{State};
+ghost use Rattle.tournament_rules.specs.States.{State, first_state};
 ghost use Rattle.tournament_rules.specs.Valid.{IsValidState};
 ghost use Rattle.floor_offline.specs.Limits.{input_limit};
 ghost use Rattle.command_lines.specs.Endings.{IsOfWriting, IsOfReading, LetsGo};
@@ -141,6 +141,46 @@ fn input_reader(alloc: Global) -> Result<LineReader, AllocError>
     LineReader::new(alloc, INPUT_LIMIT)
 }
 
+/// Tells of all lines of the input, by a reader that took nothing of it and in a tournament that took no line, and then
+/// of their end. The reader and the tournament are lent, since to drop them at each exit of the loop is dear to prove.
+fn tell_to_end<T: LineTeller, I: Source, O: Sink>(
+    alloc: Global,
+    reader: &mut LineReader,
+    tournament: &mut Tournament,
+    teller: &mut T,
+    input: &mut I,
+    out: &mut O,
+) -> Result<(), Fault>
+    requires fresh { reader.old ≡ record { held = []; line = []; taken = 0; limit = input_limit; ended = false } }
+    requires first { tournament.old ≡ first_state }
+    ensures end { OnOk result (IfSome (I.left input.old) (λ _. I.left input.new ≡ Some [])) }
+    ensures text { OnOk result (IfSome (I.left input.old) (λ bytes. IfSome (O.written out.old)
+        (λ before. O.written out.new ≡ Some (before ++ stream_told (T.telling teller.old) bytes)))) }
+    ensures within { OnOk result (IfSome (I.left input.old) (λ bytes. length bytes ≤ input_limit)) }
+
+    // Where it fails, what was put is told of the bytes that were taken.
+    ensures told { IfErr result (λ fault. TakesAndPuts (IsToldOf fault (T.telling teller.old))
+        (I.left input.old) (I.left input.new) (O.written out.old) (O.written out.new)) }
+
+    // Nothing is held back but where out failed or memory ran out.
+    ensures let_go { OnOk result (O.held out.new ≡ []) }
+    ensures read_let_go { IfErr result (λ fault. IsOfReading fault → LetsGo O.held out.old out.new) }
+
+    ensures too_long { IsErrOf result Fault.InputTooLong → GivesMore input_limit (I.left input.old) (I.left input.new) }
+    ensures read { IsErrOf result Fault.Read → Rose (I.faults input.old) (I.faults input.new) }
+    ensures out_later { O.faults out.old ≤ O.faults out.new }
+    ensures write { IsErrOf result Fault.Write → Rose (O.faults out.old) (O.faults out.new) }
+    ensures words { IsErrOf result Fault.Usage → ⊥ }
+    ensures hall { IsErrOf result Fault.Hall → ⊥ }
+    ensures plan { (item : PlanItem) → IsErrOf result (Fault.Plan item) → ⊥ }
+{
+    let mut line = next_line(reader, input)?;
+    'lines: while line != Next::End {
+        line = tell_next(alloc, reader, tournament, teller, line, input, out)?;
+    }
+    tell_end(teller, tournament, out)
+}
+
 /// Tells of all lines of the input, and then of their end, each by one put.
 pub fn tell_lines<T: LineTeller, I: Source, O: Sink>(
     alloc: Global,
@@ -171,19 +211,7 @@ pub fn tell_lines<T: LineTeller, I: Source, O: Sink>(
 {
     let mut reader = input_reader(alloc)?;
     let mut tournament = Tournament::new(alloc)?;
-    let mut line = next_line(&mut reader, input)?;
-    'lines: while line != Next::End {
-        line = tell_next(
-            alloc,
-            &mut reader,
-            &mut tournament,
-            teller,
-            line,
-            input,
-            out,
-        )?;
-    }
-    tell_end(teller, &tournament, out)
+    tell_to_end(alloc, &mut reader, &mut tournament, teller, input, out)
 }
 
 /// Has `out` let go of what was told before, where memory ran out in the midst. A failure of that is a failure of

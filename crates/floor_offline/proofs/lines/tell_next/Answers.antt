@@ -6,6 +6,7 @@ use Rattle.command_lines.specs.declared.fault.Fault.TheVariants as faults
 use Rattle.floor_offline.specs.Handed.{item_of_next}
 use Rattle.floor_offline.specs.Promise.{IsTelling}
 use Rattle.tournament_rules.specs.Replay.{state_after_item}
+use Rattle.floor_offline.proofs.AtErrors.{no_ok}
 use Rattle.floor_offline.proofs.Promises.{fail_line, hold_line, holds_a_line, tell_line, told_front}
 use Rattle.floor_offline.proofs.Running.{err_so}
 use Rattle.floor_offline.proofs.lines.tell_next.Goals as goal
@@ -73,3 +74,27 @@ returns-in-None-2-clause-told g c = λ bytes before on.
     c.next_line.ensures.told telling bytes before c.take.new.tournament (g.O.Sink.written c.put.new.out)
     (subst (λ (reader : Reading). IsTelling telling bytes before c.take.new.tournament
     (g.I.Source.left c.args.input.now) (g.O.Sink.written c.put.new.out) [] reader) (sym same) told)
+
+pub returns-in_err-take-clause-same : goal.returns-in_err-take-clause-same
+returns-in_err-take-clause-same g c = no_ok c.from_residual.result _ _ c.from_residual.ensures.1
+
+pub returns-in_err-take-clause-ahead : goal.returns-in_err-take-clause-ahead
+returns-in_err-take-clause-ahead g c = no_ok c.from_residual.result _ _ c.from_residual.ensures.1
+
+pub returns-in_err-take-clause-counted : goal.returns-in_err-take-clause-counted
+returns-in_err-take-clause-counted g c = no_ok c.from_residual.result _ _ c.from_residual.ensures.1
+
+pub returns-in_err-take-clause-valid : goal.returns-in_err-take-clause-valid
+returns-in_err-take-clause-valid g c = no_ok c.from_residual.result _ _ c.from_residual.ensures.1
+
+pub returns-in_err-put-clause-same : goal.returns-in_err-put-clause-same
+returns-in_err-put-clause-same g c = no_ok c.from_residual-in_err-put.result _ _ c.from_residual-in_err-put.ensures.1
+
+pub returns-in_err-put-clause-ahead : goal.returns-in_err-put-clause-ahead
+returns-in_err-put-clause-ahead g c = no_ok c.from_residual-in_err-put.result _ _ c.from_residual-in_err-put.ensures.1
+
+pub returns-in_err-put-clause-counted : goal.returns-in_err-put-clause-counted
+returns-in_err-put-clause-counted g c = no_ok c.from_residual-in_err-put.result _ _ c.from_residual-in_err-put.ensures.1
+
+pub returns-in_err-put-clause-valid : goal.returns-in_err-put-clause-valid
+returns-in_err-put-clause-valid g c = no_ok c.from_residual-in_err-put.result _ _ c.from_residual-in_err-put.ensures.1

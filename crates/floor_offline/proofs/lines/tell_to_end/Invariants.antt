@@ -3,7 +3,7 @@ use Rattle.std.specs.Prelude.{Ok}
 use Rattle.floor_text.specs.LineReader.{lines_of_next}
 use Rattle.floor_text.specs.Reading.{bytes_ahead}
 use Rattle.floor_offline.proofs.Running.{IsRunning}
-use Rattle.floor_offline.proofs.lines.tell_lines.Given as goal
+use Rattle.floor_offline.proofs.lines.tell_to_end.Given as goal
 
 abbrev pub invariant-lines : goal.invariant-lines
 invariant-lines g l = IsRunning
