@@ -1,10 +1,11 @@
-"""Players who share the desks: whoever is due comes, says hello, acts and leaves. The tables and the desks are dealt out to
-a few processes.
+"""Players who share the desks: whoever is due comes, says hello, is told what happened at their table up to where they are
+due, acts and leaves. The tables and the desks are dealt out to a few processes.
 
 python3 -m serving.crowd TABLES SEATS DOORS MINUTES"""
 import asyncio
 import random
 import sys
+import time
 
 from serving import echo, floor
 from serving.beside import beside
@@ -16,6 +17,45 @@ PORT = 23000
 PROCESSES = 4
 
 
+def take(table, words):
+    """Takes the words of a table's line. The big blind is that of the first level."""
+    table.told(words)
+    if words[0] == "post":
+        table.blinds(LEVELS[0][1])
+
+
+class Visitor(Link):
+    """A player who comes to a door. What they are told of the hand at their table says when they are due."""
+
+    def __init__(self, number, name):
+        super().__init__(self.hear)
+        self.head, self.name, self.hand, self.looks = f"{number}: ", name, [], False
+
+    async def open(self, port):
+        await super().open(port)
+        self.due = self.loop.create_future()
+        return self
+
+    def hear(self, line):
+        if not line.startswith(self.head):
+            return
+        words = line[len(self.head):].split(" ")
+        if words[0] == "hand":
+            self.hand = []
+        self.hand.append(words)
+        if not self.looks:
+            self.looks = True
+            self.loop.call_soon(self.look)
+
+    def look(self):
+        """Looks once at all that came together."""
+        self.looks, table = False, Table()
+        for words in self.hand:
+            take(table, words)
+        if table.due == self.name and not self.due.done():
+            self.due.set_result((table, self.came))
+
+
 class Crowd:
     """The players of some tables, by their names. A session of the floor watches for them, and so knows who is due."""
 
@@ -23,7 +63,10 @@ class Crowd:
         self.tables, self.watcher = {table: Table() for table in tables}, Link(self.told)
         self.free, self.draw = asyncio.Queue(), random.Random(tables[0])
         self.busy, self.tasks, self.open = set(), set(), False
-        self.visits, self.waits, self.delays, self.refused = [], [], [], []
+        self.visits, self.refused, self.sent = [], [], {}
+        # from the hello to its reply, from the hello to where they are told that they are due, from the act to its reply,
+        # and from the act to the watcher's news of it
+        self.hellos, self.tellings, self.delays, self.news = [], [], [], []
         for door in doors:
             self.free.put_nowait(door)
 
@@ -31,11 +74,10 @@ class Crowd:
         head, _, rest = line.partition(" ")
         if head == "#":
             return
-        number, words = int(head.rstrip(":")), rest.split(" ")
-        table = self.tables[number]
-        table.told(words)
-        if words[0] == "post":
-            table.blinds(LEVELS[0][1])
+        number = int(head.rstrip(":"))
+        take(self.tables[number], rest.split(" "))
+        if number in self.sent:
+            self.news.append(self.watcher.came - self.sent.pop(number))
         self.watcher.loop.call_soon(self.look, number)
 
     def look(self, number):
@@ -49,24 +91,28 @@ class Crowd:
 
     async def visit(self, number, name):
         port = await self.free.get()
-        table = self.tables[number]
-        act, told = table.choice(name, self.draw.randrange(100)), table.told_so_far
-        link = await Link().open(port)
-        replies = [link.say(f"hello {name} w{name[1:]}"), link.say(f"watch {number}"), link.say(f"act {number} {act}"),
-                   link.say("quit")]
-        await link.gone(120)
+        told_so_far = self.tables[number].told_so_far
+        link = await Visitor(number, name).open(port)
+        began = time.perf_counter()
+        replies = [link.say(f"hello {name} w{name[1:]}"), link.say(f"watch {number}")]
+        table, came = await asyncio.wait_for(link.due, 60)
+        act = table.choice(name, self.draw.randrange(100))
+        self.sent[number] = time.perf_counter()
         self.echo.say(echo.LINE)
+        replies += [link.say(f"act {number} {act}"), link.say("quit")]
+        await link.gone(120)
         self.free.put_nowait(port)
         said = [reply.result() for reply in replies]
         assert said[0] == said[1] == said[3] == "ok", said
         if said[2] != "ok":
             self.refused.append((name, number, act, said[2]))
-        self.waits.append(link.delays[0])
-        self.delays.append(link.delays[2] - link.delays[0])
+        self.hellos.append(link.delays[0])
+        self.tellings.append(came - began)
+        self.delays.append(link.delays[2])
         if len(self.visits) < 20 or self.draw.random() < 0.01:
             self.visits.append((name, link.lines))
         # the watcher is told of the act a moment later
-        while said[2] == "ok" and table.told_so_far == told:
+        while said[2] == "ok" and self.tables[number].told_so_far == told_so_far:
             await asyncio.sleep(0.002)
         self.busy.discard(number)
         self.look(number)
@@ -84,7 +130,7 @@ class Crowd:
         await asyncio.sleep(60 * minutes)
         self.open = False
         await asyncio.gather(*self.tasks)
-        pipe.send((self.waits, self.delays, self.echo.delays, self.refused, self.visits))
+        pipe.send((self.hellos, self.tellings, self.delays, self.echo.delays, self.news, self.refused, self.visits))
 
 
 def play(pipe, tables, doors, minutes):
@@ -111,13 +157,15 @@ def main(tables, seats, doors, minutes):
     told = asyncio.run(Floor(tables, seats, crowds).run(PORT, server, crowds))
     text = server.end()
     check_replay(text)
-    waits, delays, echoed, refused, visits = (sum(parts, []) for parts in zip(*told))
+    hellos, tellings, delays, echoed, news, refused, visits = (sum(parts, []) for parts in zip(*told))
     for name, lines in visits:
         check_view(text, name, lines)
     print(f"{tables} tables of {seats} at {doors - PROCESSES} doors: {server.played(text)}")
-    print(f"coming to the hello's reply: {spread(waits)}")
-    print(f"from there to the act's: {spread(delays)}")
-    print(f"an echo asked after each visit: {spread(echoed)}")
+    print(f"from the hello to its reply: {spread(hellos)}")
+    print(f"from the hello to where they are told that they are due: {spread(tellings)}")
+    print(f"from an act to its reply: {spread(delays)}")
+    print(f"the echo that was asked with it: {spread(echoed)}")
+    print(f"from an act to another's news of it: {spread(news)}")
     print(f"{server.cost(text)}, refused {len(refused)}, {len(visits)} visits compared")
     for each in refused[:5]:
         print("refused:", *each)
