@@ -1,5 +1,5 @@
-"""Players who share the desks: whoever is due comes, says hello, is told what happened at their table up to where they are
-due, acts and leaves. The tables and the desks are dealt out to a few processes.
+"""Players who share the desks: whoever is due comes, says hello, is told what happened at their table up to where they
+are due, acts and leaves. The tables and the desks are dealt out to a few processes.
 
 python3 -m serving.crowd TABLES SEATS DOORS MINUTES"""
 import asyncio
@@ -25,11 +25,12 @@ def take(table, words):
 
 
 class Visitor(Link):
-    """A player who comes to a door. What they are told of the hand at their table says when they are due."""
+    """A player who comes to a door. They are told so many lines of a table that are told to everybody, and what these tell
+    of the last hand says that they are due."""
 
-    def __init__(self, number, name):
+    def __init__(self, number, name, lines):
         super().__init__(self.hear)
-        self.head, self.name, self.hand, self.looks = f"{number}: ", name, [], False
+        self.head, self.name, self.lacks, self.hand = f"{number}: ", name, lines, []
 
     async def open(self, port):
         await super().open(port)
@@ -37,23 +38,22 @@ class Visitor(Link):
         return self
 
     def hear(self, line):
-        if not line.startswith(self.head):
+        if not line.startswith(self.head) or self.due.done():
             return
         words = line[len(self.head):].split(" ")
         if words[0] == "hand":
             self.hand = []
         self.hand.append(words)
-        if not self.looks:
-            self.looks = True
-            self.loop.call_soon(self.look)
+        self.lacks -= words[0] != "hole"
+        if not self.lacks:
+            self.look()
 
     def look(self):
-        """Looks once at all that came together."""
-        self.looks, table = False, Table()
+        table = Table()
         for words in self.hand:
             take(table, words)
-        if table.due == self.name and not self.due.done():
-            self.due.set_result((table, self.came))
+        assert table.due == self.name, (self.head, self.name)
+        self.due.set_result((table, self.came))
 
 
 class Crowd:
@@ -92,7 +92,7 @@ class Crowd:
     async def visit(self, number, name):
         port = await self.free.get()
         told_so_far = self.tables[number].told_so_far
-        link = await Visitor(number, name).open(port)
+        link = await Visitor(number, name, told_so_far).open(port)
         began = time.perf_counter()
         replies = [link.say(f"hello {name} w{name[1:]}"), link.say(f"watch {number}")]
         table, came = await asyncio.wait_for(link.due, 60)

@@ -6,7 +6,7 @@ class Table:
 
     def __init__(self):
         self.names, self.due = {}, None
-        # how many lines were told
+        # how many lines were told that are told to everybody
         self.told_so_far = 0
 
     def begin(self, button, big):
@@ -52,8 +52,8 @@ class Table:
 
     def told(self, words):
         """Takes the words of a line behind `T: `."""
-        self.told_so_far += 1
         kind = words[0]
+        self.told_so_far += kind != "hole"
         if kind == "hand":
             self.serial = int(words[1])
             self.begin(int(words[2]), int(words[4]))
