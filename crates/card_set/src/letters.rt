@@ -1,8 +1,8 @@
 //! The letters of cards.
 
-ghost use Rattle.std.specs.Prelude.{◌≡◌, ◌==◌, position, codes, slice_get};
-ghost use Rattle.std.specs.Option.{option_flatten};
-ghost use Rattle.card_set.specs.Cards.{rank_letters};
+ghost use Rattle.std.specs.Prelude.{◌≡◌, ◌==◌, None, Some, cond, slice_index};
+ghost use Rattle.card_set.specs.declared.letters.TheConstants.{NONE};
+ghost use Rattle.card_set.specs.Cards.{rank_of, suit_of};
 
 /// The letters of the ranks, from two to the ace.
 pub(crate) const RANKS: [u8; 13] = *b"23456789TJQKA";
@@ -10,86 +10,83 @@ pub(crate) const RANKS: [u8; 13] = *b"23456789TJQKA";
 /// The letters of the suits: clubs, diamonds, hearts and spades.
 pub(crate) const SUITS: [u8; 4] = *b"cdhs";
 
-/// For each byte from `2` to `T` the index of that letter among those of the ranks. A table takes the same way for each
-/// letter; a search takes another for each, which the processor cannot foresee where the cards are shuffled.
-const RANK_INDICES: [Option<u8>; 35] = [
-    Some(0),
-    Some(1),
-    Some(2),
-    Some(3),
-    Some(4),
-    Some(5),
-    Some(6),
-    Some(7),
-    None,
-    None,
-    None,
-    None,
-    None,
-    None,
-    None,
-    Some(12),
-    None,
-    None,
-    None,
-    None,
-    None,
-    None,
-    None,
-    None,
-    Some(9),
-    Some(11),
-    None,
-    None,
-    None,
-    None,
-    None,
-    Some(10),
-    None,
-    None,
-    Some(8),
-];
+/// What a table has for a byte that is none of its letters.
+const NONE: u8 = 255;
 
-/// For each byte from `c` to `s` the index of that letter among those of the suits.
-const SUIT_INDICES: [Option<u8>; 17] = [
-    Some(0),
-    Some(1),
-    None,
-    None,
-    None,
-    Some(2),
-    None,
-    None,
-    None,
-    None,
-    None,
-    None,
-    None,
-    None,
-    None,
-    None,
-    Some(3),
-];
-
-/// Tells what a table has at an index. `None` where it has nothing there, or ends before.
-fn looked_up(table: &[Option<u8>], index: u8) -> Option<u8>
-    ensures { result ≡ option_flatten (slice_get table.now index) }
-{
-    table.get(usize::from(index)).copied().flatten()
+/// Writes what a table has for each byte, sixteen to a row. `_` is `NONE`. A table takes the same way for each letter;
+/// a search takes another for each, which the processor cannot foresee where the cards are shuffled.
+macro_rules! by_bytes {
+    ($($number:tt)*) => { [$(at_byte!($number)),*] };
 }
 
-/// Gives the index of a letter among those of the ranks.
+macro_rules! at_byte {
+    (_) => { NONE };
+    ($number:literal) => { $number };
+}
+
+/// For each byte the rank whose letter it is.
+const RANKS_BY_BYTE: [u8; 256] = by_bytes! {
+    _ _ _ _ _ _ _ _ _ _ _ _ _ _ _ _
+    _ _ _ _ _ _ _ _ _ _ _ _ _ _ _ _
+    _ _ _ _ _ _ _ _ _ _ _ _ _ _ _ _
+    _ _ 2 3 4 5 6 7 8 9 _ _ _ _ _ _
+    _ 14 _ _ _ _ _ _ _ _ 11 13 _ _ _ _
+    _ 12 _ _ 10 _ _ _ _ _ _ _ _ _ _ _
+    _ _ _ _ _ _ _ _ _ _ _ _ _ _ _ _
+    _ _ _ _ _ _ _ _ _ _ _ _ _ _ _ _
+    _ _ _ _ _ _ _ _ _ _ _ _ _ _ _ _
+    _ _ _ _ _ _ _ _ _ _ _ _ _ _ _ _
+    _ _ _ _ _ _ _ _ _ _ _ _ _ _ _ _
+    _ _ _ _ _ _ _ _ _ _ _ _ _ _ _ _
+    _ _ _ _ _ _ _ _ _ _ _ _ _ _ _ _
+    _ _ _ _ _ _ _ _ _ _ _ _ _ _ _ _
+    _ _ _ _ _ _ _ _ _ _ _ _ _ _ _ _
+    _ _ _ _ _ _ _ _ _ _ _ _ _ _ _ _
+};
+
+/// For each byte the suit whose letter it is.
+const SUITS_BY_BYTE: [u8; 256] = by_bytes! {
+    _ _ _ _ _ _ _ _ _ _ _ _ _ _ _ _
+    _ _ _ _ _ _ _ _ _ _ _ _ _ _ _ _
+    _ _ _ _ _ _ _ _ _ _ _ _ _ _ _ _
+    _ _ _ _ _ _ _ _ _ _ _ _ _ _ _ _
+    _ _ _ _ _ _ _ _ _ _ _ _ _ _ _ _
+    _ _ _ _ _ _ _ _ _ _ _ _ _ _ _ _
+    _ _ _ 0 1 _ _ _ 2 _ _ _ _ _ _ _
+    _ _ _ 3 _ _ _ _ _ _ _ _ _ _ _ _
+    _ _ _ _ _ _ _ _ _ _ _ _ _ _ _ _
+    _ _ _ _ _ _ _ _ _ _ _ _ _ _ _ _
+    _ _ _ _ _ _ _ _ _ _ _ _ _ _ _ _
+    _ _ _ _ _ _ _ _ _ _ _ _ _ _ _ _
+    _ _ _ _ _ _ _ _ _ _ _ _ _ _ _ _
+    _ _ _ _ _ _ _ _ _ _ _ _ _ _ _ _
+    _ _ _ _ _ _ _ _ _ _ _ _ _ _ _ _
+    _ _ _ _ _ _ _ _ _ _ _ _ _ _ _ _
+};
+
+/// Tells what a table has for a byte.
+#[inline(always)]
+fn looked_up(table: &[u8; 256], letter: u8) -> Option<u8>
+    ensures { result ≡ cond (slice_index table.now letter == NONE) None (Some (slice_index table.now letter)) }
+{
+    match table[usize::from(letter)] {
+        NONE => None,
+        index => Some(index),
+    }
+}
+
+/// Gives the rank that a letter spells.
 #[tactic(auto, using(crate::proofs::LetterTables::rank_looked_up))]
-pub(crate) fn rank_index(letter: u8) -> Option<u8>
-    ensures { result ≡ position (λ known. known == letter) rank_letters }
+pub(crate) fn rank_of(letter: u8) -> Option<u8>
+    ensures { result ≡ rank_of letter }
 {
-    looked_up(&RANK_INDICES, letter.wrapping_sub(b'2'))
+    looked_up(&RANKS_BY_BYTE, letter)
 }
 
-/// Gives the index of a letter among those of the suits.
+/// Gives the suit that a letter spells.
 #[tactic(auto, using(crate::proofs::LetterTables::suit_looked_up))]
-pub(crate) fn suit_index(letter: u8) -> Option<u8>
-    ensures { result ≡ position (λ known. known == letter) (codes "cdhs") }
+pub(crate) fn suit_of(letter: u8) -> Option<u8>
+    ensures { result ≡ suit_of letter }
 {
-    looked_up(&SUIT_INDICES, letter.wrapping_sub(b'c'))
+    looked_up(&SUITS_BY_BYTE, letter)
 }

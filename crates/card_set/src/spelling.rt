@@ -6,20 +6,20 @@ ghost use Rattle.card_set.specs.declared.card.CardRow.{CardRow};
 ghost use Rattle.card_set.specs.Cards.{rank_letter, suit_letter, card_text, cards_text, row_text, card_of, so_many_of, row_of};
 
 use crate::card::{Card, CardRow};
-use crate::letters::{RANKS, SUITS, rank_index, suit_index};
+use crate::letters::{RANKS, SUITS, rank_of, suit_of};
 
 fn read_rank(letter: u8) -> Option<u8>
     ensures found { IfSome result (λ rank. (2 ≤ rank) × (rank ≤ 14) × (rank_letter rank ≡ letter)) }
     ensures only { (rank : ℕ) → 2 ≤ rank → rank ≤ 14 → rank_letter rank ≡ letter → result ≡ Some rank }
 {
-    Some(rank_index(letter)? + 2)
+    rank_of(letter)
 }
 
 fn read_suit(letter: u8) -> Option<u8>
     ensures found { IfSome result (λ suit. (suit < 4) × (suit_letter suit ≡ letter)) }
     ensures only { (suit : ℕ) → suit < 4 → suit_letter suit ≡ letter → result ≡ Some suit }
 {
-    suit_index(letter)
+    suit_of(letter)
 }
 
 /// Reads a card: the letter of a rank and the letter of a suit. `None` exactly where the two are no card.
