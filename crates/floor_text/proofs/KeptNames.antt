@@ -1,48 +1,30 @@
--- A name that was copied to the front of sixteen zeros is kept there.
-use Rattle.std.proofs.Common.{◌≡◌, ◌∙◌, ◌-◌, ◌≤◌, ℕ, true, List, ◌++◌, length, take, drop, replicate, IsTrue, refl, sym, ap, subst, arith, length-append, length-drop}
-use Rattle.std.specs.Prelude.{◌==◌, ◌&&◌}
+-- A name is kept in front of zeros, up to sixteen bytes.
+use Rattle.std.proofs.Common.{◌≡◌, ◌∙◌, ◌+◌, ◌-◌, ◌<◌, ℕ, suc, true, List, ◌++◌, length, take, replicate, refl, sym, ap, arith, append_assoc, length-take}
+use Rattle.std.specs.Prelude.{◌==◌, ◌&&◌, slice_index, slice_set}
 use Rattle.std.specs.Str.{bytes_eq}
-use Rattle.std.proofs.lemmas.List.{drop-replicate, take_at, length-replicate}
+use Rattle.std.proofs.lemmas.List.{take_more, set-append_right}
 use Rattle.std.proofs.lemmas.Bool.{and_parts, eqb-true}
-use Rattle.std.proofs.lemmas.Bool.Decides.{Decides-eqb, nat_tests, same_from_decides}
+use Rattle.std.proofs.lemmas.Bool.Decides.{Decides-eqb, same_from_decides}
 use Rattle.std.proofs.lemmas.Slice.Eq.{bytes_eq-Decides}
 use Rattle.floor_text.specs.Limits.{longest_name}
-use Rattle.floor_text.specs.Names.{is_name, length_kept, IsKept}
+use Rattle.floor_text.specs.Names.{length_kept, IsKept}
 
-length_name : (name : List ℕ) → IsTrue (is_name name) → length name ≤ 16
-length_name name is = grind (arith, nat_tests)
-
--- a list in the front of as many zeros as there is room
-abbrev in_front : ℕ → List ℕ → List ℕ
-in_front room front = front ++ drop (length front) (replicate room 0)
-
-length-in_front : (room : ℕ) (front : List ℕ) → length front ≤ room → length (in_front room front) ≡ room
-length-in_front room front fits = simp (length-append, length-drop, length-replicate) (omega arith)
-
-take-in_front : (room : ℕ) (front : List ℕ) → take (length front) (in_front room front) ≡ front
-take-in_front room front = take_at front (drop (length front) (replicate room 0)) (length front) refl
-
-in_front-padded : (room : ℕ) (front : List ℕ)
-    → in_front room front ≡ take (length front) (in_front room front) ++ replicate (room - length front) 0
-in_front-padded room front =
-    rw (take-in_front room front) (ap (λ (xs : List ℕ). front ++ xs) (drop-replicate (length front) room 0))
-
-kept : (name : List ℕ) → IsTrue (is_name name) → IsKept (in_front 16 name) (length name)
-kept name is =
-    let P : List ℕ → Type 0 = λ xs. IsTrue (is_name xs) in
-    record {
-      room = length-in_front 16 name (length_name name is);
-      within = length_name name is;
-      padded = in_front-padded 16 name;
-      name = subst P (sym (take-in_front 16 name)) is;
-    }
-
--- A copy of a name, with zeros behind it up to sixteen bytes, is a name kept with its length.
-pub kept_in_front : (name copied : List ℕ) → IsTrue (is_name name) → copied ≡ name
-    → IsKept (copied ++ drop (length name) (replicate 16 0)) (length name)
-kept_in_front name copied is same =
-    let P : List ℕ → Type 0 = λ xs. IsKept (xs ++ drop (length name) (replicate 16 0)) (length name) in
-    subst P (sym same) (kept name is)
+-- One more byte of a name in front of zeros.
+pub padded-more : (room index : ℕ) (name : List ℕ) → index < length name → index < room
+    → slice_set (take index name ++ replicate (room - index) 0) index (slice_index name index)
+    ≡ take (index + 1) name ++ replicate (room - (index + 1)) 0
+padded-more room index name within fits =
+    let size : length (take index name) ≡ index = omega (arith, length-take index name) in
+    let none : index - index ≡ 0 = omega arith in
+    let left : room - index ≡ suc (room - (index + 1)) = omega arith in
+    rw (
+      left,
+      set-append_right (take index name) (replicate (suc (room - (index + 1))) 0) index index
+          (slice_index name index) size (omega arith),
+      none,
+      take_more name index 0 within,
+      append_assoc,
+    ) refl
 
 -- Two names are the same exactly where they are as long and what is kept of them is the same.
 pub same_kept : {bytes other : List ℕ} {len long : ℕ} → IsKept bytes len → IsKept other long

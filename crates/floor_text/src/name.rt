@@ -1,7 +1,6 @@
 //! Names of players.
 
 ghost use Rattle.std.specs.Prelude.{◌≡◌, ◌↔◌, IsTrue, IsSome, IfSome};
-ghost use Rattle.std.specs.List.{list_all};
 ghost use Rattle.std.specs.Str.{bytes_eq};
 ghost use Rattle.std.proofs.Common.{rules};
 ghost use Rattle.std.specs.Hash as fed;
@@ -42,35 +41,31 @@ fn is_name_byte(byte: u8) -> bool
     byte.is_ascii_alphanumeric() || byte == b'_'
 }
 
-fn are_name_bytes(bytes: &[u8]) -> bool
-    ensures { result ≡ list_all is_name_byte bytes.now }
-{
-    bytes.iter().all(|byte| is_name_byte(*byte))
-}
-
-fn is_name(bytes: &[u8]) -> bool
-    ensures { result ≡ is_name bytes.now }
-{
-    let [first, ..] = bytes else {
-        return false;
-    };
-    first.is_ascii_alphabetic()
-        && are_name_bytes(bytes)
-        && bytes.len() <= LONGEST_NAME
-        && bytes != b"floor".as_slice()
-}
-
 impl Name {
     /// Reads a name. `None` exactly where the bytes are no name.
     pub fn read(bytes: &[u8]) -> Option<Name>
         ensures some { IsSome result ↔ IsTrue (is_name bytes.now) }
         ensures same { IfSome result (λ name. name ≡ bytes.now) }
     {
-        if !is_name(bytes) {
+        if bytes.len() > LONGEST_NAME {
+            return None;
+        }
+        let [first, ..] = bytes else {
+            return None;
+        };
+        if !first.is_ascii_alphabetic() {
             return None;
         }
         let mut padded = [0; LONGEST_NAME];
-        padded[..bytes.len()].copy_from_slice(bytes);
+        for index in 0..bytes.len() {
+            if !is_name_byte(bytes[index]) {
+                return None;
+            }
+            padded[index] = bytes[index];
+        }
+        if bytes == b"floor".as_slice() {
+            return None;
+        }
         Some(Name {
             bytes: padded,
             len: bytes.len(),

@@ -1,8 +1,12 @@
-use Rattle.std.proofs.Common.{sym, ◌∙◌}
-use Rattle.floor_text.proofs.KeptNames.{kept_in_front}
+use Rattle.std.proofs.Common.{arith}
+use Rattle.std.proofs.lemmas.List.Folds.{list_all_more}
+use Rattle.floor_text.specs.Names.{is_name_byte}
+use Rattle.floor_text.proofs.KeptNames.{padded-more}
 use Rattle.floor_text.proofs.name.Name.read.Goals as goal
 
-pub invariant_of-result : goal.invariant_of-result
-invariant_of-result c =
-    kept_in_front c.args.bytes.now c.copy_from_slice.new.self (sym c.is_name.ensures
-    ∙ c.if-not-is_name.false) c.copy_from_slice.ensures.after
+pub loop-index-preserved : goal.loop-index-preserved
+loop-index-preserved c = record {
+  are_name = grind (arith, list_all_more is_name_byte c.args.bytes.now c.loop-index.index 0 (omega arith));
+  padded = rw c.loop-index.invariant.padded
+      (padded-more 16 c.loop-index.index c.args.bytes.now (omega arith) (omega arith));
+}
