@@ -1,6 +1,6 @@
 //! The words of a line that is read.
 
-ghost use Rattle.std.specs.Prelude.{◌≡◌, ◌==◌, Some, None, [], ◌∷◌, MatchOption};
+ghost use Rattle.std.specs.Prelude.{◌≡◌, ◌==◌, Some, None, [], ◌∷◌, take, MatchOption};
 ghost use Rattle.std.specs.List.{position};
 ghost use Rattle.std.specs.Str.{bytes_eq};
 ghost use Rattle.line_words.specs.Words.{pieces_of, words_of_line, no_word};
@@ -15,6 +15,9 @@ use std::marker::Model;
 /// The byte between two words of a line.
 pub(crate) const SPACE: u8 = b' ';
 
+/// How many bytes of a word are looked at before the search is called: most words are shorter, and a call costs more.
+const NEAR_BYTES: usize = 8;
+
 /// Tells whether a word is a text. The length of a text is known where its word is looked up, so that the two are
 /// compared at once; a call for that would cost more than the bytes do.
 #[inline(always)]
@@ -27,10 +30,32 @@ pub fn is<const N: usize>(word: &[u8], text: &[u8; N]) -> bool
     }
 }
 
+/// Gives the index of the first byte that is this one among the near bytes.
+#[inline(always)]
+fn near(between: u8, bytes: &[u8]) -> Option<usize>
+    ensures { result ≡ position (λ byte. byte == between) (take NEAR_BYTES bytes.now) }
+{
+    for index in 0..bytes.len().min(NEAR_BYTES) {
+        if bytes[index] == between {
+            return Some(index);
+        }
+    }
+    None
+}
+
+/// Gives the index of the first byte that is this one. The near bytes are looked at here, and the others searched.
+#[inline(always)]
 fn first_of(between: u8, bytes: &[u8]) -> Option<usize>
     ensures { result ≡ position (λ byte. byte == between) bytes.now }
 {
-    memchr(between, bytes)
+    if let Some(index) = near(between, bytes) {
+        return Some(index);
+    }
+    if bytes.len() <= NEAR_BYTES {
+        return None;
+    }
+    let index = memchr(between, &bytes[NEAR_BYTES..])?;
+    Some(index + NEAR_BYTES)
 }
 
 /// The words of a line that are still to be read, or the pieces of a word. Contracts see it as their list.
@@ -76,6 +101,8 @@ impl<'a> LineWords<'a> {
     }
 
     /// Takes the next word, or gives `None` where no word is left.
+    // It and what takes a word by it are compiled into their callers, so that the rest of a line is not stored between.
+    #[inline(always)]
     pub fn next_word(&mut self) -> Option<&'a [u8]>
         ensures { MatchOption result ((self.old ≡ []) × (self.new ≡ [])) (λ word. self.old ≡ word.now ∷ self.new) }
     {
@@ -94,6 +121,7 @@ impl<'a> LineWords<'a> {
 
     /// Takes the next word as a field.
     #[tactic(auto, unfolding(crate::specs::Fields::next_by))]
+    #[inline(always)]
     pub fn field<T: Spelled>(&mut self) -> Option<T>
         ensures { MatchOption result (next_by T.spelled self.old ≡ None)
             (λ field. next_by T.spelled self.old ≡ Some (field, self.new)) }
@@ -112,6 +140,7 @@ impl<'a> LineWords<'a> {
 
     /// Takes all words that are left as an act.
     #[tactic(auto, unfolding(crate::specs::Fields::act_of))]
+    #[inline(always)]
     pub fn act(&mut self) -> Option<Act>
         ensures { MatchOption result (act_of self.old ≡ None) (λ act. (act_of self.old ≡ Some act) × (self.new ≡ [])) }
     {
