@@ -1,7 +1,7 @@
 //! The players of a street.
 
 ghost use Rattle.std.specs.Prelude.{◌≡◌, map, option_map};
-ghost use Rattle.betting_round.specs.StreetActs.{fresh, at_next_street};
+ghost use Rattle.betting_round.specs.StreetActs.{at_next_street};
 
 /// A player on a street.
 #[derive(Clone, Copy, Debug, PartialEq, Eq)]
@@ -21,27 +21,6 @@ pub struct Bettor {
 pub struct Player {
     pub bettor: Bettor,
     pub acted: bool,
-}
-
-/// Gives a player as he stands before any act of the street.
-fn fresh(slot: Option<Bettor>) -> Option<Player>
-    ensures { result ≡ option_map fresh slot }
-{
-    slot.map(|bettor| Player {
-        bettor,
-        acted: false,
-    })
-}
-
-/// Gives the players as they stand before any act of the street.
-pub(crate) fn all_fresh(bettors: &[Option<Bettor>; 10]) -> [Option<Player>; 10]
-    ensures { result ≡ map (option_map fresh) bettors.now }
-{
-    let mut players = [None; 10];
-    for index in 0..10 {
-        players[index] = fresh(bettors[index]);
-    }
-    players
 }
 
 /// Gives a player as he begins the next street.

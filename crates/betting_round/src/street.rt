@@ -4,13 +4,13 @@ ghost use Rattle.std.specs.Prelude.{◌≡◌, ◌≤◌, ◌<◌, ◌+◌, ◌^
 ghost use Rattle.rulebook.specs.Checks.{IsChecked};
 ghost use Rattle.betting_round.specs.Limits.{AreFewChips};
 ghost use Rattle.betting_round.specs.Acts.{amount, is_fold, done_by};
-ghost use Rattle.betting_round.specs.StreetActs.{IsStreetStart, street_start, chips_of, put_by_all, greatest, sum_over, street_after};
+ghost use Rattle.betting_round.specs.StreetActs.{IsStreetStart, street_start, chips_of, put_by_all, sum_over, street_after};
 ghost use Rattle.betting_round.specs.WhoIsDue.{player_at, player_in, due_seat};
 ghost use Rattle.betting_round.specs.ActChecks.{facing_in, turn_checks, act_refusal};
 ghost use Rattle.betting_round.specs.Running.{amount_of, moved, stepped, IsStreetKept};
 
 use crate::act::{Act, Done};
-use crate::bettor::{Bettor, Player, all_fresh};
+use crate::bettor::{Bettor, Player};
 use crate::bounds::Bounds;
 use crate::checks::check_act;
 use crate::facing::Facing;
@@ -32,29 +32,6 @@ pub struct Street {
     pub unit: u64,
     /// The seat after which the search for who is due starts.
     pub after: u8,
-}
-
-/// Gives the greatest of a number and of what each player has put in.
-fn greatest(least: u64, bettors: &[Option<Bettor>]) -> u64
-    ensures { result ≡ greatest least (λ bettor. bettor.put) bettors.now }
-{
-    match bettors {
-        [] => least,
-        [None, rest @ ..] => greatest(least, rest),
-        [Some(bettor), rest @ ..] => bettor.put.max(greatest(least, rest)),
-    }
-}
-
-/// Tells what all players have put in, in chips.
-fn all_put(bettors: &[Option<Bettor>]) -> u64
-    requires { sum_over (λ bettor. bettor.put) bettors.now < 2 ^ 60 }
-    ensures { result ≡ sum_over (λ bettor. bettor.put) bettors.now }
-{
-    match bettors {
-        [] => 0,
-        [None, rest @ ..] => all_put(rest),
-        [Some(bettor), rest @ ..] => bettor.put + all_put(rest),
-    }
 }
 
 /// Tells what the players of a street have put in, in chips.
@@ -136,7 +113,6 @@ pub(crate) fn done_by(facing: &Facing, act: Act) -> Done
 
 impl Street {
     /// Makes a street without acts.
-    #[tactic(auto, using(crate::proofs::Steps::street_start_is, crate::proofs::Steps::kept_start, crate::proofs::Steps::puts_below))]
     pub fn new(
         bettors: &[Option<Bettor>; 10],
         after: u8,
@@ -149,14 +125,25 @@ impl Street {
         ensures is { result ≡ street_after (street_start bettors.now after opening big unit counted) [] }
         ensures kept { IsStreetKept result }
     {
-        Street {
-            players: all_fresh(bettors),
-            level: greatest(opening, bettors),
+        let mut street = Street {
+            players: [None; 10],
+            level: opening,
             full: big,
-            pot: counted + all_put(bettors),
+            pot: counted,
             unit,
             after,
+        };
+        for index in 0..10 {
+            if let Some(bettor) = bettors[index] {
+                street.players[index] = Some(Player {
+                    bettor,
+                    acted: false,
+                });
+                street.level = street.level.max(bettor.put);
+                street.pot += bettor.put;
+            }
         }
+        street
     }
 
     /// Gives the player in a seat, if one is there.

@@ -114,12 +114,21 @@ fn can_two_act(players: &[Option<Player>]) -> bool
     false
 }
 
+/// Tells whether one player alone is live, or one alone is left to act. It is a function of its own, since two players
+/// can act until late on a street.
+#[inline(never)]
+fn is_closed_where_few_can_act(players: &[Option<Player>]) -> bool
+    ensures { result ≡ is_closed players.now }
+{
+    is_one_live(players) || is_only_one_to_act(players)
+}
+
 /// Tells whether nobody is due on the street any more.
 #[tactic(auto, using(crate::proofs::Closings::open_where_two_act))]
 pub(crate) fn is_closed(players: &[Option<Player>]) -> bool
     ensures { result ≡ is_closed players.now }
 {
-    !can_two_act(players) && (is_one_live(players) || is_only_one_to_act(players))
+    !can_two_act(players) && is_closed_where_few_can_act(players)
 }
 
 /// Tells whether the player in this seat, if one is there, may be due.
