@@ -6,6 +6,7 @@ pub mod Contested
 pub mod Covered
 pub mod DueNames
 pub mod DueSeats
+pub mod Filling
 pub mod NoCards
 pub mod Opening
 pub mod Paid

@@ -50,11 +50,11 @@ pub(crate) fn fill_slots<T: InSlot>(
         option_map_or (T.made start.now) (find (λ player. player.seat == seat) players.now) nobody)
         (walk (λ seat. seat + 1) 10 0) }
 {
-    let [first, rest @ ..] = players else {
-        return;
-    };
-    fill_slots(start, rest, slots, nobody);
-    slots[usize::from(first.seat) - 1] = T::make(start, first);
+    let count = players.len();
+    for done in 0..count {
+        let player = &players[count - 1 - done];
+        slots[usize::from(player.seat) - 1] = T::make(start, player);
+    }
 }
 
 /// Gives the players who are dealt in, by the seats 1 to 10.

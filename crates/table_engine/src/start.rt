@@ -3,6 +3,7 @@
 ghost use Rattle.std.specs.Prelude.{◌≡◌, ◌≤◌, Some, IsTrue, IfOk};
 ghost use Rattle.table_engine.specs.Hands.{blind_of, name_in_seat, posted, seat_of_name};
 ghost use Rattle.table_engine.specs.Results.{with_stack};
+ghost use Rattle.table_engine.specs.Starts.{IsLawfulStart};
 
 use button_blinds::Marks;
 use card_set::{Deck, Game};
@@ -112,10 +113,17 @@ impl HandStart {
             .map(|player| player.name)
     }
 
-    /// Tells whether the player in this seat has this name.
+    /// Tells whether the player in this seat has this name. Where all seats before his are taken he is listed at the
+    /// seat's own index, and then there is no search.
     pub(crate) fn has_in_seat(&self, seat: u8, name: Name) -> bool
+        requires { IsLawfulStart self.now }
         ensures { IsTrue result → name_in_seat self.now seat ≡ Some name }
     {
+        let seats = self.seats.items();
+        let index = usize::from(seat.saturating_sub(1));
+        if index < seats.len() && seats[index].seat == seat {
+            return seats[index].name == name;
+        }
         match self.name_in_seat(seat) {
             Some(found) => found == name,
             None => false,
