@@ -94,12 +94,13 @@ impl Play {
 
     /// Lets a player act in the hand at a table. Who acts in a hand has entered, so that a name is looked for among the
     /// entries only where the act is refused.
-    fn act(&mut self, table: u64, name: Name, act: Act) -> Result<(), BookFault>
-        requires { IsValid self.old.book }
+    pub(crate) fn act(&mut self, table: u64, name: Name, act: Act) -> Result<(), BookFault>
         ensures answer { IsAnswer (refusal_of self.old (events.Act table name act)) result }
         ensures state { OnOk result (self.new ≡ play_effect self.old (events.Act table name act)) }
         ensures err { OnErr result (self.new ≡ self.old) }
     {
+        // The book is lawful, so that who acts in a hand is among its entries.
+        let _ = self.book.seats();
         self.book.check_going()?;
         match self.act_in_hand(table, name, act) {
             Ok(()) => Ok(()),

@@ -17,8 +17,9 @@ use crate::BookFault;
 use crate::book::Book;
 use crate::plan::take_line;
 use crate::play::Play;
+use betting_round::Act;
 use floor_events::{Answer, Event, Report};
-use floor_text::{List, Refusal};
+use floor_text::{List, Name, Refusal};
 use level_plan::{PlanDraft, PlanFault};
 use seat_book::SeatBook;
 use std::alloc::{AllocError, Global};
@@ -112,6 +113,28 @@ impl Tournament {
         ensures valid { ForSome self.old.play (λ play. IsValid play.book) }
     {
         match self.play.as_mut().unwrap().take(event) {
+            Ok(()) => {
+                self.accepted += 1;
+                Ok(Answer::Ok)
+            }
+            Err(BookFault::No(refusal)) => Ok(Answer::No(refusal)),
+            Err(BookFault::NoMemory) => Err(AllocError),
+        }
+    }
+
+    /// Answers an act as `apply` does, by the first check that holds, and carries it out where none does. No event is
+    /// made of it, since most of what a tournament takes are acts. A refused act and want of memory change nothing.
+    pub fn act(&mut self, table: u64, name: Name, act: Act) -> Result<Answer, AllocError>
+        requires { self.old.accepted < 2 ^ 60 }
+        ensures answer { IfOk result (λ answer. answer ≡ answer_to self.old (events.Act table name act)) }
+        ensures state { OnOk result (self.new ≡ state_after self.old (events.Act table name act)) }
+        ensures err { OnErr result (self.new ≡ self.old) }
+        ensures lawful { OnErr result (answer_to self.old (events.Act table name act) ≡ answers.Ok) }
+    {
+        let Some(play) = &mut self.play else {
+            return Ok(Answer::No(Refusal::NoPlan));
+        };
+        match play.act(table, name, act) {
             Ok(()) => {
                 self.accepted += 1;
                 Ok(Answer::Ok)

@@ -5,6 +5,7 @@
 //! `write_report` write just the text of an event, of an answer and of a report. `laws` has what holds of all lines.
 #![tactic(auto)]
 
+mod act_reader;
 mod answer;
 mod answer_writer;
 mod event;
@@ -15,6 +16,7 @@ mod list_reader;
 mod report;
 mod report_writer;
 
+pub use act_reader::{ActLine, read_act};
 pub use answer::Answer;
 pub use answer_writer::write_answer;
 pub use event::{Event, Item};

@@ -225,6 +225,7 @@ fn moves_outside_the_grammar_hold_no_item(rt: HostRuntime) -> Result<(), Fail> {
 fn lines_outside_the_grammar_hold_no_item(rt: HostRuntime) -> Result<(), Fail> {
     for line in &OUTSIDE {
         assert!(rt; read_item(rt.alloc(), line)?.is_none(), "{line:?}");
+        assert!(rt; read_act(line).is_none(), "{line:?}");
     }
     Ok(())
 }
@@ -369,10 +370,21 @@ fn is_act_of_ann(line: &[u8], right: Act, alloc: std::alloc::Global) -> Result<b
     })
 }
 
+/// Whether a line is read apart as an act of ann at table 12, and this one.
+fn is_act_line_of_ann(line: &[u8], right: Act) -> bool {
+    match read_act(line) {
+        Some(read) => {
+            read.table == 12 && read.name.bytes() == b"ann".as_slice() && read.act == right
+        }
+        None => false,
+    }
+}
+
 #[test]
 fn acts_are_read(rt: HostRuntime) -> Result<(), Fail> {
     for (line, right) in &ACTS {
         assert!(rt; is_act_of_ann(line, *right, rt.alloc())?, "{line:?}");
+        assert!(rt; is_act_line_of_ann(line, *right), "{line:?}");
     }
     Ok(())
 }

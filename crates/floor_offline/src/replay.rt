@@ -17,7 +17,7 @@ use crate::lines::tell_lines;
 use crate::teller::{LineTeller, put_text};
 use command_lines::Fault;
 use floor_core::Tournament;
-use floor_events::{Answer, Item, read_item, write_answer, write_report};
+use floor_events::{Answer, Item, read_act, read_item, write_answer, write_report};
 use floor_text::{Next, Refusal, Sink, Source};
 use std::alloc::{AllocError, Global};
 use std::marker::Model;
@@ -32,6 +32,9 @@ fn answer_line(
     ensures answer { IfOk result (λ answer. answer ≡ answer_to_item tournament.old (item_of_bytes line.now)) }
     ensures state { OnOk result (tournament.new ≡ state_after_item tournament.old (item_of_bytes line.now)) }
 {
+    if let Some(act) = read_act(line) {
+        return tournament.act(act.table, act.name, act.act);
+    }
     match read_item(alloc, line)? {
         Some(Item::Event(event)) => tournament.apply(&event),
         Some(Item::Note) => Ok(Answer::Ok),

@@ -7,6 +7,7 @@ use Rattle.tournament_rules.specs.States.{PlayState, refusal_of}
 use Rattle.floor_core.proofs.Joins.{answered_no}
 use Rattle.floor_core.proofs.KnownNames.{act_accepted, act_refused, act_stopped, act_unknown}
 use Rattle.floor_core.proofs.play.Play.act.Goals.{in-Ok, in-Err-No+in_ok-check_known-in-Err-No, in-Err-NoMemory}
+use Rattle.tournament_rules.specs.Valid.{IsValid}
 use Rattle.floor_core.proofs.play.Play.act.Goals as goal
 
 pub returns-in_err-check_going-clause-answer : goal.returns-in_err-check_going-clause-answer
@@ -38,10 +39,11 @@ returns-clause-answer c =
     let play = c.args.self.now in
     let going = subst (λ (play : PlayState). first_that_holds (going_checks play.book) ≡ None) c.self.view_is
     c.in_ok-check_going.ensures in
+    let lawful = subst (λ (play : PlayState). IsValid play.book) c.self.view_is c.seats.ensures.lawful in
     elim c.match-act_in_hand.branch [
       | in-Ok w ↦
           rw w.result-is
-          (act_accepted play c.args.table c.args.name c.args.act c.requires going
+          (act_accepted play c.args.table c.args.name c.args.act lawful going
           (rw w.in-Ok.is at c.act_in_hand.ensures.answer))
       | in-Err-No+in_ok-check_known-in-Err-No w ↦
           let known = subst (λ (play : PlayState). first_that_holds (known_checks play.book c.args.name) ≡ None)
@@ -52,6 +54,6 @@ returns-clause-answer c =
           ∙ (rw (w.in-Err-No.is, w.in-Err-No.field-0-is) at c.act_in_hand.ensures.answer))
       | in-Err-NoMemory w ↦
           rw w.result-is
-          (act_accepted play c.args.table c.args.name c.args.act c.requires going
+          (act_accepted play c.args.table c.args.name c.args.act lawful going
           (rw (w.in-Err-NoMemory.is, w.in-Err-NoMemory.field-0-is) at c.act_in_hand.ensures.answer))
     ]
