@@ -8,7 +8,7 @@ ghost use Rattle.dock_rules.specs.Points.{hand_begun, next_begin, refusal_at};
 
 use crate::hold::{BookHold, take_room};
 use crate::room::StackRoom;
-use floor_core::BookFault;
+use floor_book::BookFault;
 use floor_events::Event;
 use floor_text::List;
 use player_view::JournalEntry;

@@ -21,7 +21,7 @@ use crate::end::BookEnd;
 use crate::hold::BookHold;
 use crate::settle::SettleEnd;
 use dock_rules::{Ask, AskAnswer};
-use floor_core::BookFault;
+use floor_book::BookFault;
 use floor_text::Name;
 use history_lock::{HistoryLock, NotAll, Pass, make};
 use level_plan::Plan;

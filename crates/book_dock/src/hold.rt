@@ -9,7 +9,7 @@ ghost use Rattle.dock_rules.specs.Kept.{IsKept, owed};
 
 use crate::room::StackRoom;
 use card_set::CardRow;
-use floor_core::Book;
+use floor_book::Book;
 use floor_director::deck_of;
 use floor_events::Report;
 use floor_text::Name;

@@ -2,7 +2,7 @@
 //! the floor does; each call stands at the journal that its pass has seen once it returns.
 //!
 //! It stands on history_lock, on dock_rules, whose definitions say what a journal comes to and what is answered at it,
-//! and on floor_core, floor_director and player_view.
+//! and on floor_book, floor_director and player_view.
 //!
 //! | The call | What it promises |
 //! |---|---|

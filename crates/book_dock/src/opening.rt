@@ -10,7 +10,7 @@ ghost use Rattle.dock_rules.specs.Journals.{plain_entry};
 ghost use Rattle.book_dock.specs.Opening.{opening};
 
 use crate::hold::{BookHold, take_room};
-use floor_core::Book;
+use floor_book::Book;
 use floor_events::Event;
 use floor_text::List;
 use history_lock::OPENER;

@@ -24,7 +24,7 @@ use crate::room::StackRoom;
 use balance_rule::names_at;
 use break_draw::{draw, fill_seats};
 use dock_rules::{Ask, AskAnswer};
-use floor_core::{Book, BookFault};
+use floor_book::{Book, BookFault};
 use floor_director::next_order;
 use floor_events::Event;
 use floor_text::{List, Refusal};

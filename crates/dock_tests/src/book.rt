@@ -11,7 +11,7 @@ use AskAnswer::{No, NoOrder, Ok as Done};
 use betting_round::Act;
 use book_dock::{Ask, AskAnswer, BookDock, BookEnd, BookPass, SettleEnd, make_book};
 use card_set::Game;
-use floor_core::BookFault;
+use floor_book::BookFault;
 use floor_events::write_report;
 use floor_text::{List, Name, Refusal};
 use history_lock::OPENER;

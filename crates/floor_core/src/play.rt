@@ -15,11 +15,9 @@ ghost use Rattle.tournament_rules.specs.Apart.{hand_in};
 ghost use Rattle.tournament_rules.specs.Kinds.{leaves_hands};
 ghost use Rattle.floor_core.specs.Acting.{refusal_by_hand};
 
-use crate::BookFault;
-use crate::book::Book;
-use crate::slots::{clear, empty_slots};
 use betting_round::Act;
 use card_set::CardRow;
+use floor_book::{Book, BookFault, clear_slots, empty_slots};
 use floor_events::Event;
 use floor_text::{Name, Refusal};
 use level_plan::Plan;
@@ -150,7 +148,7 @@ impl Play {
         // The book is lawful, so that its stop leaves no hand out.
         let _ = self.book.seats();
         self.book.carry_out(&Event::Stop)?;
-        clear(&mut self.hands);
+        clear_slots(&mut self.hands);
         Ok(())
     }
 

@@ -13,11 +13,10 @@ ghost use Rattle.tournament_rules.specs.States.{first_state, hand_at, answer_to,
 ghost use Rattle.tournament_rules.specs.Valid.{IsValid};
 ghost use Rattle.tournament_rules.specs.Report.{report_of, empty_report};
 
-use crate::BookFault;
-use crate::book::Book;
 use crate::plan::take_line;
 use crate::play::Play;
 use betting_round::Act;
+use floor_book::{Book, BookFault};
 use floor_events::{Answer, Event, Report};
 use floor_text::{List, Name, Refusal};
 use level_plan::{PlanDraft, PlanFault};
@@ -58,12 +57,13 @@ impl Tournament {
     pub fn new(alloc: Global) -> Result<Tournament, AllocError>
         ensures { IfOk result (λ tournament. tournament ≡ first_state) }
     {
+        let nobody = SeatBook::new(alloc, 1, 2)?;
         Ok(Tournament {
             alloc,
             draft: PlanDraft::new(alloc),
             play: None,
             accepted: 0,
-            nobody: SeatBook::new(alloc, 1, 2)?,
+            nobody,
         })
     }
 

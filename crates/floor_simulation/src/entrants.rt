@@ -7,7 +7,7 @@ ghost use Rattle.seat_book.specs.Counts.{count_at};
 ghost use Rattle.simulation_rules.specs.Entrants.{entrant_name, next_entry, seat_to_take, table_to_enter};
 
 use balance_rule::empty_seat_after;
-use floor_core::Book;
+use floor_book::Book;
 use floor_events::Event;
 use floor_text::Name;
 use line_words::WriteText;

@@ -13,7 +13,7 @@ ghost use Rattle.simulation_rules.specs.Steps.{after_table, after_tables, at_tab
 
 use crate::entrants::next_entry;
 use crate::simulation::Simulation;
-use floor_core::Book;
+use floor_book::Book;
 use floor_director::{deck_of, next_order, sim_act};
 use floor_events::Event;
 use simulation_rules::{SimPlace, SimStep};

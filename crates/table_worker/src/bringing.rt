@@ -17,7 +17,7 @@ use crate::stage::Stage;
 use crate::turn::Turn;
 use crate::worker::Worker;
 use book_dock::BookDock;
-use floor_core::BookFault;
+use floor_book::BookFault;
 use floor_text::Refusal;
 use std::sync::Wait;
 use table_dock::TableDock;

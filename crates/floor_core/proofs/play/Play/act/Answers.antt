@@ -4,7 +4,7 @@ use Rattle.rulebook.specs.Checks.{first_that_holds}
 use Rattle.floor_events.specs.declared.event.Event.TheVariants.{Act as Acts}
 use Rattle.tournament_rules.specs.Checks.{going_checks, known_checks}
 use Rattle.tournament_rules.specs.States.{PlayState, refusal_of}
-use Rattle.floor_core.proofs.Joins.{answered_no}
+use Rattle.floor_book.proofs.Joins.{answered_no}
 use Rattle.floor_core.proofs.KnownNames.{act_accepted, act_refused, act_stopped, act_unknown}
 use Rattle.floor_core.proofs.play.Play.act.Goals.{in-Ok, in-Err-No+in_ok-check_known-in-Err-No, in-Err-NoMemory}
 use Rattle.tournament_rules.specs.Valid.{IsValid}

@@ -4,7 +4,7 @@ use Rattle.table_engine.specs.Hands.{HandTerms}
 use Rattle.tournament_rules.specs.Checks.{book_refusal}
 use Rattle.tournament_rules.specs.States.{PlayState, refusal_of}
 use Rattle.tournament_rules.proofs.Layers.{hands_length}
-use Rattle.floor_core.proofs.Joins.{answered_on}
+use Rattle.floor_book.proofs.Joins.{answered_on}
 use Rattle.floor_core.proofs.Parts.{by_book_alone, answer_of_same}
 use Rattle.floor_core.proofs.play.Play.begin.Goals as goal
 

@@ -10,7 +10,7 @@ use Rattle.tournament_rules.specs.Checks.{end_checks}
 use Rattle.tournament_rules.specs.States.{PlayState, refusal_of}
 use Rattle.tournament_rules.specs.Apart.{hand_in, hand_refusal, start_of}
 use Rattle.tournament_rules.proofs.Layers.{start_read}
-use Rattle.floor_core.proofs.Joins.{answered_no}
+use Rattle.floor_book.proofs.Joins.{answered_no}
 use Rattle.floor_core.proofs.Parts.{by_book, by_hand, settle_refusal}
 use Rattle.floor_core.proofs.play.Play.settle.Goals as goal
 

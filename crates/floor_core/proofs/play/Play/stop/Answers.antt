@@ -5,7 +5,7 @@ use Rattle.tournament_rules.specs.Checks.{book_refusal}
 use Rattle.tournament_rules.specs.States.{PlayState, refusal_of}
 use Rattle.tournament_rules.specs.Apart.{start_of}
 use Rattle.floor_core.proofs.Stopped.{stopped_hands}
-use Rattle.floor_core.proofs.Joins.{answered_on}
+use Rattle.floor_book.proofs.Joins.{answered_on}
 use Rattle.floor_core.proofs.Parts.{by_book_alone, answer_of_same}
 use Rattle.floor_core.proofs.play.Play.stop.Goals as goal
 
@@ -21,7 +21,7 @@ returns-in_err-carry_out-clause-answer c =
 pub invariant_of-self-2 : goal.invariant_of-self-2
 invariant_of-self-2 c =
     let none = stopped_hands c.self.inside.book c.self.inside.hands.items c.seats.ensures.lawful c.self.invariant in
-    ap (map start_of) c.clear.ensures ∙ (none ∙ sym
+    ap (map start_of) c.clear_slots.ensures ∙ (none ∙ sym
     (ap (λ (book : BookState). book.started) c.in_ok-carry_out.ensures.state))
 
 pub returns-clause-answer : goal.returns-clause-answer

@@ -1,0 +1,14 @@
+use Rattle.std.proofs.Common.{◌∙◌, ap, rules}
+use Rattle.tournament_rules.specs.Books.{BookState, start_at}
+use Rattle.floor_book.proofs.book.Book.check_playing.Goals as goal
+
+pub returns-clause-told : goal.returns-clause-told
+returns-clause-told c =
+    let number = c.in-Some.number in
+    record {
+      same = search rules;
+      within = search rules;
+      started = search rules;
+      here = λ start is. (c.self.invariant.hands.starts number start
+          (ap (λ (book : BookState). start_at book.started number) c.self.view_is ∙ is)).here;
+    }

@@ -1,6 +1,0 @@
-use Rattle.std.proofs.Common.{◌≡◌}
-use Rattle.floor_core.proofs.Announced.{announced_so_far}
-use Rattle.floor_core.proofs.level.announce.Given as goal
-
-abbrev pub invariant-loop-below : goal.invariant-loop-below
-invariant-loop-below l = l.seats ≡ announced_so_far l.unit l.initial.seats l.below

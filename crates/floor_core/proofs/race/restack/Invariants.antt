@@ -1,5 +1,0 @@
-use Rattle.floor_core.proofs.Raced.{IsRestackedTo}
-use Rattle.floor_core.proofs.race.restack.Given as goal
-
-abbrev pub invariant-loop-below : goal.invariant-loop-below
-invariant-loop-below l = IsRestackedTo l.initial.seats l.seats l.table l.stacks l.below

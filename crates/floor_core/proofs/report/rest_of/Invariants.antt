@@ -1,6 +1,0 @@
-use Rattle.std.proofs.Common.{◌≡◌, take, sum_by}
-use Rattle.floor_core.proofs.SlotSums.{stack_in}
-use Rattle.floor_core.proofs.report.rest_of.Given as goal
-
-abbrev pub invariant-loop-slot : goal.invariant-loop-slot
-invariant-loop-slot l = l.chips ≡ sum_by stack_in (take l.slot-index l.slots)
