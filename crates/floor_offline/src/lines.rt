@@ -8,10 +8,10 @@ ghost use Rattle.level_plan.specs.declared.line.PlanItem.{PlanItem};
 ghost use Rattle.tournament_rules.specs.States.{State, first_state};
 ghost use Rattle.tournament_rules.specs.Valid.{IsValidState};
 ghost use Rattle.floor_offline.specs.Limits.{input_limit};
-ghost use Rattle.command_lines.specs.Endings.{IsOfWriting, IsOfReading, LetsGo};
+ghost use Rattle.command_lines.specs.Endings.{IsOfWriting, IsOfReading};
 ghost use Rattle.floor_offline.specs.Promise.{Keeps, IsTelling, IsCounted, HasTold, TakesAndPuts, IsToldOf};
-ghost use Rattle.command_lines.specs.Limits.{GivesMore};
-ghost use Rattle.floor_offline.specs.Told.{Telling, stream_told};
+ghost use Rattle.floor_offline.specs.Told.{Telling};
+ghost use Rattle.floor_offline.specs.Runs.{HasRun};
 
 use crate::teller::LineTeller;
 use command_lines::Fault;
@@ -153,26 +153,8 @@ fn tell_to_end<T: LineTeller, I: Source, O: Sink>(
 ) -> Result<(), Fault>
     requires fresh { reader.old ≡ record { held = []; line = []; taken = 0; limit = input_limit; ended = false } }
     requires first { tournament.old ≡ first_state }
-    ensures end { OnOk result (IfSome (I.left input.old) (λ _. I.left input.new ≡ Some [])) }
-    ensures text { OnOk result (IfSome (I.left input.old) (λ bytes. IfSome (O.written out.old)
-        (λ before. O.written out.new ≡ Some (before ++ stream_told (T.telling teller.old) bytes)))) }
-    ensures within { OnOk result (IfSome (I.left input.old) (λ bytes. length bytes ≤ input_limit)) }
-
-    // Where it fails, what was put is told of the bytes that were taken.
-    ensures told { IfErr result (λ fault. TakesAndPuts (IsToldOf fault (T.telling teller.old))
-        (I.left input.old) (I.left input.new) (O.written out.old) (O.written out.new)) }
-
-    // Nothing is held back but where out failed or memory ran out.
-    ensures let_go { OnOk result (O.held out.new ≡ []) }
-    ensures read_let_go { IfErr result (λ fault. IsOfReading fault → LetsGo O.held out.old out.new) }
-
-    ensures too_long { IsErrOf result Fault.InputTooLong → GivesMore input_limit (I.left input.old) (I.left input.new) }
-    ensures read { IsErrOf result Fault.Read → Rose (I.faults input.old) (I.faults input.new) }
-    ensures out_later { O.faults out.old ≤ O.faults out.new }
-    ensures write { IsErrOf result Fault.Write → Rose (O.faults out.old) (O.faults out.new) }
-    ensures words { IsErrOf result Fault.Usage → ⊥ }
-    ensures hall { IsErrOf result Fault.Hall → ⊥ }
-    ensures plan { (item : PlanItem) → IsErrOf result (Fault.Plan item) → ⊥ }
+    ensures { HasRun I.left I.faults O.written O.held O.faults (T.telling teller.old)
+        input.old input.new out.old out.new result }
 {
     let mut line = next_line(reader, input)?;
     'lines: while line != Next::End {
@@ -188,26 +170,8 @@ pub fn tell_lines<T: LineTeller, I: Source, O: Sink>(
     input: &mut I,
     out: &mut O,
 ) -> Result<(), Fault>
-    ensures end { OnOk result (IfSome (I.left input.old) (λ _. I.left input.new ≡ Some [])) }
-    ensures text { OnOk result (IfSome (I.left input.old) (λ bytes. IfSome (O.written out.old)
-        (λ before. O.written out.new ≡ Some (before ++ stream_told (T.telling teller.old) bytes)))) }
-    ensures within { OnOk result (IfSome (I.left input.old) (λ bytes. length bytes ≤ input_limit)) }
-
-    // Where it fails, what was put is told of the bytes that were taken.
-    ensures told { IfErr result (λ fault. TakesAndPuts (IsToldOf fault (T.telling teller.old))
-        (I.left input.old) (I.left input.new) (O.written out.old) (O.written out.new)) }
-
-    // Nothing is held back but where out failed or memory ran out.
-    ensures let_go { OnOk result (O.held out.new ≡ []) }
-    ensures read_let_go { IfErr result (λ fault. IsOfReading fault → LetsGo O.held out.old out.new) }
-
-    ensures too_long { IsErrOf result Fault.InputTooLong → GivesMore input_limit (I.left input.old) (I.left input.new) }
-    ensures read { IsErrOf result Fault.Read → Rose (I.faults input.old) (I.faults input.new) }
-    ensures out_later { O.faults out.old ≤ O.faults out.new }
-    ensures write { IsErrOf result Fault.Write → Rose (O.faults out.old) (O.faults out.new) }
-    ensures words { IsErrOf result Fault.Usage → ⊥ }
-    ensures hall { IsErrOf result Fault.Hall → ⊥ }
-    ensures plan { (item : PlanItem) → IsErrOf result (Fault.Plan item) → ⊥ }
+    ensures { HasRun I.left I.faults O.written O.held O.faults (T.telling teller.old)
+        input.old input.new out.old out.new result }
 {
     let mut reader = input_reader(alloc)?;
     let mut tournament = Tournament::new(alloc)?;

@@ -1,16 +1,11 @@
 //! Lines are answered one by one, and at the end comes the report.
 
 ghost use Rattle.std.specs.Prelude.{◌≡◌, ◌≢◌, ◌≤◌, ◌<◌, ◌+◌, ◌^◌, ◌++◌, ℕ, length, [], Some, IfOk, IfSome, OnOk, IfErr, IsErrOf};
-ghost use Rattle.floor_text.specs.Outside.{Rose};
-ghost use Rattle.level_plan.specs.declared.line.PlanItem.{PlanItem};
 ghost use Rattle.floor_events.specs.Grammar.{item_of_bytes};
 ghost use Rattle.floor_events.specs.Spelling.{answer_text};
 ghost use Rattle.tournament_rules.specs.Replay.{answer_to_item, state_after_item, replay_text};
-ghost use Rattle.floor_offline.specs.Limits.{input_limit};
-ghost use Rattle.command_lines.specs.Endings.{IsOfReading, LetsGo};
 ghost use Rattle.floor_offline.specs.Handed.{item_of_next};
-ghost use Rattle.floor_offline.specs.Promise.{TakesAndPuts, IsToldOf};
-ghost use Rattle.command_lines.specs.Limits.{GivesMore};
+ghost use Rattle.floor_offline.specs.Runs.{HasRun};
 ghost use Rattle.floor_offline.specs.Told.{answers_told};
 
 use crate::lines::tell_lines;
@@ -150,26 +145,10 @@ impl LineTeller for AnswerTeller {
 
 /// Answers all lines of the input, and puts the report behind the answers.
 pub fn replay<I: Source, O: Sink>(alloc: Global, input: &mut I, out: &mut O) -> Result<(), Fault>
-    ensures end { OnOk result (IfSome (I.left input.old) (λ _. I.left input.new ≡ Some [])) }
+    ensures run { HasRun I.left I.faults O.written O.held O.faults answers_told
+        input.old input.new out.old out.new result }
     ensures text { OnOk result (IfSome (I.left input.old)
         (λ bytes. IfSome (O.written out.old) (λ before. O.written out.new ≡ Some (before ++ replay_text bytes)))) }
-    ensures within { OnOk result (IfSome (I.left input.old) (λ bytes. length bytes ≤ input_limit)) }
-
-    // Where it fails, what was put is told of the bytes that were taken.
-    ensures told { IfErr result (λ fault. TakesAndPuts (IsToldOf fault answers_told)
-        (I.left input.old) (I.left input.new) (O.written out.old) (O.written out.new)) }
-
-    // Nothing is held back but where out failed or memory ran out.
-    ensures let_go { OnOk result (O.held out.new ≡ []) }
-    ensures read_let_go { IfErr result (λ fault. IsOfReading fault → LetsGo O.held out.old out.new) }
-
-    ensures too_long { IsErrOf result Fault.InputTooLong → GivesMore input_limit (I.left input.old) (I.left input.new) }
-    ensures read { IsErrOf result Fault.Read → Rose (I.faults input.old) (I.faults input.new) }
-    ensures out_later { O.faults out.old ≤ O.faults out.new }
-    ensures write { IsErrOf result Fault.Write → Rose (O.faults out.old) (O.faults out.new) }
-    ensures words { IsErrOf result Fault.Usage → ⊥ }
-    ensures hall { IsErrOf result Fault.Hall → ⊥ }
-    ensures plan { (item : PlanItem) → IsErrOf result (Fault.Plan item) → ⊥ }
 {
     let mut teller = AnswerTeller::new(alloc);
     tell_lines(alloc, &mut teller, input, out)

@@ -1,16 +1,11 @@
 //! A player is told of the lines of the input.
 
 ghost use Rattle.std.specs.Prelude.{◌≡◌, ◌≤◌, ◌<◌, ◌^◌, ◌++◌, ℕ, length, [], Some, IfSome, OnOk, IfErr, IsErrOf};
-ghost use Rattle.floor_text.specs.Outside.{Rose};
-ghost use Rattle.level_plan.specs.declared.line.PlanItem.{PlanItem};
 ghost use Rattle.floor_events.specs.Grammar.{item_of_bytes};
 ghost use Rattle.tournament_rules.specs.Replay.{state_after_item};
 ghost use Rattle.tournament_rules.specs.Valid.{IsValidState};
 ghost use Rattle.view_rules.specs.Views.{view_text};
-ghost use Rattle.floor_offline.specs.Limits.{input_limit};
-ghost use Rattle.command_lines.specs.Endings.{IsOfReading, LetsGo};
-ghost use Rattle.floor_offline.specs.Promise.{TakesAndPuts, IsToldOf};
-ghost use Rattle.command_lines.specs.Limits.{GivesMore};
+ghost use Rattle.floor_offline.specs.Runs.{HasRun};
 ghost use Rattle.floor_offline.specs.Told.{item_seen, lines_seen};
 
 use crate::lines::tell_lines;
@@ -86,26 +81,10 @@ pub fn view<I: Source, O: Sink>(
     input: &mut I,
     out: &mut O,
 ) -> Result<(), Fault>
-    ensures end { OnOk result (IfSome (I.left input.old) (λ _. I.left input.new ≡ Some [])) }
+    ensures run { HasRun I.left I.faults O.written O.held O.faults (lines_seen name)
+        input.old input.new out.old out.new result }
     ensures text { OnOk result (IfSome (I.left input.old)
         (λ bytes. IfSome (O.written out.old) (λ before. O.written out.new ≡ Some (before ++ view_text name bytes)))) }
-    ensures within { OnOk result (IfSome (I.left input.old) (λ bytes. length bytes ≤ input_limit)) }
-
-    // Where it fails, what was put is told of the bytes that were taken.
-    ensures told { IfErr result (λ fault. TakesAndPuts (IsToldOf fault (lines_seen name))
-        (I.left input.old) (I.left input.new) (O.written out.old) (O.written out.new)) }
-
-    // Nothing is held back but where out failed or memory ran out.
-    ensures let_go { OnOk result (O.held out.new ≡ []) }
-    ensures read_let_go { IfErr result (λ fault. IsOfReading fault → LetsGo O.held out.old out.new) }
-
-    ensures too_long { IsErrOf result Fault.InputTooLong → GivesMore input_limit (I.left input.old) (I.left input.new) }
-    ensures read { IsErrOf result Fault.Read → Rose (I.faults input.old) (I.faults input.new) }
-    ensures out_later { O.faults out.old ≤ O.faults out.new }
-    ensures write { IsErrOf result Fault.Write → Rose (O.faults out.old) (O.faults out.new) }
-    ensures words { IsErrOf result Fault.Usage → ⊥ }
-    ensures hall { IsErrOf result Fault.Hall → ⊥ }
-    ensures plan { (item : PlanItem) → IsErrOf result (Fault.Plan item) → ⊥ }
 {
     let mut teller = PlayerTeller {
         name,

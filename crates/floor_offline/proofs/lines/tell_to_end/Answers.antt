@@ -21,24 +21,33 @@ lines-init g c =
     c.in_ok-line.ensures.ahead c.next_line.ensures.counts c.next_line.ensures.limit
     (λ is. c.in_ok-line.ensures.end (ap Ok is)) c.next_line.ensures.input_later
 
-pub returns-in_err-line-clause-told : goal.returns-in_err-line-clause-told
-returns-in_err-line-clause-told g c =
-    on_err c.from_residual.result c.in_err-line.field-0.0 _ c.from_residual.ensures.1
-    (begins_so (g.T.LineTeller.telling c.args.teller.now) c.args.tournament.now c.args.reader.now
-    (g.I.Source.left c.args.input.now) (g.O.Sink.written c.args.out.now)
-    c.requires.fresh c.requires.first
-    (λ bytes before. c.in_err-line.ensures.told (g.T.LineTeller.telling c.args.teller.now) bytes before
-    c.args.tournament.now (g.O.Sink.written c.args.out.now)))
-
-pub returns-in_err-line-clause-too_long : goal.returns-in_err-line-clause-too_long
-returns-in_err-line-clause-too_long g c = λ too_long.
-    let more : c.next_line.new.reader.limit < c.next_line.new.reader.taken = search rules in
-    gives_more (g.I.Source.left c.args.input.now) (g.I.Source.left c.next_line.new.input)
-    c.next_line.new.reader
-    (c.next_line.ensures.counts (g.I.Source.left c.args.input.now)
-    (counts_first (g.I.Source.left c.args.input.now) c.args.reader.now c.requires.fresh))
-    (c.next_line.ensures.limit ∙ ap (λ (reading : Reading). reading.limit) c.requires.fresh)
-    more
+pub returns-in_err-line : goal.returns-in_err-line
+returns-in_err-line g c =
+    record {
+      end = search rules;
+      text = search rules;
+      within = search rules;
+      let_go = search rules;
+      told = on_err c.from_residual.result c.in_err-line.field-0.0 _ c.from_residual.ensures.1
+          (begins_so (g.T.LineTeller.telling c.args.teller.now) c.args.tournament.now c.args.reader.now
+          (g.I.Source.left c.args.input.now) (g.O.Sink.written c.args.out.now)
+          c.requires.fresh c.requires.first
+          (λ bytes before. c.in_err-line.ensures.told (g.T.LineTeller.telling c.args.teller.now) bytes before
+          c.args.tournament.now (g.O.Sink.written c.args.out.now)));
+      read_let_go = search rules;
+      too_long = λ too_long.
+          let more : c.next_line.new.reader.limit < c.next_line.new.reader.taken = search rules in
+          gives_more (g.I.Source.left c.args.input.now) (g.I.Source.left c.next_line.new.input) c.next_line.new.reader
+          (c.next_line.ensures.counts (g.I.Source.left c.args.input.now)
+          (counts_first (g.I.Source.left c.args.input.now) c.args.reader.now c.requires.fresh))
+          (c.next_line.ensures.limit ∙ ap (λ (reading : Reading). reading.limit) c.requires.fresh) more;
+      read = search rules;
+      out_later = search rules;
+      write = search rules;
+      words = search rules;
+      hall = search rules;
+      plan = search rules;
+    }
 
 pub lines-preserved : goal.lines-preserved
 lines-preserved g c =
@@ -56,58 +65,59 @@ lines-preserved g c =
       end = λ is. c.in_ok-line-2.ensures.end (ap Ok is);
     }
 
-pub returns-in_err-line-2-clause-told : goal.returns-in_err-line-2-clause-told
-returns-in_err-line-2-clause-told g c =
-    on_err c.from_residual-in_err-line-2.result c.in_err-line-2.field-0.0 _ c.from_residual-in_err-line-2.ensures.1
-    (both_from (g.I.Source.left c.args.input.now) (g.O.Sink.written c.args.out.now)
-    (rw c.lines.invariant.same at c.in_err-line-2.ensures.told) c.lines.invariant.tells)
+pub returns-in_err-line-2 : goal.returns-in_err-line-2
+returns-in_err-line-2 g c =
+    record {
+      end = search rules;
+      text = search rules;
+      within = search rules;
+      let_go = search rules;
+      told = on_err c.from_residual-in_err-line-2.result c.in_err-line-2.field-0.0 _
+          c.from_residual-in_err-line-2.ensures.1
+          (both_from (g.I.Source.left c.args.input.now) (g.O.Sink.written c.args.out.now)
+          (rw c.lines.invariant.same at c.in_err-line-2.ensures.told) c.lines.invariant.tells);
+      read_let_go = on_err c.from_residual-in_err-line-2.result c.in_err-line-2.field-0.0 _
+          c.from_residual-in_err-line-2.ensures.1 (λ reading. inl (c.in_err-line-2.ensures.let_go reading));
+      too_long = λ too_long.
+          let more : c.tell_next.new.reader.limit < c.tell_next.new.reader.taken = search rules in
+          gives_more (g.I.Source.left c.args.input.now) (g.I.Source.left c.tell_next.new.input) c.tell_next.new.reader
+          (c.tell_next.ensures.counts (g.I.Source.left c.args.input.now) c.lines.invariant.counted)
+          (c.tell_next.ensures.limit ∙ c.lines.invariant.at_limit) more;
+      read = search rules;
+      out_later = search rules;
+      write = search rules;
+      words = search rules;
+      hall = search rules;
+      plan = search rules;
+    }
 
-pub returns-in_err-line-2-clause-too_long : goal.returns-in_err-line-2-clause-too_long
-returns-in_err-line-2-clause-too_long g c = λ too_long.
-    let more : c.tell_next.new.reader.limit < c.tell_next.new.reader.taken = search rules in
-    gives_more (g.I.Source.left c.args.input.now) (g.I.Source.left c.tell_next.new.input)
-    c.tell_next.new.reader
-    (c.tell_next.ensures.counts (g.I.Source.left c.args.input.now) c.lines.invariant.counted)
-    (c.tell_next.ensures.limit ∙ c.lines.invariant.at_limit)
-    more
-
-pub returns-in_err-line-2-clause-read_let_go : goal.returns-in_err-line-2-clause-read_let_go
-returns-in_err-line-2-clause-read_let_go g c =
-    on_err c.from_residual-in_err-line-2.result c.in_err-line-2.field-0.0 _ c.from_residual-in_err-line-2.ensures.1
-    (λ reading. inl (c.in_err-line-2.ensures.let_go reading))
-
-pub returns-clause-end : goal.returns-clause-end
-returns-clause-end g c =
-    let done : c.lines.line ≡ End = differs_false the_type (search rules) _ _ (sym c.ne.ensures ∙ c.lines-test.false) in
-    on_ok c.tell_end.result (c.lines.invariant.counted.end (c.lines.invariant.end done))
-
-pub returns-clause-text : goal.returns-clause-text
-returns-clause-text g c =
+pub returns : goal.returns
+returns g c =
     let done : c.lines.line ≡ End = differs_false the_type (search rules) _ _ (sym c.ne.ensures ∙ c.lines-test.false) in
     let ended = c.lines.invariant.end done in
     let tells = rw done at c.lines.invariant.tells in
-    ends_well (g.T.LineTeller.telling c.args.teller.now) (g.I.Source.left c.args.input.now)
-    (g.I.Source.left c.lines.input) (g.O.Sink.written c.args.out.now) (g.O.Sink.written c.lines.out)
-    (g.O.Sink.written c.tell_end.new.out) c.lines.tournament c.lines.reader c.tell_end.result ended
-    (c.lines.invariant.counted.end ended) tells (rw c.lines.invariant.same at c.tell_end.ensures.bytes)
-
-pub returns-clause-within : goal.returns-clause-within
-returns-clause-within g c =
-    let done : c.lines.line ≡ End = differs_false the_type (search rules) _ _ (sym c.ne.ensures ∙ c.lines-test.false) in
-    on_ok c.tell_end.result
-    (within_at_end (g.I.Source.left c.args.input.now) (g.I.Source.left c.lines.input) c.lines.reader
-    c.lines.invariant.counted (c.lines.invariant.end done) c.lines.invariant.at_limit)
-
-pub returns-clause-told : goal.returns-clause-told
-returns-clause-told g c =
-    let done : c.lines.line ≡ End = differs_false the_type (search rules) _ _ (sym c.ne.ensures ∙ c.lines-test.false) in
-    let tells = rw done at c.lines.invariant.tells in
-    ends_in_fault (g.T.LineTeller.telling c.args.teller.now) (g.I.Source.left c.args.input.now)
-    (g.I.Source.left c.lines.input) (g.O.Sink.written c.args.out.now) (g.O.Sink.written c.lines.out)
-    (g.O.Sink.written c.tell_end.new.out) c.lines.tournament c.lines.reader c.tell_end.result
-    (c.lines.invariant.end done) tells (rw c.lines.invariant.same at c.tell_end.ensures.bytes)
-    (λ memory. ap g.O.Sink.written (c.tell_end.ensures.memory memory)) c.tell_end.ensures.others
-
-pub returns-clause-read_let_go : goal.returns-clause-read_let_go
-returns-clause-read_let_go g c =
-    no_reading c.tell_end.result (LetsGo g.O.Sink.held c.args.out.now c.tell_end.new.out) c.tell_end.ensures.others
+    record {
+      end = on_ok c.tell_end.result (c.lines.invariant.counted.end ended);
+      text = ends_well (g.T.LineTeller.telling c.args.teller.now) (g.I.Source.left c.args.input.now)
+          (g.I.Source.left c.lines.input) (g.O.Sink.written c.args.out.now) (g.O.Sink.written c.lines.out)
+          (g.O.Sink.written c.tell_end.new.out) c.lines.tournament c.lines.reader c.tell_end.result ended
+          (c.lines.invariant.counted.end ended) tells (rw c.lines.invariant.same at c.tell_end.ensures.bytes);
+      within = on_ok c.tell_end.result
+          (within_at_end (g.I.Source.left c.args.input.now) (g.I.Source.left c.lines.input) c.lines.reader
+          c.lines.invariant.counted ended c.lines.invariant.at_limit);
+      let_go = c.tell_end.ensures.let_go;
+      told = ends_in_fault (g.T.LineTeller.telling c.args.teller.now) (g.I.Source.left c.args.input.now)
+          (g.I.Source.left c.lines.input) (g.O.Sink.written c.args.out.now) (g.O.Sink.written c.lines.out)
+          (g.O.Sink.written c.tell_end.new.out) c.lines.tournament c.lines.reader c.tell_end.result ended tells
+          (rw c.lines.invariant.same at c.tell_end.ensures.bytes)
+          (λ memory. ap g.O.Sink.written (c.tell_end.ensures.memory memory)) c.tell_end.ensures.others;
+      read_let_go = no_reading c.tell_end.result (LetsGo g.O.Sink.held c.args.out.now c.tell_end.new.out)
+          c.tell_end.ensures.others;
+      too_long = search rules;
+      read = search rules;
+      out_later = search rules;
+      write = search rules;
+      words = search rules;
+      hall = search rules;
+      plan = search rules;
+    }
