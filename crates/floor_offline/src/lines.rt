@@ -1,6 +1,6 @@
 //! The lines of an input are told of one by one.
 
-ghost use Rattle.std.specs.Prelude.{◌⊎◌, ◌≡◌, ◌≢◌, ◌≤◌, ◌<◌, ◌+◌, ◌^◌, ◌++◌, List, ℕ, length, Option, Ok, Err, true, false, [], Some, IfOk, IfSome, MatchResult, OnOk, OnErr, IfErr, IsErrOf};
+ghost use Rattle.std.specs.Prelude.{◌⊎◌, ◌≡◌, ◌≢◌, ◌≤◌, ◌<◌, ◌+◌, ◌^◌, List, ℕ, length, Option, Ok, Err, true, false, [], IfOk, IfSome, MatchResult, OnOk, IfErr, IsErrOf};
 ghost use Rattle.floor_text.specs.Outside.{Rose, Puts};
 ghost use Rattle.floor_text.specs.LineReader.{lines_of_next};
 ghost use Rattle.floor_text.specs.Reading.{bytes_ahead};

@@ -1,6 +1,6 @@
 //! Lines are answered one by one, and at the end comes the report.
 
-ghost use Rattle.std.specs.Prelude.{◌≡◌, ◌≢◌, ◌≤◌, ◌<◌, ◌+◌, ◌^◌, ◌++◌, ℕ, length, [], Some, IfOk, IfSome, OnOk, IfErr, IsErrOf};
+ghost use Rattle.std.specs.Prelude.{◌≡◌, ◌<◌, ◌+◌, ◌^◌, ◌++◌, ℕ, [], Some, IfOk, IfSome, OnOk};
 ghost use Rattle.floor_events.specs.Grammar.{item_of_bytes};
 ghost use Rattle.floor_events.specs.Spelling.{answer_text};
 ghost use Rattle.tournament_rules.specs.Replay.{answer_to_item, state_after_item, replay_text};

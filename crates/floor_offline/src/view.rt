@@ -1,6 +1,6 @@
 //! A player is told of the lines of the input.
 
-ghost use Rattle.std.specs.Prelude.{◌≡◌, ◌≤◌, ◌<◌, ◌^◌, ◌++◌, ℕ, length, [], Some, IfSome, OnOk, IfErr, IsErrOf};
+ghost use Rattle.std.specs.Prelude.{◌≡◌, ◌<◌, ◌^◌, ◌++◌, Some, IfSome, OnOk};
 ghost use Rattle.floor_events.specs.Grammar.{item_of_bytes};
 ghost use Rattle.tournament_rules.specs.Replay.{state_after_item};
 ghost use Rattle.tournament_rules.specs.Valid.{IsValidState};

@@ -1,4 +1,4 @@
-use Rattle.std.proofs.Common.{◌∙◌, sym, subst}
+use Rattle.std.proofs.Common.{sym, subst}
 use Rattle.tournament_rules.specs.Valid.{IsValid}
 use Rattle.floor_book.specs.Fields.{book_of}
 use Rattle.floor_book.proofs.Begun.{put_out_by_steps}
