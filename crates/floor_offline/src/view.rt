@@ -12,9 +12,9 @@ use crate::lines::tell_lines;
 use crate::teller::{LineTeller, put_text};
 use command_lines::Fault;
 use floor_core::Tournament;
-use floor_events::{Item, read_item};
+use floor_events::{Item, read_act, read_item};
 use floor_text::{Name, Next, Sink, Source};
-use floor_view::tell_event;
+use floor_view::{tell_act, tell_event};
 use std::alloc::{AllocError, Global};
 
 /// Has a tournament take a line of at most 400 bytes, and writes what tells the player of a name of it: of a note, and
@@ -32,6 +32,9 @@ fn tell_line(
         (text.new.items ≡ text.old.items ++ item_seen name tournament.old (item_of_bytes line.now)) }
     ensures state { OnOk result (tournament.new ≡ state_after_item tournament.old (item_of_bytes line.now)) }
 {
+    if let Some(act) = read_act(line) {
+        return tell_act(tournament, act.table, act.name, act.act, text);
+    }
     match read_item(alloc, line)? {
         Some(Item::Event(event)) => tell_event(alloc, tournament, Some(name), &event, text),
         Some(Item::Note) | None => Ok(()),
