@@ -10,7 +10,6 @@ ghost use Rattle.floor_book.specs.Seats.{has_lawful_seat, dealt_of};
 ghost use Rattle.button_blinds.specs.SeatSets.{has_seat};
 ghost use Rattle.seat_book.specs.Counts.{count_at};
 ghost use Rattle.table_engine.specs.Acts.{IsAnswer};
-ghost use Rattle.table_engine.specs.Starts.{IsLawfulStart};
 ghost use Rattle.floor_events.specs.declared.event.Event.TheVariants as events;
 ghost use Rattle.tournament_rules.specs.Books.{blind_now};
 ghost use Rattle.tournament_rules.specs.Players.{start_seat, dealt_in};
@@ -100,17 +99,6 @@ fn deal_in(seats: &mut SeatBook, table: u8, waiting: &SeatSet)
             seat: below + 1,
         };
         deal_in_seat(seats, place, waiting);
-    }
-}
-
-/// Makes the hand of a start, in which nobody has acted.
-fn hand_of(alloc: Global, start: &HandStart) -> Result<Hand, AllocError>
-    requires { IsLawfulStart start.now }
-    ensures { IfOk result (λ hand. hand ≡ record { start = start.now; acts = [] }) }
-{
-    match Hand::new(alloc, start.copy(alloc)?) {
-        Ok(hand) => Ok(hand),
-        Err(_) => Err(AllocError),
     }
 }
 
@@ -256,7 +244,10 @@ impl Book {
         let Ready { table, deck } = self.ready(table, row)?;
         let next = self.next_at(table);
         let start = self.next_start(table, &next, deck)?;
-        let hand = hand_of(self.alloc, &start)?;
+        let own = start.copy(self.alloc)?;
+        let Ok(hand) = Hand::new(self.alloc, own) else {
+            return Err(BookFault::NoMemory);
+        };
         self.put_out(start, &next);
         Ok(hand)
     }

@@ -25,21 +25,25 @@ returns-in_err-start-clause-answer c =
     (begin_refusal book c.args.table c.args.row.now ∙ c.in_ok-table.ensures.checked)
     c.from_residual-in_err-start.ensures.0 c.from_residual-in_err-start.ensures.1
 
-pub hand_of-requires : goal.hand_of-requires
-hand_of-requires c =
+pub returns-in_err-own-clause-answer : goal.returns-in_err-own-clause-answer
+returns-in_err-own-clause-answer c =
+    let book = c.args.self.now in
+    answered_memory (book_refusal book (Begin c.args.table c.args.row.now)) c.from_residual-in_err-own.result
+    (begin_refusal book c.args.table c.args.row.now ∙ c.in_ok-table.ensures.checked)
+    c.from_residual-in_err-own.ensures.0 c.from_residual-in_err-own.ensures.1
+
+pub new-requires : goal.new-requires
+new-requires c =
     let now = c.args.self.now in
     let start = c.in_ok-start.ensures ∙ (ap (λ (table : ℕ). next_start now table c.in_ok-table.field-0.deck)
     c.in_ok-table.ensures.same ∙ ap (next_start now c.args.table) c.in_ok-table.ensures.deck) in
     let free = begin_refusal now c.args.table c.args.row.now ∙ c.in_ok-table.ensures.checked in
     let valid : IsValid now = subst IsValid c.self.view_is c.self.invariant in
-    subst IsLawfulStart (sym start) (start_is_lawful now c.args.table c.args.row.now valid free)
+    subst IsLawfulStart (sym (c.in_ok-own.ensures ∙ start)) (start_is_lawful now c.args.table c.args.row.now valid free)
 
-pub returns-in_err-hand-clause-answer : goal.returns-in_err-hand-clause-answer
-returns-in_err-hand-clause-answer c =
-    let book = c.args.self.now in
-    answered_memory (book_refusal book (Begin c.args.table c.args.row.now)) c.from_residual-in_err-hand.result
-    (begin_refusal book c.args.table c.args.row.now ∙ c.in_ok-table.ensures.checked)
-    c.from_residual-in_err-hand.ensures.0 c.from_residual-in_err-hand.ensures.1
+pub returns-in_default-clause-answer : goal.returns-in_default-clause-answer
+returns-in_default-clause-answer c = begin_refusal c.args.self.now c.args.table c.args.row.now
+    ∙ c.in_ok-table.ensures.checked
 
 pub put_out-requires-clause-start : goal.put_out-requires-clause-start
 put_out-requires-clause-start c =
@@ -64,8 +68,8 @@ returns-clause-hand c =
     let now = c.args.self.now in
     let start = c.in_ok-start.ensures ∙ (ap (λ (table : ℕ). next_start now table c.in_ok-table.field-0.deck)
     c.in_ok-table.ensures.same ∙ ap (next_start now c.args.table) c.in_ok-table.ensures.deck) in
-    c.in_ok-hand.ensures ∙ ap (λ (start : HandStart). let hand : HandTerms = record { start = start; acts = [] }
-    in hand) start
+    c.in-Ok.ensures.hand ∙ ap (λ (start : HandStart). let hand : HandTerms = record { start = start; acts = [] }
+    in hand) (c.in_ok-own.ensures ∙ start)
 
 pub returns-clause-state : goal.returns-clause-state
 returns-clause-state c =
