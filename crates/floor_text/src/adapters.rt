@@ -127,6 +127,8 @@ impl<W: Write + Drop> Sink for BufferedSink<W> {
     }
 
     /// Holds the bytes back, or writes what it has no room for, as `put` does.
+    // It and what it calls are compiled into its callers, so that a text of known length is held back without a call.
+    #[inline(always)]
     fn put_later(&mut self, bytes: &[u8]) -> Result<(), Failed> {
         let result = write_whole(&mut self.buffer, bytes);
         count_fault(&mut self.faults, result)
@@ -146,6 +148,7 @@ pub fn count_fault<T>(faults: &mut u64, answer: Result<T, Failed>) -> Result<T, 
 
 /// Hands all the bytes to the writer. A write is made again where it was interrupted; one that takes none of the bytes
 /// is a fault, as any other error is.
+#[inline(always)]
 pub fn write_whole<W: Write>(writer: &mut W, bytes: &[u8]) -> Result<(), Failed>
     ensures { IfSome (W.contents writer.old) (λ before. Puts before bytes.now (W.contents writer.new) result) }
 {
@@ -160,6 +163,7 @@ pub fn write_whole<W: Write>(writer: &mut W, bytes: &[u8]) -> Result<(), Failed>
 }
 
 /// Writes some of the bytes. `None` where the writer failed or took none of them.
+#[inline(always)]
 fn write_once<W: Write>(writer: &mut W, bytes: &[u8]) -> Option<usize>
     ensures count { IfSome result (λ n. (0 < n) × (n ≤ length bytes.now)) }
     ensures some { IfSome result (λ n. IfSome (W.contents writer.old)
