@@ -10,8 +10,6 @@ mod empty_seats;
 mod halting;
 mod laws;
 mod names;
-#[cfg(test)]
-mod tests;
 
 pub use balance::{Move, balance_order};
 pub use empty_seats::{empty_seat_after, worst_seat};

@@ -13,8 +13,6 @@ mod fill;
 mod filling;
 mod laws;
 mod random;
-#[cfg(test)]
-mod tests;
 
 pub use checks::check_draw;
 pub use draws::draw;

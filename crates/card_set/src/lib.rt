@@ -10,8 +10,6 @@ mod deck;
 mod game;
 mod letters;
 mod spelling;
-#[cfg(test)]
-mod tests;
 
 pub use card::{Card, CardRow};
 pub use deck::Deck;

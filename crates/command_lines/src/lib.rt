@@ -23,6 +23,3 @@ pub use fault::Fault;
 pub use limits::{LAST_PORT, MOST_DESKS, PLAN_LIMIT};
 pub use service::Service;
 pub use words::command_words;
-
-#[cfg(test)]
-mod tests;

@@ -11,6 +11,3 @@ mod places;
 
 pub use laws::{a_player_and_the_board_have_other_cards, the_deal_takes_the_top_cards};
 pub use places::{board_place, hole_place};
-
-#[cfg(test)]
-mod tests;

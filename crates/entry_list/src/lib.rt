@@ -8,6 +8,3 @@
 mod entries;
 
 pub use entries::{EntryFault, EntryList};
-
-#[cfg(test)]
-mod tests;

@@ -11,8 +11,6 @@ mod acts;
 mod decks;
 mod laws;
 mod orders;
-#[cfg(test)]
-mod tests;
 
 pub use acts::sim_act;
 pub use decks::deck_of;

@@ -24,6 +24,3 @@ pub use event_writer::write_event;
 pub use item_reader::read_item;
 pub use report::{Report, ReportOut, ReportSeat};
 pub use report_writer::write_report;
-
-#[cfg(test)]
-mod tests;

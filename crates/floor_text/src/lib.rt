@@ -20,8 +20,6 @@ mod name;
 mod number;
 mod outside;
 mod refusal;
-#[cfg(test)]
-mod tests;
 
 pub use adapters::{BufferedSink, ReaderSource, WriterSink, count_fault, write_whole};
 pub use calls::Calls;

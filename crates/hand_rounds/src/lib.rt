@@ -7,7 +7,5 @@
 #![tactic(auto)]
 
 mod rounds;
-#[cfg(test)]
-mod tests;
 
 pub use rounds::{close_round, end_round, may_begin, may_close, may_switch, set_hands, switch};

@@ -10,8 +10,6 @@ mod checks;
 mod draft;
 mod line;
 mod plan;
-#[cfg(test)]
-mod tests;
 
 pub use bounds::{FEWEST_SEATS, GREATEST_AMOUNT, MOST_LEVELS, MOST_SHARES, WHOLE_POOL};
 pub use draft::PlanDraft;

@@ -21,6 +21,3 @@ pub use limits::MOST_MEMBERS;
 pub use line_writer::{Word, push_line, push_lines, push_words};
 pub use text::{WriteText, push_behind, push_each, push_joined, write_text};
 pub use words::{LineWords, is};
-
-#[cfg(test)]
-mod tests;

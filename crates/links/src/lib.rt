@@ -38,8 +38,6 @@ mod tape;
 mod tcp_door;
 mod tcp_hall;
 mod tcp_link;
-#[cfg(test)]
-mod tests;
 
 pub use door::Door;
 pub use hall::{Hall, HallFault};

@@ -11,8 +11,6 @@ mod limits;
 mod lines;
 mod plan_file;
 mod session_word;
-#[cfg(test)]
-mod tests;
 mod whole;
 mod words;
 

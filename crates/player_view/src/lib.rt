@@ -22,6 +22,3 @@ pub use floor::{floor_lines, push_floor_lines};
 pub use opening::push_opening;
 pub use teller::TableTeller;
 pub use view_rules::{JournalEntry, StackLine, TableEntry};
-
-#[cfg(test)]
-mod tests;

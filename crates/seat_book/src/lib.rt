@@ -9,8 +9,6 @@ mod place;
 mod seat_book;
 mod seated;
 mod table_status;
-#[cfg(test)]
-mod tests;
 
 pub use place::Place;
 pub use seat_book::SeatBook;

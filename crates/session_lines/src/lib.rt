@@ -10,8 +10,6 @@ mod limits;
 mod meaning;
 mod reply;
 mod request;
-#[cfg(test)]
-mod tests;
 
 pub use hello::Speaker;
 pub use limits::LONGEST_REPLY;

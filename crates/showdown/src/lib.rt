@@ -10,8 +10,6 @@ mod hand;
 mod in_turn;
 pub mod laws;
 mod live;
-#[cfg(test)]
-mod tests;
 mod winning;
 
 pub use awarding::award;

@@ -32,6 +32,3 @@ pub use laws::{
 };
 pub use record::{ActFault, ActOf, HandRecord};
 pub use start::{HandStart, StartSeat};
-
-#[cfg(test)]
-mod tests;

@@ -1,0 +1,9 @@
+//! The tests of hands, of the floor's director and of what players are told.
+#![tactic(auto)]
+
+#[cfg(test)]
+mod director;
+#[cfg(test)]
+mod hands;
+#[cfg(test)]
+mod views;
