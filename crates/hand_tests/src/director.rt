@@ -1,19 +1,14 @@
-ghost use Rattle.std.specs.Prelude.{◌≡◌, ◌+◌, ◌<◌, ◌^◌, true, [], ◌∷◌, IfOk};
-ghost use Rattle.card_set.specs.Decks.{IsDeck};
-ghost use Rattle.table_engine.specs.Starts.{is_playable_stack};
-
+use crate::dealt::two;
 use betting_round::Act;
-use button_blinds::Marks;
 use card_set::{Deck, Game, read_row};
 use floor_director::{deck_of, next_order, sim_act};
 use floor_events::Event;
-use floor_text::{List, Name};
-use level_plan::Blind;
+use floor_text::Name;
 use seat_book::{Place, SeatBook, TableStatus};
 use std::alloc::{AllocError, Global};
 use std::process::Abort;
 use std::test::Fail;
-use table_engine::{Hand, HandStart, StartSeat};
+use table_engine::Hand;
 
 /// A number as eight bytes, the least first, and 24 zero bytes.
 fn seed_of(number: u64) -> [u8; 32] {
@@ -317,68 +312,6 @@ fn drawn_decks(rt: HostRuntime) -> Result<(), Fail> {
     Ok(())
 }
 
-/// A name of one letter.
-fn name(letter: u8) -> Result<Name, Fail>
-    ensures { IfOk result (λ name. name ≡ letter ∷ []) }
-{
-    Ok(Name::read(&[letter]).ok_or("a name")?)
-}
-
-/// A player who is dealt in.
-fn player(number: u32, name: Name, seat: u8, stack: u64) -> StartSeat
-    ensures { result ≡ record { seat = seat; player = number; name = name; stack = stack } }
-{
-    StartSeat {
-        seat,
-        player: number,
-        name,
-        stack,
-    }
-}
-
-/// A hand of these players at a table of six at blinds of 100 and 200.
-fn start_of(seats: Vec<StartSeat>, marks: Marks, deck: Deck) -> HandStart
-    ensures seats { result.seats ≡ seats.items }
-    ensures table { result.seat_count ≡ 6 }
-    ensures marks { result.marks ≡ marks }
-    ensures deck { IsDeck result.deck }
-    ensures blind { result.blind ≡ record { small = 100; big = 200; unit = 100 } }
-{
-    HandStart {
-        table: 1,
-        serial: 1,
-        seats: List::from_vec(seats),
-        seat_count: 6,
-        marks,
-        blind: Blind {
-            small: 100,
-            big: 200,
-            unit: 100,
-        },
-        game: Game::Holdem,
-        deck,
-    }
-}
-
-/// A hand of a, who has the button and the small blind, and of b, who has the big blind and is dealt to first.
-fn two(alloc: Global, first: u64, second: u64) -> Result<Hand, Fail>
-    requires first { is_playable_stack 100 first ≡ true }
-    requires second { is_playable_stack 100 second ≡ true }
-    requires small { first + second < 2 ^ 53 }
-{
-    let seats = [
-        player(0, name(b'a')?, 1, first),
-        player(1, name(b'b')?, 4, second),
-    ];
-    let marks = Marks {
-        button: 1,
-        small: 1,
-        big: 4,
-    };
-    let start = start_of(Vec::from_array(alloc, seats)?, marks, Deck::sorted());
-    Ok(Hand::new(alloc, start).map_err(|_| "memory")?)
-}
-
 /// The act of who is due at a hand after these acts, by the seed 7 and this number.
 fn simulated(rt: &impl Abort, hand: Hand, acts: &[Act], k: u64) -> Result<Act, Fail> {
     let mut hand = hand;
@@ -436,7 +369,7 @@ fn simulated_acts(rt: HostRuntime) -> Result<(), Fail> {
         ),
     ];
     for (acts, k, wanted, why) in rows {
-        let hand = two(rt.alloc(), 3000, 1500)?;
+        let hand = two(rt.alloc(), Game::Holdem, Deck::sorted(), 3000, 1500)?;
         assert_eq!(rt; simulated(&rt, hand, acts, k)?, wanted, "{why}");
     }
     Ok(())

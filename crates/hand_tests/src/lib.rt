@@ -2,6 +2,8 @@
 #![tactic(auto)]
 
 #[cfg(test)]
+mod dealt;
+#[cfg(test)]
 mod director;
 #[cfg(test)]
 mod hands;

@@ -1,7 +1,7 @@
 -- The players are dealt in lawfully: each test of their list computes.
 use Rattle.std.proofs.Common.{◌≡◌, ◌∙◌, ℕ, List, [], ◌∷◌, arith, lit≤}
 use Rattle.table_engine.specs.declared.start.StartSeat.{StartSeat}
-use Rattle.hand_tests.proofs.hands.two.Goals as goal
+use Rattle.hand_tests.proofs.dealt.ten.Goals as goal
 
 -- A player by his number, the letter of his name, his seat and his stack.
 abbrev dealt : ℕ → ℕ → ℕ → ℕ → StartSeat
@@ -9,7 +9,9 @@ dealt number letter seat stack = record { seat = seat; player = number; name = l
 
 abbrev all_dealt : ℕ → ℕ → List StartSeat
 all_dealt first second =
-    dealt 0 97 1 first ∷ dealt 1 98 4 second ∷ []
+    dealt 0 97 1 first ∷ dealt 1 98 2 second ∷ dealt 2 99 3 first ∷ dealt 3 100 4 second ∷ dealt 4 101 5 first
+    ∷ dealt 5 102 6 second ∷ dealt 6 103 7 first ∷ dealt 7 104 8 second ∷ dealt 8 105 9 first ∷ dealt 9 106 10 second ∷
+    []
 
 pub new-requires : goal.new-requires
 new-requires c =
@@ -18,8 +20,24 @@ new-requires c =
     ∙ rw (
       c.player.ensures,
       c.player-2.ensures,
+      c.player-3.ensures,
+      c.player-4.ensures,
+      c.player-5.ensures,
+      c.player-6.ensures,
+      c.player-7.ensures,
+      c.player-8.ensures,
+      c.player-9.ensures,
+      c.player-10.ensures,
       c.in_ok-name.ensures,
       c.in_ok-name-2.ensures,
+      c.in_ok-name-3.ensures,
+      c.in_ok-name-4.ensures,
+      c.in_ok-name-5.ensures,
+      c.in_ok-name-6.ensures,
+      c.in_ok-name-7.ensures,
+      c.in_ok-name-8.ensures,
+      c.in_ok-name-9.ensures,
+      c.in_ok-name-10.ensures,
     ) in
     let start = c.start_of-start.ensures in
     record {

@@ -1,7 +1,7 @@
 -- The players are dealt in lawfully: each test of their list computes.
 use Rattle.std.proofs.Common.{◌≡◌, ◌∙◌, ℕ, List, [], ◌∷◌, arith, lit≤}
 use Rattle.table_engine.specs.declared.start.StartSeat.{StartSeat}
-use Rattle.hand_tests.proofs.director.two.Goals as goal
+use Rattle.hand_tests.proofs.dealt.two.Goals as goal
 
 -- A player by his number, the letter of his name, his seat and his stack.
 abbrev dealt : ℕ → ℕ → ℕ → ℕ → StartSeat
