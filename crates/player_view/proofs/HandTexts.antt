@@ -6,7 +6,7 @@ use Rattle.std.specs.Fmt.{decimal}
 use Rattle.std.specs.List.{flat_map}
 use Rattle.std.proofs.lemmas.Bool.{cases_Bool, lt-ltb}
 use Rattle.std.proofs.lemmas.Bool.Decides.{nat_tests}
-use Rattle.std.proofs.lemmas.List.{drop-map, length-map}
+use Rattle.std.proofs.lemmas.List.{drop_all, drop-map, length-map}
 use Rattle.betting_round.specs.declared.act.Done.{Done}
 use Rattle.card_set.specs.declared.card.Card.{Card}
 use Rattle.card_set.specs.Cards.{cards_text}
@@ -150,6 +150,18 @@ text-following table left_before who hand lawful play =
     ap (λ lines. table_text table shows ++ (table_text table lines ++ table_text table wins)) streets
     ∙ ap (λ rest. table_text table shows ++ rest) (sym (text-both table behind wins))
     ∙ sym (text-both table shows (behind ++ wins))
+
+-- Where a hand goes on, and no street has begun since so many could still begin, nothing follows.
+pub text-nothing : (table left_before : ℕ) (who : Viewer) (hand : HandTerms) → IsLawfulStart hand.start
+    → IsLawfulPlay hand → (streets_of hand).left ≡ left_before → is_over hand ≡ false
+    → [] ≡ table_text table (following_lines (length (open_by left_before)) (seen_hand who hand))
+text-nothing table left_before who hand lawful play same goes_on =
+    let hidden : is_shown_down hand ≡ false = rw goes_on refl in
+    let begun : drop (length (open_by left_before)) (open_by (streets_of hand).left) ≡ [] =
+    rw same (drop_all (length (open_by left_before)) (open_by left_before) (omega arith)) in
+    let streets = ap (λ opened_. table_text table (map StreetLine (map (opened hand.start) opened_))) (sym begun) in
+    (λ i. text-hidden table hand hidden i ++ (streets i ++ text-unwon table hand goes_on i))
+    ∙ text-following table left_before who hand lawful play
 
 -- The text of a hand that begins, part by part.
 pub text-opening : (table : ℕ) (who : Viewer) (hand : HandTerms)

@@ -17,7 +17,8 @@ use crate::winners::push_winners;
 use std::alloc::AllocError;
 use table_engine::Hand;
 
-/// Writes what follows the opening of a hand or an act. Before it so many streets could still begin.
+/// Writes what follows the opening of a hand or an act. Before it so many streets could still begin. Nothing follows
+/// most acts: no street begins, and the hand goes on.
 pub(crate) fn push_following(
     table: u8,
     left_before: u8,
@@ -33,7 +34,11 @@ pub(crate) fn push_following(
     ensures played { IsLawfulPlay hand.now }
 {
     let start = hand.start();
+    let left = hand.streets_left();
+    if left == left_before && !hand.is_over() {
+        return Ok(());
+    }
     push_showdown(table, hand, out)?;
-    push_streets(table, start, left_before, hand.streets_left(), out)?;
+    push_streets(table, start, left_before, left, out)?;
     push_winners(table, hand, out)
 }
