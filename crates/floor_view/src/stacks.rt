@@ -87,7 +87,7 @@ pub(crate) fn stacks_of_hand(
     ensures { IfOk result (λ stacks.
         stacks.items ≡ map (stack_now seats.now.players start.now.table) start.now.seats) }
 {
-    let mut stacks = Vec::new(alloc);
+    let mut stacks = Vec::with_capacity(alloc, start.seats.items().len())?;
     for player in start.seats.items() {
         stacks.push(stack_now(seats, start.table, player))?;
     }
@@ -122,7 +122,7 @@ fn push_slot(slot: Option<Seated>, stacks: &mut Vec<StackLine>) -> Result<(), Al
 fn stacks_in(alloc: Global, slots: &[Option<Seated>]) -> Result<Vec<StackLine>, AllocError>
     ensures { IfOk result (λ stacks. stacks.items ≡ map stack_at_rest (players_in slots.now)) }
 {
-    let mut stacks = Vec::new(alloc);
+    let mut stacks = Vec::with_capacity(alloc, slots.len())?;
     for slot in slots {
         push_slot(*slot, &mut stacks)?;
     }
