@@ -107,6 +107,7 @@ impl WriteText for Word<'_> {
 }
 
 /// Writes words with one space between each two. Where memory runs out, `out` has something behind what it had.
+#[inline(always)]
 pub fn push_words(out: &mut Vec<u8>, words: &[Word<'_>]) -> Result<(), AllocError>
     ensures ok { OnOk result (out.new.items ≡ out.old.items ++ join_with_byte 32 (map word_text words.now)) }
     ensures kept { Extends out.old.items out.new.items }
@@ -116,6 +117,7 @@ pub fn push_words(out: &mut Vec<u8>, words: &[Word<'_>]) -> Result<(), AllocErro
 
 /// Writes a line of words with one space between each two, and a line feed. Where memory runs out, `out` has
 /// something behind what it had.
+#[inline(always)]
 pub fn push_line(out: &mut Vec<u8>, words: &[Word<'_>]) -> Result<(), AllocError>
     ensures ok { OnOk result (out.new.items ≡ out.old.items ++ line_of_words (map word_text words.now)) }
     ensures kept { Extends out.old.items out.new.items }

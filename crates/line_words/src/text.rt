@@ -44,6 +44,7 @@ pub fn push_each<T: WriteText>(items: &[T], out: &mut Vec<u8>) -> Result<(), All
 
 /// Writes texts one after another, with a byte before each. Where memory runs out, `out` has something behind what it
 /// had.
+#[inline(always)]
 pub fn push_behind<T: WriteText>(
     between: u8,
     items: &[T],
@@ -61,6 +62,7 @@ pub fn push_behind<T: WriteText>(
 
 /// Writes texts one after another, with a byte between each two. Where memory runs out, `out` has something behind
 /// what it had.
+#[inline(always)]
 pub fn push_joined<T: WriteText>(
     between: u8,
     items: &[T],

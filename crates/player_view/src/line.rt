@@ -19,6 +19,7 @@ pub(crate) fn push_floor(out: &mut Vec<u8>) -> Result<(), AllocError>
 }
 
 /// Writes a line of the floor.
+#[inline(always)]
 pub(crate) fn push_floor_line(words: &[Word<'_>], out: &mut Vec<u8>) -> Result<(), AllocError>
     ensures ok { OnOk result (out.new.items
         ≡ out.old.items ++ (codes "# " ++ line_of_words (map word_text words.now))) }
@@ -29,6 +30,7 @@ pub(crate) fn push_floor_line(words: &[Word<'_>], out: &mut Vec<u8>) -> Result<(
 }
 
 /// Writes what lines of a table begin with.
+#[inline(always)]
 fn push_table(table: u8, out: &mut Vec<u8>) -> Result<(), AllocError>
     ensures ok { OnOk result (out.new.items ≡ out.old.items ++ (decimal table ++ codes ": ")) }
     ensures kept { Extends out.old.items out.new.items }
@@ -40,6 +42,7 @@ fn push_table(table: u8, out: &mut Vec<u8>) -> Result<(), AllocError>
 }
 
 /// Writes a line of a table.
+#[inline(always)]
 pub(crate) fn push_table_line(
     table: u8,
     words: &[Word<'_>],
