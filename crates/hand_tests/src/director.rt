@@ -272,8 +272,8 @@ fn are_letters(names: &[Name], letters: &[u8]) -> bool {
             .all(|(name, letter)| name.bytes() == [*letter].as_slice())
 }
 
-/// The orders of three were made once by a program in another language that knew nothing of this crate. It gave the 60
-/// orders of break_draw's tests, which `rand`'s own shuffle gave.
+/// The orders of three were made once by a program in another language that knew nothing of floor_director. It gave the
+/// 60 orders of break_draw's tests, which `rand`'s own shuffle gave.
 #[test]
 fn the_draw_of_a_break(rt: HostRuntime) -> Result<(), Fail> {
     let tables = [rests(&[1, 2]), rests(&[1, 2]), rests(&[1, 2, 3])];

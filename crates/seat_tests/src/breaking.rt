@@ -27,7 +27,7 @@ fn bytes_of(seed: Seed) -> [u8; 32] {
 
 /// The seed, the kind and the number of a draw, and the order of 1, 2 and so on after it. These were made once, by a
 /// program that calls the shuffle of `rand` directly, with `ChaCha20Rng::from_seed` of 32 bytes that it put together
-/// byte by byte; it knew nothing of this crate.
+/// byte by byte; it knew nothing of break_draw.
 const ORDERS: [(Seed, DrawKind, u64, &[u8]); 60] = [
     (Seed::Equal(3), DrawKind::Seats, 0, &[1, 2]),
     (Seed::Equal(11), DrawKind::Names, 1, &[2, 1, 3]),
