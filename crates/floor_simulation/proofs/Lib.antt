@@ -4,5 +4,6 @@ pub mod DrawnRows
 pub mod Followed
 pub mod WholeGames
 pub mod NextSteps
+pub mod NextActs
 pub mod PlanLines
 pub mod TextTold

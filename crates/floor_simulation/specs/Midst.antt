@@ -1,6 +1,8 @@
 -- A simulated tournament in its midst. This project's own.
-use Rattle.std.specs.Prelude.{◌≡◌, ◌≤◌, ◌+◌, ℕ, List, length, count_by}
-use Rattle.tournament_rules.specs.States.{State, run}
+use Rattle.std.specs.Prelude.{◌≡◌, ◌≤◌, ◌+◌, ℕ, true, false, List, length, count_by}
+use Rattle.std.specs.Option.{ForSome}
+use Rattle.table_engine.specs.Hands.{is_over}
+use Rattle.tournament_rules.specs.States.{State, hand_at, run}
 use Rattle.simulation_rules.specs.declared.place.SimPlace.{SimPlace}
 use Rattle.simulation_rules.specs.Course.{IsOnCourse}
 use Rattle.simulation_rules.specs.Effort.{effort}
@@ -24,3 +26,8 @@ pub record ComeToSame (seed : List ℕ) (one : State) (place : SimPlace) (hands 
       ≡ hands + count_by is_settle (events_left seed one place)
   pub lasts : other.accepted + length (events_left seed other place_there)
       ≡ one.accepted + length (events_left seed one place)
+
+-- Nobody is due in the hand at the table whose turn it is, where the tournament goes on and one is played there.
+abbrev pub IsUndue : State → SimPlace → Type 0
+IsUndue state place = ForSome state.play (λ play. play.book.stopped ≡ false
+    → ForSome (hand_at play place.table) (λ hand. is_over hand ≡ true))

@@ -87,7 +87,8 @@ impl Simulation {
         Ok(true)
     }
 
-    /// Takes the step that comes next, and tells whether the tournament is not at its end.
+    /// Takes the step that comes next, and tells whether the tournament is not at its end. No event is made of an act,
+    /// since most of what comes are acts.
     fn step(&mut self) -> Result<bool, AllocError>
         requires { IsInMidst self.old.tournament self.old.place self.old.hands }
         ensures midst { OnOk result (IsInMidst self.new.tournament self.new.place self.new.hands) }
@@ -98,6 +99,11 @@ impl Simulation {
         ensures end { result ≡ Ok false → events_left self.old.seed self.new.tournament self.new.place ≡ [] }
         ensures seed { self.new.seed ≡ self.old.seed }
     {
+        if let Some((name, act)) = self.next_act() {
+            let table = u64::from(self.place.table);
+            self.tournament.act(table, name, act)?;
+            return Ok(true);
+        }
         let step = self.next()?;
         self.take(&step)
     }

@@ -1,24 +1,28 @@
 //! What comes next in a simulated tournament.
 
-ghost use Rattle.std.specs.Prelude.{◌≡◌, ◌≤◌, ◌<◌, ◌+◌, ◌^◌, ℕ, false, nat_lt, length, Option, Some, None, find, IfOk, option_map};
+ghost use Rattle.std.specs.Prelude.{◌≡◌, ◌≤◌, ◌<◌, ◌+◌, ◌^◌, ℕ, false, nat_lt, length, Option, Some, None, find, IfSome, IfOk, option_map};
 ghost use Rattle.seat_book.specs.Counts.{table_numbers};
 ghost use Rattle.seat_book.specs.Places.{IsTableOf};
+ghost use Rattle.floor_events.specs.declared.event.Event.TheVariants as events;
 ghost use Rattle.tournament_rules.specs.Checks.{is_race_due};
 ghost use Rattle.tournament_rules.specs.States.{PlayState};
 ghost use Rattle.floor_director.specs.Orders.{next_order};
+ghost use Rattle.simulation_rules.specs.declared.step.SimStep.TheVariants.{Take};
 ghost use Rattle.simulation_rules.specs.Course.{IsOnCourse, IsUnderWay};
 ghost use Rattle.simulation_rules.specs.Places.{hand_played, next_round, next_table, tables_done};
 ghost use Rattle.simulation_rules.specs.Entrants.{entrants};
-ghost use Rattle.simulation_rules.specs.Steps.{after_table, after_tables, at_table, before_hand, in_hand, next_in_play, racing, simulated_next};
+ghost use Rattle.simulation_rules.specs.Steps.{after_table, after_tables, at_table, before_hand, next_in_play, racing, simulated_next};
+ghost use Rattle.floor_simulation.specs.Midst.{IsUndue};
 
 use crate::entrants::next_entry;
 use crate::simulation::Simulation;
+use betting_round::Act;
 use floor_book::Book;
 use floor_director::{deck_of, next_order, sim_act};
 use floor_events::Event;
+use floor_text::Name;
 use simulation_rules::{SimPlace, SimStep};
 use std::alloc::AllocError;
-use table_engine::Hand;
 
 /// The most hands of a simulated tournament.
 const MOST_HANDS: u64 = 20_000;
@@ -139,23 +143,6 @@ fn racing(book: &Book, seed: [u8; 32], number: u64, place: SimPlace) -> SimStep
     }
 }
 
-/// Gives what comes next in a hand: the act of the player who is due, or the settle.
-fn in_hand(hand: &Hand, seed: [u8; 32], number: u64, place: SimPlace) -> SimStep
-    ensures { result ≡ in_hand seed number place (Some hand.now) }
-{
-    let table = u64::from(place.table);
-    if hand.is_over() {
-        return SimStep::Take(Event::Settle { table }, hand_played(place));
-    }
-    let _start = hand.start();
-    let act = Event::Act {
-        table,
-        name: hand.due().unwrap(),
-        act: sim_act(seed, number, hand),
-    };
-    SimStep::Take(act, place)
-}
-
 /// Gives the hand that begins at a table, where it would be accepted, or what comes after the table's turn.
 fn hand_or_next(book: &Book, seed: [u8; 32], number: u64, place: SimPlace) -> SimStep
     requires round { place.round < 2 ^ 60 }
@@ -186,17 +173,19 @@ impl Simulation {
         }
     }
 
-    /// Gives what comes next at the turn of a table: orders, a hand, and what comes after it.
+    /// Gives what comes next at the turn of a table, but for an act: orders, a hand, its settle, and what follows.
     fn at_table(&self, book: &Book) -> Result<SimStep, AllocError>
         requires round { self.now.place.round < 2 ^ 60 }
         requires within { IsTableOf book.now.seating.table_count self.now.place.table }
         requires book { option_map (λ play. play.book) self.now.tournament.play ≡ Some book.now }
+        requires going { book.now.stopped ≡ false }
+        requires undue { IsUndue self.now.tournament self.now.place }
         ensures { IfOk result (λ step. (play : PlayState) → self.now.tournament.play ≡ Some play
             → step ≡ at_table self.now.seed self.now.tournament.accepted play self.now.place) }
     {
-        if let Some(hand) = self.tournament.hand(self.place.table) {
-            let number = self.tournament.accepted();
-            return Ok(in_hand(hand, self.seed, number, self.place));
+        if self.tournament.hand(self.place.table).is_some() {
+            let table = u64::from(self.place.table);
+            return Ok(SimStep::Take(Event::Settle { table }, hand_played(self.place)));
         }
         if self.place.played {
             return Ok(after_table(book, self.place));
@@ -204,11 +193,12 @@ impl Simulation {
         self.before_hand(book)
     }
 
-    /// Gives what comes next while the tournament is under way.
+    /// Gives what comes next while the tournament is under way, but for an act.
     fn next_under_way(&self, book: &Book) -> Result<SimStep, AllocError>
         requires book { option_map (λ play. play.book) self.now.tournament.play ≡ Some book.now }
         requires under_way { IsUnderWay book.now self.now.place }
         requires going { book.now.stopped ≡ false }
+        requires undue { IsUndue self.now.tournament self.now.place }
         ensures { IfOk result (λ step. (play : PlayState) → self.now.tournament.play ≡ Some play
             → step ≡ next_in_play self.now.seed self.now.tournament.accepted play self.now.place) }
     {
@@ -224,9 +214,27 @@ impl Simulation {
         self.at_table(book)
     }
 
-    /// Gives what comes next.
-    pub(crate) fn next(&self) -> Result<SimStep, AllocError>
+    /// Gives the name of the player who acts next and his act, where an act comes next: he is due in the hand at the
+    /// table whose turn it is.
+    pub(crate) fn next_act(&self) -> Option<(Name, Act)>
         requires { IsOnCourse self.now.tournament self.now.place }
+        ensures act { IfSome result (λ next. simulated_next self.now.seed self.now.tournament self.now.place
+            ≡ Take (events.Act self.now.place.table next.0 next.1) self.now.place) }
+        ensures none { result ≡ None → IsUndue self.now.tournament self.now.place }
+    {
+        if self.tournament.book()?.is_stopped() {
+            return None;
+        }
+        let hand = self.tournament.hand(self.place.table)?;
+        let name = hand.due()?;
+        let number = self.tournament.accepted();
+        Some((name, sim_act(self.seed, number, hand)))
+    }
+
+    /// Gives what comes next, where it is no act.
+    pub(crate) fn next(&self) -> Result<SimStep, AllocError>
+        requires course { IsOnCourse self.now.tournament self.now.place }
+        requires undue { IsUndue self.now.tournament self.now.place }
         ensures { IfOk result (λ step. step ≡ simulated_next self.now.seed self.now.tournament self.now.place) }
     {
         match self.tournament.book() {

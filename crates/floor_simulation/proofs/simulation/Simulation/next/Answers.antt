@@ -5,7 +5,7 @@ use Rattle.floor_simulation.proofs.simulation.Simulation.next.Goals as goal
 
 pub next_under_way-requires-clause-under_way : goal.next_under_way-requires-clause-under_way
 next_under_way-requires-clause-under_way c =
-    under_way-by c.args.self.now.tournament.play c.args.self.now.place c.in-Some.book.now c.requires.under_way
+    under_way-by c.args.self.now.tournament.play c.args.self.now.place c.in-Some.book.now c.requires.course.under_way
     (sym c.in-Some.ensures.book) (sym c.if-not-is_stopped.ensures)
 
 pub returns-in_default : goal.returns-in_default
