@@ -1,6 +1,6 @@
 //! What a simulated player does.
 
-ghost use Rattle.std.specs.Prelude.{◌≡◌, ◌<◌, ℕ, false, List, find, None, Some};
+ghost use Rattle.std.specs.Prelude.{◌≡◌, ◌<◌, ℕ, false, List, find, None, Some, IsSome, IfSome, is_none, option_map, unwrap_or};
 ghost use Rattle.betting_round.specs.Limits.{AreFewChips};
 ghost use Rattle.table_engine.specs.Hands.{due_name, is_over};
 ghost use Rattle.table_engine.specs.Acts.{refusal_of_act};
@@ -35,34 +35,47 @@ fn first_lawful(hand: &Hand, name: Name, acts: &[Act]) -> Option<Act>
     acts.iter().copied().find(|act| is_lawful(hand, name, *act))
 }
 
-/// Gives the first lawful act of the list that a number chooses, if it has one.
-fn first_listed(hand: &Hand, name: Name, number: u32, facing: Facing) -> Option<Act>
+/// Gives the first lawful act of the list that a number chooses, where one is. The last of a list is lawful where no
+/// other is, so it is not asked.
+fn first_listed(hand: &Hand, name: Name, number: u32, facing: Facing) -> Act
     requires { AreFewChips facing }
-    ensures { result ≡ find (is_lawful_act hand.now name) (listed_acts number facing.level facing.full) }
+    ensures { IsSome (find (is_lawful_act hand.now name) (listed_acts number facing.level facing.full))
+        → find (is_lawful_act hand.now name) (listed_acts number facing.level facing.full) ≡ Some result }
 {
     if number == 0 {
-        first_lawful(hand, name, &[Act::AllIn, Act::Call, Act::Check])
+        first_lawful(hand, name, &[Act::AllIn, Act::Call]).unwrap_or(Act::Check)
     } else if number <= 2 {
         let raise = Act::Raise(facing.level + facing.full);
         let bet = Act::Bet(facing.full);
-        first_lawful(hand, name, &[raise, bet, Act::Call, Act::Check])
+        first_lawful(hand, name, &[raise, bet, Act::Call]).unwrap_or(Act::Check)
     } else if number <= 7 {
-        first_lawful(hand, name, &[Act::Call, Act::Check])
+        first_lawful(hand, name, &[Act::Call]).unwrap_or(Act::Check)
     } else {
-        first_lawful(hand, name, &[Act::Check, Act::Fold])
+        first_lawful(hand, name, &[Act::Check]).unwrap_or(Act::Fold)
     }
 }
 
-/// Chooses the act of the player who is due, by the seed and the number of the draw: the first lawful act of the list
-/// that the drawn number chooses. So it is never refused. It takes no memory.
+/// Gives the name of the player who is due and his act, by the seed and the number of the draw: the first lawful act of
+/// the list that the drawn number chooses. So it is never refused. `None` exactly where the hand is over. It takes no
+/// memory.
+pub fn sim_turn(seed: [u8; 32], k: u64, hand: &Hand) -> Option<(Name, Act)>
+    ensures name { option_map (λ turn. turn.0) result ≡ due_name hand.now }
+    ensures act { IfSome result (λ turn. turn.1 ≡ simulated_act seed k hand.now) }
+    ensures nobody { is_none result ≡ is_over hand.now }
+    ensures lawful { IfSome result (λ turn. refusal_of_act hand.now turn.0 turn.1 ≡ None) }
+{
+    // Whose start is lawful has one player of each name, so who is due is found by his.
+    let _start = hand.start();
+    let facing = hand.facing()?;
+    let name = hand.due()?;
+    Some((name, first_listed(hand, name, act_number(seed, k), facing)))
+}
+
+/// Chooses the act of the player who is due, as `sim_turn` does, so it is never refused. It takes no memory.
 pub fn sim_act(seed: [u8; 32], k: u64, hand: &Hand) -> Act
     requires { is_over hand.now ≡ false }
     ensures act { result ≡ simulated_act seed k hand.now }
     ensures lawful { (name : List ℕ) → due_name hand.now ≡ Some name → refusal_of_act hand.now name result ≡ None }
 {
-    // Whose start is lawful has one player of each name, so who is due is found by his.
-    let _start = hand.start();
-    let facing = hand.facing().unwrap();
-    let name = hand.due().unwrap();
-    first_listed(hand, name, act_number(seed, k), facing).unwrap()
+    sim_turn(seed, k, hand).unwrap().1
 }
