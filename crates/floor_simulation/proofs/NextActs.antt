@@ -1,8 +1,9 @@
 -- An act comes next where somebody is due in the hand at the table whose turn it is.
-use Rattle.std.proofs.Common.{◌≡◌, ◌∙◌, refl, ap, ℕ, true, false, List, length, Option, Some, None, inr, arith}
-use Rattle.std.specs.Prelude.{nat_lt}
+use Rattle.std.proofs.Common.{◌≡◌, ◌∙◌, refl, sym, ap, ℕ, true, false, List, length, Option, Some, None, inr, arith}
+use Rattle.std.specs.Prelude.{nat_lt, is_none, option_map, IfSome}
 use Rattle.std.specs.Option.{ForSome, option_and_then, option_map_or}
 use Rattle.std.proofs.lemmas.Bool.{false_from_ne_true, ltb-true}
+use Rattle.betting_round.specs.declared.act.Act.{Act as PlayerAct}
 use Rattle.table_engine.specs.Hands.{HandTerms, due_name, is_over}
 use Rattle.floor_events.specs.declared.event.Event.TheVariants.{Act}
 use Rattle.floor_director.specs.SimulatedActs.{simulated_act}
@@ -26,24 +27,37 @@ all-entered book place way plays = false_from_ne_true (nat_lt (length book.entri
     let first = ap (λ (place : SimPlace). place.round) entering.first in
     omega (arith, own, begun, first))
 
-module _ (seed : List ℕ) (number : ℕ) (place : SimPlace) (hand : HandTerms) (name : List ℕ) (going : is_over hand ≡ false)
-    (due : due_name hand ≡ Some name) where
-  -- At the turn of a table who is due in its hand acts.
-  table-acts : (play : PlayState) → is_playing play.book place.table ≡ true → hand_at play place.table ≡ Some hand
-      → at_table seed number play place ≡ Take (Act place.table name (simulated_act seed number hand)) place
-  table-acts play plays is = rw (plays, is, going, due) refl
+module _ (seed : List ℕ) (number : ℕ) (place : SimPlace) (hand : HandTerms) (name : List ℕ) (act : PlayerAct)
+    (going : is_over hand ≡ false) (due : due_name hand ≡ Some name) (chosen : act ≡ simulated_act seed number hand)
+  where
+    -- At the turn of a table who is due in its hand acts.
+    table-acts : (play : PlayState) → is_playing play.book place.table ≡ true → hand_at play place.table ≡ Some hand
+        → at_table seed number play place ≡ Take (Act place.table name act) place
+    table-acts play plays is = rw (plays, is, going, due, chosen) refl
 
-  -- That act comes next.
-  pub next-acts : (found : Option PlayState) (book : BookState)
-      → ForSome found (λ play. play.book.stopped ≡ false → IsUnderWay play.book place) → book_in found ≡ Some book
-      → book.stopped ≡ false → option_map_or (λ play. is_playing play.book place.table) found false ≡ true
-      → option_and_then (λ play. hand_at play place.table) found ≡ Some hand
-      → option_map_or (λ play. next_in_play seed number play place) found End
-      ≡ Take (Act place.table name (simulated_act seed number hand)) place
-  next-acts None book course has goes plays is = absurd cc
-  next-acts (Some play) book course has goes plays is =
-      let same : play.book ≡ book = cc in
-      let on = ap (λ (book : BookState). book.stopped) same ∙ goes in
-      let way = course play refl on in
-      next-turns seed number play place on (all-entered play.book place way plays) (way.turn place.table plays).done
-      ∙ table-acts play plays is
+    -- His act comes next.
+    acts-next : (found : Option PlayState) (book : BookState)
+        → ForSome found (λ play. play.book.stopped ≡ false → IsUnderWay play.book place) → book_in found ≡ Some book
+        → book.stopped ≡ false → option_map_or (λ play. is_playing play.book place.table) found false ≡ true
+        → option_and_then (λ play. hand_at play place.table) found ≡ Some hand
+        → option_map_or (λ play. next_in_play seed number play place) found End ≡ Take (Act place.table name act) place
+    acts-next None book course has goes plays is = absurd cc
+    acts-next (Some play) book course has goes plays is =
+        let same : play.book ≡ book = cc in
+        let on = ap (λ (book : BookState). book.stopped) same ∙ goes in
+        let way = course play refl on in
+        next-turns seed number play place on (all-entered play.book place way plays) (way.turn place.table plays).done
+        ∙ table-acts play plays is
+
+-- Where somebody is due in the hand at the table whose turn it is, his act comes next.
+pub turn-next : (seed : List ℕ) (number : ℕ) (place : SimPlace) (hand : HandTerms) (turn : Option (List ℕ × PlayerAct))
+    (found : Option PlayState) (book : BookState) → option_map (λ turn. turn.0) turn ≡ due_name hand
+    → IfSome turn (λ turn. turn.1 ≡ simulated_act seed number hand) → is_none turn ≡ is_over hand
+    → ForSome found (λ play. play.book.stopped ≡ false → IsUnderWay play.book place) → book_in found ≡ Some book
+    → book.stopped ≡ false → option_map_or (λ play. is_playing play.book place.table) found false ≡ true
+    → option_and_then (λ play. hand_at play place.table) found ≡ Some hand
+    → IfSome turn (λ turn. option_map_or (λ play. next_in_play seed number play place) found End
+    ≡ Take (Act place.table turn.0 turn.1) place)
+turn-next seed number place hand None found book named chosen over course has goes plays is = tt
+turn-next seed number place hand (Some (name, act)) found book named chosen over course has goes plays is =
+    acts-next seed number place hand name act (sym over) (sym named) chosen found book course has goes plays is

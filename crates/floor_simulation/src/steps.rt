@@ -18,7 +18,7 @@ use crate::entrants::next_entry;
 use crate::simulation::Simulation;
 use betting_round::Act;
 use floor_book::Book;
-use floor_director::{deck_of, next_order, sim_act};
+use floor_director::{deck_of, next_order, sim_turn};
 use floor_events::Event;
 use floor_text::Name;
 use simulation_rules::{SimPlace, SimStep};
@@ -226,9 +226,7 @@ impl Simulation {
             return None;
         }
         let hand = self.tournament.hand(self.place.table)?;
-        let name = hand.due()?;
-        let number = self.tournament.accepted();
-        Some((name, sim_act(self.seed, number, hand)))
+        sim_turn(self.seed, self.tournament.accepted(), hand)
     }
 
     /// Gives what comes next, where it is no act.
