@@ -19,14 +19,21 @@ lesser() { python3 -c "print(min($1, ${2:-$1}))"; }
 replay() { "$program" replay < "$1" > "$work/out"; }
 stock() { LC_ALL=C sed "s/.*/$2/" < "$1" > "$work/stock"; }
 
-# how much memory replay takes at its peak over a file, in KiB, or the words that are given behind it
+# how much memory replay takes at its peak over a file, in KiB, or the words that are given behind it: read while it runs,
+# since what the system says of a child at its end counts the memory of whoever began it
 peak() {
     python3 - "$program" "$@" <<'PEAK'
-import resource, subprocess, sys
+import re, subprocess, sys, time
 program, path, *words = sys.argv[1:]
+most = 0
 with open(path, "rb") as source:
-    subprocess.run([program, *(words or ["replay"])], stdin=source, stdout=subprocess.DEVNULL, check=True)
-print(resource.getrusage(resource.RUSAGE_CHILDREN).ru_maxrss)
+    run = subprocess.Popen([program, *(words or ["replay"])], stdin=source, stdout=subprocess.DEVNULL)
+while run.poll() is None:
+    with open(f"/proc/{run.pid}/status") as status:
+        found = re.search(r"VmHWM:\s+(\d+)", status.read())
+    most = int(found[1]) if found else most
+    time.sleep(0.001)
+sys.exit(run.returncode or print(most))
 PEAK
 }
 
