@@ -1,5 +1,6 @@
 pub mod DrawnDecks
 pub mod SimulatedActs
+pub mod Passive
 pub mod FirstTables
 pub mod NextOrders
 pub mod OwedChecks

@@ -3,3 +3,4 @@ pub mod SimulatedActs
 pub mod Orders
 pub mod Owed
 pub mod Spread
+pub mod Passive

@@ -1,10 +1,12 @@
 //! What a simulated player does.
 
-ghost use Rattle.std.specs.Prelude.{◌≡◌, ◌<◌, ℕ, false, List, find, None, Some, IsSome, IfSome, is_none, option_map, unwrap_or};
+ghost use Rattle.std.specs.Prelude.{◌≡◌, ◌<◌, ℕ, ◌==◌, nat_lt, false, List, find, None, Some, IfSome, is_none, option_map, if◌then◌else◌};
+ghost use Rattle.betting_round.specs.declared.act.Act.TheVariants as acts;
 ghost use Rattle.betting_round.specs.Limits.{AreFewChips};
 ghost use Rattle.table_engine.specs.Hands.{due_name, is_over};
 ghost use Rattle.table_engine.specs.Acts.{refusal_of_act};
 ghost use Rattle.floor_director.specs.SimulatedActs.{act_number, is_lawful_act, listed_acts, simulated_act};
+ghost use Rattle.floor_director.specs.Passive.{MayGoOn};
 
 use betting_round::{Act, Facing};
 use break_draw::{DrawKind, generator};
@@ -35,23 +37,45 @@ fn first_lawful(hand: &Hand, name: Name, acts: &[Act]) -> Option<Act>
     acts.iter().copied().find(|act| is_lawful(hand, name, *act))
 }
 
-/// Gives the first lawful act of the list that a number chooses, where one is. The last of a list is lawful where no
-/// other is, so it is not asked.
+/// Gives what a player does who neither bets nor raises: he calls, or checks where he has put in just the bet level.
+fn call_or_check(facing: &Facing) -> Act
+    ensures { result ≡ (if facing.now.put == facing.now.level then acts.Check else acts.Call) }
+{
+    if facing.put == facing.level {
+        Act::Check
+    } else {
+        Act::Call
+    }
+}
+
+/// Gives what a player does who puts nothing in: he checks, or folds where he has put in less than the bet level.
+fn check_or_fold(facing: &Facing) -> Act
+    ensures { result ≡ (if nat_lt facing.now.put facing.now.level then acts.Fold else acts.Check) }
+{
+    if facing.put < facing.level {
+        Act::Fold
+    } else {
+        Act::Check
+    }
+}
+
+/// Gives the first lawful act of the list that a number chooses. Whether he may go all-in, raise or bet is asked of the
+/// hand, and all else he is told by what he faces.
 fn first_listed(hand: &Hand, name: Name, number: u32, facing: Facing) -> Act
-    requires { AreFewChips facing }
-    ensures { IsSome (find (is_lawful_act hand.now name) (listed_acts number facing.level facing.full))
-        → find (is_lawful_act hand.now name) (listed_acts number facing.level facing.full) ≡ Some result }
+    requires few { AreFewChips facing }
+    requires due { MayGoOn hand.now name facing }
+    ensures { find (is_lawful_act hand.now name) (listed_acts number facing.level facing.full) ≡ Some result }
 {
     if number == 0 {
-        first_lawful(hand, name, &[Act::AllIn, Act::Call]).unwrap_or(Act::Check)
+        first_lawful(hand, name, &[Act::AllIn]).unwrap_or(call_or_check(&facing))
     } else if number <= 2 {
         let raise = Act::Raise(facing.level + facing.full);
         let bet = Act::Bet(facing.full);
-        first_lawful(hand, name, &[raise, bet, Act::Call]).unwrap_or(Act::Check)
+        first_lawful(hand, name, &[raise, bet]).unwrap_or(call_or_check(&facing))
     } else if number <= 7 {
-        first_lawful(hand, name, &[Act::Call]).unwrap_or(Act::Check)
+        call_or_check(&facing)
     } else {
-        first_lawful(hand, name, &[Act::Check]).unwrap_or(Act::Fold)
+        check_or_fold(&facing)
     }
 }
 

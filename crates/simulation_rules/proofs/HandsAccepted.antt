@@ -1,21 +1,23 @@
 -- A simulated act is accepted while the hand goes on, and a settle once it is over.
 use Rattle.std.proofs.Common.{◌≡◌, ◌∙◌, refl, sym, ap, subst, ℕ, Bool, true, false, List, [], Option, Some, None}
-use Rattle.std.specs.Prelude.{IsSome, find, unwrap_or}
+use Rattle.std.specs.Prelude.{IsSome, find, option_map, unwrap_or}
 use Rattle.rulebook.proofs.Found.{none-by_test}
 use Rattle.rulebook.proofs.Tests.{find-passes, some_there}
 use Rattle.betting_round.specs.declared.act.Act.{Act}
 use Rattle.betting_round.specs.declared.act.Act.TheVariants.{Fold}
+use Rattle.betting_round.specs.ActChecks.{facing_in}
 use Rattle.table_engine.specs.Acts.{refusal_of_act}
-use Rattle.table_engine.specs.Hands.{HandTerms, due_name, is_over, street_of}
+use Rattle.table_engine.specs.Hands.{HandTerms, due_in_hand, due_name, is_over, street_of}
 use Rattle.table_engine.specs.Starts.{IsLawfulStart}
 use Rattle.table_engine.proofs.TurnLaws.{due-somebody}
 use Rattle.floor_events.specs.declared.event.Event.TheVariants as events
 use Rattle.floor_director.specs.SimulatedActs.{act_number, is_lawful_act, listed_acts, simulated_act}
-use Rattle.floor_director.proofs.SimulatedActs.{due-lawful}
+use Rattle.floor_director.proofs.SimulatedActs.{due-goes_on}
 use Rattle.tournament_rules.specs.States.{PlayState, hand_at, refusal_of}
 use Rattle.tournament_rules.specs.Valid.{IsValidPlay}
 use Rattle.tournament_rules.proofs.Acting.{acts_freely, settle_free, started_at}
 use Rattle.tournament_rules.proofs.Passed.{refusal-parts}
+use Rattle.simulation_rules.proofs.ListedActs.{listed-found}
 
 -- what is found passes, and so does it with another in the place of none
 passes-found : (test : Act → Bool) (acts : List Act) (other : Act) → IsSome (find test acts)
@@ -25,6 +27,19 @@ passes-found test acts other some =
     let same : unwrap_or (find test acts) other ≡ found.0 =
     ap (λ (act : Option Act). unwrap_or act other) found.1 in
     ap test same ∙ find-passes test acts found.0 found.1
+
+-- One act of each list is lawful for the player who is due.
+due-lawful : (hand : HandTerms) (name : List ℕ) (number level full : ℕ) → IsLawfulStart hand.start
+    → due_name hand ≡ Some name → IsSome (find (is_lawful_act hand name) (listed_acts number level full))
+due-lawful hand name number level full lawful called = by_due (due_in_hand hand) refl
+  where
+    by_due : (due : Option ℕ) → due_in_hand hand ≡ due
+        → IsSome (find (is_lawful_act hand name) (listed_acts number level full))
+    by_due None is = let none : None ≡ Some name = rw is at called in absurd cc
+    by_due (Some seat) is =
+        let facing = facing_in (street_of hand) seat in
+        let faces : option_map (facing_in (street_of hand)) (due_in_hand hand) ≡ Some facing = rw is refl in
+        listed-found hand name facing (due-goes_on hand name facing lawful called faces) number level full
 
 -- No check refuses the simulated act of the player who is due.
 simulated-free : (seed : List ℕ) (number : ℕ) (hand : HandTerms) (name : List ℕ) → IsLawfulStart hand.start

@@ -3,6 +3,7 @@ pub mod EntryRoom
 pub mod EntriesAccepted
 pub mod DrawnRows
 pub mod OrdersAccepted
+pub mod ListedActs
 pub mod HandsAccepted
 pub mod LevelsAccepted
 pub mod Accepted
