@@ -1,6 +1,6 @@
 -- The players of a start by their seats, and numbers of them in the one order and in the other.
 use Rattle.std.proofs.Common.{◌≡◌, ◌∙◌, ℕ, zero, suc, ◌+◌, ◌-◌, ◌≤◌, ◌<◌, true, false, cond, List, [], ◌∷◌, length, map, Some, None, refl, ap, ap₂, sym, inl, inr, arith}
-use Rattle.std.specs.Prelude.{Option, ◌==◌, ◌&&◌, find, nat_le, nat_lt, option_map, slice_index_or, sum_by}
+use Rattle.std.specs.Prelude.{Option, ◌==◌, ◌&&◌, find, nat_le, nat_lt, slice_index_or, sum_by}
 use Rattle.std.specs.List.{list_all}
 use Rattle.std.specs.Option.{is_some, option_map_or}
 use Rattle.std.proofs.Math.Nat.{zero-add}
@@ -18,7 +18,7 @@ use Rattle.betting_round.specs.WhoIsDue.{player_at, player_in}
 use Rattle.table_engine.specs.declared.start.HandStart.{HandStart}
 use Rattle.table_engine.specs.declared.start.StartSeat.{StartSeat}
 use Rattle.table_engine.specs.Starts.{IsLawfulStart}
-use Rattle.table_engine.specs.Hands.{name_in_seat, player_of, players_by_seat}
+use Rattle.table_engine.specs.Hands.{player_of, players_by_seat}
 
 -- The player of a list who sits at a seat.
 abbrev at_seat : List StartSeat → ℕ → Option StartSeat
@@ -68,16 +68,15 @@ found-at all (player ∷ players) zero other found within = found.0
 found-at all (player ∷ players) (suc index) other found within =
     found-at all players index other found.1 (omega arith)
 
--- In a lawful start the name in the seat of who is listed at an index is his.
-pub name-at : (start : HandStart) (index seat : ℕ) (one other : StartSeat) → IsLawfulStart start
+-- In a lawful start the player in the seat of who is listed at an index is himself.
+pub player-at : (start : HandStart) (index seat : ℕ) (one other : StartSeat) → IsLawfulStart start
     → index < length start.seats
     → (slice_index_or start.seats index one).seat ≡ seat
-    → name_in_seat start seat ≡ Some (slice_index_or start.seats index other).name
-name-at start index seat one other lawful within sits =
-    ap (λ (n : ℕ). name_in_seat start n) (sym sits)
-    ∙ ap (option_map (λ (player : StartSeat). player.name))
-    (found-at start.seats start.seats index one (found-all start lawful) within)
-    ∙ ap (λ (player : StartSeat). Some player.name) (get_or_default start.seats index one other within)
+    → player_of start seat ≡ Some (slice_index_or start.seats index other)
+player-at start index seat one other lawful within sits =
+    ap (λ (n : ℕ). player_of start n) (sym sits)
+    ∙ found-at start.seats start.seats index one (found-all start lawful) within
+    ∙ ap Some (get_or_default start.seats index one other within)
 
 -- Nobody in a higher seat sits in this one.
 nobody-higher : (seat : ℕ) (players : List StartSeat)

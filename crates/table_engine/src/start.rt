@@ -1,7 +1,8 @@
 //! How a hand starts.
 
 ghost use Rattle.std.specs.Prelude.{◌≡◌, ◌≤◌, Some, IsTrue, IfOk};
-ghost use Rattle.table_engine.specs.Hands.{blind_of, name_in_seat, posted, seat_of_name};
+ghost use Rattle.std.specs.Option.{option_copied};
+ghost use Rattle.table_engine.specs.Hands.{blind_of, name_in_seat, player_of, posted, seat_of_name};
 ghost use Rattle.table_engine.specs.Results.{with_stack};
 ghost use Rattle.table_engine.specs.Starts.{IsLawfulStart};
 
@@ -103,29 +104,35 @@ impl HandStart {
             .map(|player| player.seat)
     }
 
-    /// Gives the name of the player in this seat.
-    pub(crate) fn name_in_seat(&self, seat: u8) -> Option<Name>
-        ensures { result ≡ name_in_seat self.now seat }
-    {
-        let mut seats = self.seats.items().iter();
-        seats
-            .find(|player| player.seat == seat)
-            .map(|player| player.name)
-    }
-
-    /// Tells whether the player in this seat has this name. Where all seats before his are taken he is listed at the
-    /// seat's own index, and then there is no search.
-    pub(crate) fn has_in_seat(&self, seat: u8, name: Name) -> bool
+    /// Gives the player who sits in this seat. Where all seats before his are taken he is listed at the seat's own
+    /// index, and then there is no search.
+    fn in_seat(&self, seat: u8) -> Option<&StartSeat>
         requires { IsLawfulStart self.now }
-        ensures { IsTrue result → name_in_seat self.now seat ≡ Some name }
+        ensures { option_copied result ≡ player_of self.now seat }
     {
         let seats = self.seats.items();
         let index = usize::from(seat.saturating_sub(1));
         if index < seats.len() && seats[index].seat == seat {
-            return seats[index].name == name;
+            return Some(&seats[index]);
         }
-        match self.name_in_seat(seat) {
-            Some(found) => found == name,
+        seats.iter().find(|player| player.seat == seat)
+    }
+
+    /// Gives the name of the player in this seat.
+    pub(crate) fn name_in_seat(&self, seat: u8) -> Option<Name>
+        requires { IsLawfulStart self.now }
+        ensures { result ≡ name_in_seat self.now seat }
+    {
+        Some(self.in_seat(seat)?.name)
+    }
+
+    /// Tells whether the player in this seat has this name.
+    pub(crate) fn has_in_seat(&self, seat: u8, name: Name) -> bool
+        requires { IsLawfulStart self.now }
+        ensures { IsTrue result → name_in_seat self.now seat ≡ Some name }
+    {
+        match self.in_seat(seat) {
+            Some(player) => player.name == name,
             None => false,
         }
     }
