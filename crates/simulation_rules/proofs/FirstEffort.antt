@@ -1,14 +1,11 @@
 -- How many steps a simulated tournament may take at most, as it begins.
-use Rattle.std.proofs.Common.{◌≡◌, refl, ap, ℕ, zero, suc, ◌+◌, ◌-◌, ◌*◌, ◌≤◌, true, false, get_or, arith}
+use Rattle.std.proofs.Common.{◌≡◌, refl, ap, ℕ, zero, suc, ◌+◌, ◌*◌, ◌≤◌, true, false, get_or, arith}
 use Rattle.std.specs.Prelude.{if◌then◌else◌, replicate, Bool, Option, option_map}
 use Rattle.std.proofs.lemmas.List.{length-replicate}
 use Rattle.std.proofs.lemmas.List.Sums.{count_by-le-length}
 use Rattle.std.proofs.lemmas.Nat.{mul-le}
-use Rattle.rulebook.proofs.Walks.{length-walk}
 use Rattle.level_plan.specs.Plans.{PlanTerms, is_right}
-use Rattle.seat_book.specs.Counts.{is_open, table_numbers}
 use Rattle.seat_book.specs.Tables.{fresh_status}
-use Rattle.floor_director.proofs.Spreading.{spread-few}
 use Rattle.table_engine.specs.declared.start.HandStart.{HandStart}
 use Rattle.tournament_rules.specs.Checks.{is_playing}
 use Rattle.tournament_rules.specs.Effects.{first_book, first_status}
@@ -16,7 +13,7 @@ use Rattle.tournament_rules.specs.States.{acts_at, first_play, hand_at}
 use Rattle.tournament_rules.specs.Units.{is_due}
 use Rattle.tournament_rules.proofs.Entries.{right_has, start_none, valid_first}
 use Rattle.simulation_rules.proofs.OwedOrders.{orders-few}
-use Rattle.simulation_rules.specs.Effort.{effort_in_play, effort_of_entries, effort_of_hand, effort_of_hands, effort_of_levels, effort_of_orders, effort_of_places, most_acts, most_chips, open_tables}
+use Rattle.simulation_rules.specs.Effort.{effort_in_play, effort_of_entries, effort_of_hand, effort_of_hands, effort_of_levels, effort_of_orders, effort_of_places, most_acts, most_chips}
 use Rattle.simulation_rules.specs.Places.{first_place}
 
 -- At no table a hand is played.

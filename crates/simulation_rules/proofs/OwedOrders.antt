@@ -1,6 +1,6 @@
 -- Orders that are owed come to an end.
-use Rattle.std.proofs.Common.{◌≡◌, ℕ, ◌<◌, ◌≤◌, ap, false, List, length, arith}
-use Rattle.std.specs.Prelude.{Option, Some, None, count_by, is_none}
+use Rattle.std.proofs.Common.{◌≡◌, ℕ, ◌<◌, ◌≤◌, ap, false, List, arith}
+use Rattle.std.specs.Prelude.{Option, Some, None, is_none}
 use Rattle.std.specs.Option.{option_map_or}
 use Rattle.std.proofs.lemmas.List.Sums.{count_by-le-length}
 use Rattle.rulebook.proofs.Walks.{length-walk}
