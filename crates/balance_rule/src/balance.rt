@@ -14,7 +14,7 @@ use floor_text::Refusal;
 use seat_book::{Place, SeatBook};
 
 /// The move of a player from his place to another.
-#[derive(Clone, Copy, Debug, PartialEq, Eq)]
+#[derive(Clone, Copy, PartialEq, Eq)]
 pub struct Move {
     /// The player's number.
     pub player: u32,

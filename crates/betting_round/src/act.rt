@@ -1,7 +1,7 @@
 //! What a player does on his turn.
 
 /// An act of a player. Amounts are in chips.
-#[derive(Clone, Copy, Debug, PartialEq, Eq)]
+#[derive(Clone, Copy, PartialEq, Eq)]
 pub enum Act {
     /// Gives the hand up: he is no longer live.
     Fold,
@@ -18,7 +18,7 @@ pub enum Act {
 }
 
 /// What an act came to. Amounts are in chips.
-#[derive(Clone, Copy, Debug, PartialEq, Eq)]
+#[derive(Clone, Copy, PartialEq, Eq)]
 pub enum Done {
     /// He folded.
     Folded,

@@ -4,7 +4,7 @@ ghost use Rattle.std.specs.Prelude.{◌≡◌, map, option_map};
 ghost use Rattle.betting_round.specs.StreetActs.{at_next_street};
 
 /// A player on a street.
-#[derive(Clone, Copy, Debug, PartialEq, Eq)]
+#[derive(Clone, Copy, PartialEq, Eq)]
 pub struct Bettor {
     /// What he has put in on this street, in chips.
     pub put: u64,
@@ -17,7 +17,7 @@ pub struct Bettor {
 }
 
 /// A player on a street, and whether he has acted on it. Posting is no act.
-#[derive(Clone, Copy, Debug, PartialEq, Eq)]
+#[derive(Clone, Copy, PartialEq, Eq)]
 pub struct Player {
     pub bettor: Bettor,
     pub acted: bool,

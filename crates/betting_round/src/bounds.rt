@@ -44,7 +44,7 @@ fn is_reopened(facing: &Facing) -> bool
 }
 
 /// No-limit: a player may bet all that he has.
-#[derive(Clone, Copy, Debug, PartialEq, Eq)]
+#[derive(Clone, Copy, PartialEq, Eq)]
 pub struct NoLimit;
 
 impl Bounds for NoLimit {
@@ -64,7 +64,7 @@ impl Bounds for NoLimit {
 }
 
 /// Pot-limit: a player may raise by what the pot holds once he has called.
-#[derive(Clone, Copy, Debug, PartialEq, Eq)]
+#[derive(Clone, Copy, PartialEq, Eq)]
 pub struct PotLimit;
 
 impl Bounds for PotLimit {

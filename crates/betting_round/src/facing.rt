@@ -1,7 +1,7 @@
 //! What a player faces.
 
 /// What a player faces on a street, all in chips.
-#[derive(Clone, Copy, Debug, PartialEq, Eq)]
+#[derive(Clone, Copy, PartialEq, Eq)]
 pub struct Facing {
     /// The bet level: what has to be met on this street.
     pub level: u64,

@@ -18,7 +18,7 @@ use std::marker::Model;
 
 /// One street. Contracts see it as it stands: who plays with how much, the bet level, the full raise and the pot.
 /// It keeps no list of its acts; `start` and `apply` say how it follows from its start and any list of acts.
-#[derive(Clone, Copy, Debug)]
+#[derive(Clone, Copy)]
 pub struct Round {
     street: Street,
     due: Option<u8>,

@@ -18,7 +18,7 @@ use crate::turn::{MOST_SEATS, first_to_act, is_closed};
 use floor_text::Refusal;
 
 /// A street as it stands: what its acts made of its start.
-#[derive(Clone, Copy, Debug)]
+#[derive(Clone, Copy)]
 pub struct Street {
     /// Who sits in the seats 1 to 10.
     pub players: [Option<Player>; 10],

@@ -12,7 +12,7 @@ use std::alloc::{AllocError, Global};
 use table_engine::StartSeat;
 
 /// An empty list that has room for the stacks of a table's players.
-#[derive(Debug, Drop)]
+#[derive(Drop)]
 pub(crate) struct StackRoom {
     lines: Vec<StackLine>,
     pub ghost empty: { lines.items ≡ [] },

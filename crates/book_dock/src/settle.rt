@@ -19,7 +19,7 @@ use std::alloc::Global;
 use table_engine::{HandRecord, HandStart};
 
 /// What becomes of a hand that is brought back.
-#[derive(Debug, Drop)]
+#[derive(Drop)]
 pub enum SettleEnd {
     /// It is settled.
     Settled,

@@ -10,7 +10,7 @@ const MOST_SEATS: usize = 10;
 
 /// The seats that a broken table's players take, at most as many as a table has. Contracts see them as the list of
 /// their places.
-#[derive(Debug, Drop)]
+#[derive(Drop)]
 pub struct FillSeats {
     places: [Place; MOST_SEATS],
     count: usize,

@@ -9,7 +9,7 @@ use rand::seq::SliceRandom;
 use rand_chacha::ChaCha20Rng;
 
 /// What is drawn. The number of a kind keeps the draws of one event apart.
-#[derive(Clone, Copy, Debug, PartialEq, Eq)]
+#[derive(Clone, Copy, PartialEq, Eq)]
 pub enum DrawKind {
     /// The deck of a hand or of a chip race: 0.
     Deck,

@@ -9,7 +9,7 @@ use crate::SeatSet;
 use crate::walks::{nearest_occupied_before, next_occupied_after, waiting_between};
 
 /// The seats that have the button, the small and the big blind.
-#[derive(Clone, Copy, Debug, PartialEq, Eq)]
+#[derive(Clone, Copy, PartialEq, Eq)]
 pub struct Marks {
     pub button: u8,
     pub small: u8,
@@ -17,7 +17,7 @@ pub struct Marks {
 }
 
 /// The marks of the next hand, and the players who sit there and wait.
-#[derive(Clone, Copy, Debug, PartialEq, Eq)]
+#[derive(Clone, Copy, PartialEq, Eq)]
 pub struct NextMarks {
     pub marks: Marks,
     pub waiting: SeatSet,

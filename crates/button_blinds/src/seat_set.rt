@@ -10,7 +10,7 @@ const MOST_SEATS: usize = 10;
 
 /// A set of seats of one table, of the seats 1 to 10. Contracts see it as ten tests: whether seat 1 is in it,
 /// seat 2, and so on.
-#[derive(Clone, Copy, Debug, PartialEq, Eq)]
+#[derive(Clone, Copy, PartialEq, Eq)]
 pub struct SeatSet {
     is_in: [bool; 10],
 }

@@ -7,7 +7,7 @@ use card_set::Card;
 use std::marker::Model;
 
 /// Two cards that a player shows of his hole cards. Contracts see it as their list.
-#[derive(Clone, Copy, Debug)]
+#[derive(Clone, Copy)]
 pub struct Pair {
     cards: [Card; 2],
 }
@@ -51,7 +51,7 @@ impl Pair {
 }
 
 /// Three cards that a player shows of the board. Contracts see it as their list.
-#[derive(Clone, Copy, Debug)]
+#[derive(Clone, Copy)]
 pub struct Three {
     cards: [Card; 3],
 }
@@ -68,7 +68,7 @@ impl Model for Three {
 }
 
 /// Five cards that a player shows. Contracts see it as their list.
-#[derive(Clone, Copy, Debug)]
+#[derive(Clone, Copy)]
 pub struct Five {
     cards: [Card; 5],
 }

@@ -3,7 +3,7 @@
 ghost use Rattle.std.specs.Prelude.{◌≡◌, ◌<◌, ◌≤◌, length};
 
 /// A card: its rank, 2 to 14 for the ace, and its suit, 0 to 3 for clubs, diamonds, hearts and spades.
-#[derive(Clone, Copy, PartialEq, Eq, Debug)]
+#[derive(Clone, Copy, PartialEq, Eq)]
 pub struct Card {
     pub rank: u8,
     pub suit: u8,
@@ -13,7 +13,7 @@ pub struct Card {
 }
 
 /// A row of 52 cards, in which a card may come more than once.
-#[derive(Clone, Copy, Debug)]
+#[derive(Clone, Copy)]
 pub struct CardRow {
     pub cards: [Card; 52],
     pub ghost whole: { length cards ≡ 52 },

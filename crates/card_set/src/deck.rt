@@ -7,7 +7,7 @@ use crate::card::{Card, CardRow};
 use std::marker::Model;
 
 /// A row of 52 cards in which no card comes twice. Contracts see it as the list of its cards.
-#[derive(Clone, Copy, Debug)]
+#[derive(Clone, Copy)]
 pub struct Deck {
     cards: [Card; 52],
 }

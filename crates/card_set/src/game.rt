@@ -1,7 +1,7 @@
 //! Games.
 
 /// Which game is played.
-#[derive(Clone, Copy, Debug, PartialEq, Eq)]
+#[derive(Clone, Copy, PartialEq, Eq)]
 pub enum Game {
     /// No-limit hold'em.
     Holdem,

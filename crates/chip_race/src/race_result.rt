@@ -2,7 +2,7 @@
 
 /// The stacks after a race by seat, in chips, index 0 for seat 1, and the value of the chips that it has taken off the
 /// table and put on it.
-#[derive(Clone, Copy, Debug, PartialEq, Eq)]
+#[derive(Clone, Copy, PartialEq, Eq)]
 pub struct RaceResult {
     /// The stack of each seat. An empty seat has 0.
     pub stacks: [u64; 10],

@@ -6,7 +6,7 @@ ghost use Rattle.command_lines.specs.Commands.{command_of};
 use floor_text::{Name, read_number};
 
 /// A written command of the offline program.
-#[derive(Clone, Copy, Debug, PartialEq, Eq)]
+#[derive(Clone, Copy, PartialEq, Eq)]
 pub enum Command {
     /// The lines of a tournament are answered, and its report comes behind the answers.
     Replay,

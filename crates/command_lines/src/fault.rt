@@ -12,7 +12,7 @@ use plan_files::WholeEnd;
 use std::alloc::AllocError;
 
 /// Why a run ends otherwise than well.
-#[derive(Clone, Copy, Debug, PartialEq, Eq)]
+#[derive(Clone, Copy, PartialEq, Eq)]
 pub enum Fault {
     /// The words are no written command.
     Usage,

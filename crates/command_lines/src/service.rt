@@ -9,7 +9,7 @@ use floor_text::read_number;
 
 /// What the server is asked for: so many desks, each with a door. The first door is at the port, and each other one at
 /// the port behind that of the door before it.
-#[derive(Clone, Copy, Debug, PartialEq, Eq)]
+#[derive(Clone, Copy, PartialEq, Eq)]
 pub struct Service {
     /// The port of the first door.
     pub port: u16,

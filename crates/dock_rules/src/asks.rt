@@ -3,7 +3,7 @@
 use floor_text::{Name, Refusal};
 
 /// What the floor asks for. Decks and draws are filled in as it is carried out.
-#[derive(Clone, Copy, Debug)]
+#[derive(Clone, Copy)]
 pub enum Ask {
     /// A player enters.
     Enter { name: Name, table: u64, seat: u64 },
@@ -26,7 +26,7 @@ pub enum Ask {
 }
 
 /// What an ask is answered.
-#[derive(Clone, Copy, Debug, PartialEq, Eq)]
+#[derive(Clone, Copy, PartialEq, Eq)]
 pub enum AskAnswer {
     /// It was carried out.
     Ok,

@@ -37,7 +37,7 @@ impl<T: Drop> From<AllocFailed<T>> for EntryFault {
 
 /// The names of those who entered, in order, each once. A player's number is the index of the name, from 0. Contracts
 /// see it as the list of the names.
-#[derive(Debug, Drop)]
+#[derive(Drop)]
 pub struct EntryList {
     names: IndexSet<Name>,
 }

@@ -17,7 +17,7 @@ use table_engine::HandStart;
 
 /// The book: who entered, who sits where, who is out, and the starts of the hands that are out. It keeps no acts.
 /// Contracts see it as a `BookState`.
-#[derive(Debug, Drop)]
+#[derive(Drop)]
 pub struct Book {
     pub(crate) alloc: Global,
     pub(crate) plan: Plan,

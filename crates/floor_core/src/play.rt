@@ -26,7 +26,7 @@ use std::marker::Model;
 use table_engine::{Hand, HandRecord};
 
 /// The book, and by table number the hand that is played there. Contracts see it as a `PlayState`.
-#[derive(Debug, Drop)]
+#[derive(Drop)]
 pub(crate) struct Play {
     pub(crate) book: Book,
     hands: Vec<Option<Hand>>,

@@ -27,7 +27,7 @@ use table_engine::Hand;
 
 /// The sequential tournament: a plan's draft until `go`, and then a book and its hands. Contracts see it as a
 /// `State`.
-#[derive(Debug, Drop)]
+#[derive(Drop)]
 pub struct Tournament {
     alloc: Global,
     draft: PlanDraft,

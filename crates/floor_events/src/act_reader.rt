@@ -13,7 +13,7 @@ use floor_text::{LONGEST_LINE, Name};
 use line_words::LineWords;
 
 /// What the line of an act says.
-#[derive(Clone, Copy, Debug)]
+#[derive(Clone, Copy)]
 pub struct ActLine {
     /// The number of the table. Any number of the grammar may stand here.
     pub table: u64,

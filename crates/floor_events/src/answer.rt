@@ -4,7 +4,7 @@ use floor_text::Refusal;
 use level_plan::PlanItem;
 
 /// The answer to a line.
-#[derive(Clone, Copy, Debug, PartialEq, Eq)]
+#[derive(Clone, Copy, PartialEq, Eq)]
 pub enum Answer {
     /// The event is accepted.
     Ok,

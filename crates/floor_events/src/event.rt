@@ -7,7 +7,7 @@ use level_plan::PlanLine;
 use seat_book::Place;
 
 /// An event of the tournament.
-#[derive(Debug, Drop)]
+#[derive(Drop)]
 pub enum Event {
     /// A line of the plan.
     Plan(PlanLine),
@@ -82,7 +82,7 @@ pub enum Event {
 }
 
 /// What a line of the grammar holds.
-#[derive(Debug, Drop)]
+#[derive(Drop)]
 pub enum Item {
     /// An event.
     Event(Event),

@@ -4,7 +4,7 @@ use floor_text::{List, Name};
 use seat_book::Place;
 
 /// Where the chips and the players are. All amounts are chips.
-#[derive(Debug, Drop)]
+#[derive(Drop)]
 pub struct Report {
     /// The current level, from 1, or 0 before the plan is whole.
     pub level: u64,
@@ -25,7 +25,7 @@ pub struct Report {
 }
 
 /// A player who is in.
-#[derive(Clone, Copy, Debug)]
+#[derive(Clone, Copy)]
 pub struct ReportSeat {
     /// Where he sits.
     pub place: Place,
@@ -36,7 +36,7 @@ pub struct ReportSeat {
 }
 
 /// A player who is out, or the winner.
-#[derive(Clone, Copy, Debug)]
+#[derive(Clone, Copy)]
 pub struct ReportOut {
     /// His place, from 1.
     pub place: u32,

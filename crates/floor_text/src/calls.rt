@@ -4,7 +4,7 @@ ghost use Rattle.std.specs.Prelude.{◌≡◌};
 ghost use Rattle.floor_text.specs.Memory.{count_up, next_fails};
 
 /// Calls of something in memory, of which some are to fail.
-#[derive(Debug, Drop)]
+#[derive(Drop)]
 pub struct Calls {
     /// The numbers, from 1, of the calls that fail.
     pub failing: Vec<u64>,

@@ -10,7 +10,7 @@ use std::marker::Model;
 use std::mem;
 
 /// What ended at a line feed or at the end.
-#[derive(Clone, Copy, Debug, PartialEq, Eq)]
+#[derive(Clone, Copy, PartialEq, Eq)]
 pub enum Cut {
     /// A line of at most 400 bytes.
     Line,

@@ -11,7 +11,7 @@ use std::marker::Model;
 
 /// A source over bytes in memory. Contracts see it as the bytes that it has left, the numbers of its
 /// calls that fail, and how many calls were made and failed.
-#[derive(Debug, Drop)]
+#[derive(Drop)]
 pub struct MemSource {
     bytes: Vec<u8>,
     given: usize,
@@ -85,7 +85,7 @@ impl Source for MemSource {
 
 /// A sink in memory. Contracts see it as the bytes that were put, how many it has room for, the numbers
 /// of its calls that fail, and how many calls were made and failed.
-#[derive(Debug, Drop)]
+#[derive(Drop)]
 pub struct MemSink {
     bytes: Vec<u8>,
     room: usize,

@@ -13,7 +13,7 @@ use std::marker::Model;
 
 /// A player's name: a letter, then letters, digits or `_`, 1 to 16 characters, and not `floor`.
 /// Case counts. Contracts see it as its bytes.
-#[derive(Clone, Copy, Debug)]
+#[derive(Clone, Copy)]
 pub struct Name {
     bytes: [u8; LONGEST_NAME],
     len: usize,

@@ -5,7 +5,7 @@ ghost use Rattle.floor_text.specs.declared.refusal.Refusal.{Refusal};
 ghost use Rattle.floor_text.specs.Refusals.{refusal_number, refusal_name};
 
 /// Why an event is refused. The numbers are 1 to 44 in this order.
-#[derive(Clone, Copy, Debug, PartialEq, Eq)]
+#[derive(Clone, Copy, PartialEq, Eq)]
 pub enum Refusal {
     /// The line is not in the grammar.
     Syntax,

@@ -15,7 +15,7 @@ use std::alloc::{AllocError, Global};
 use table_engine::HandStart;
 
 /// What is found of an event before it is taken.
-#[derive(Debug, Drop)]
+#[derive(Drop)]
 pub(crate) enum Before {
     /// What an act or a called time at a table comes to.
     Turn {

@@ -22,7 +22,7 @@ use std::alloc::AllocError;
 use table_engine::Hand;
 
 /// What an act or a called time comes to, before it is made.
-#[derive(Clone, Copy, Debug)]
+#[derive(Clone, Copy)]
 pub(crate) struct Turn {
     /// Who acts.
     pub name: Name,

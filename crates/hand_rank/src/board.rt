@@ -12,7 +12,7 @@ use crate::tally::Tally;
 use card_set::Card;
 
 /// The ranks of a board, suit by suit and by how often they occur.
-#[derive(Clone, Copy, Debug)]
+#[derive(Clone, Copy)]
 pub struct Board {
     pub suits: Suits,
     pub tally: Tally,

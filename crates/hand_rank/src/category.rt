@@ -1,7 +1,7 @@
 //! What five cards are.
 
 /// What five cards are, from the least to the greatest, numbered from 0 to 8.
-#[derive(Clone, Copy, Debug, PartialEq, Eq)]
+#[derive(Clone, Copy, PartialEq, Eq)]
 pub enum Category {
     HighCard,
     OnePair,

@@ -40,7 +40,7 @@ fn ranks_that_occur(counts: &[u8; 15], often: u8) -> RankSet
 }
 
 /// The ranks that occur four times, three times, twice and once.
-#[derive(Clone, Copy, Debug)]
+#[derive(Clone, Copy)]
 struct Kinds {
     four: RankSet,
     three: RankSet,

@@ -23,7 +23,7 @@ use card_choices::Pair;
 use card_set::Card;
 
 /// So many ranks that occur so often each.
-#[derive(Clone, Copy, Debug)]
+#[derive(Clone, Copy)]
 struct Times {
     ranks: u8,
     each: u8,
@@ -32,7 +32,7 @@ struct Times {
 /// How often ranks occur in hole cards, and in the hole cards and a board together. The ranks of the suit that a flush
 /// may have, in both, and the ranks that may run with the hole cards. What looks for the best hand is inlined, so that
 /// with no hole cards nothing is asked of them.
-#[derive(Clone, Copy, Debug)]
+#[derive(Clone, Copy)]
 pub struct Held {
     pub hole: Tally,
     pub all: Tally,

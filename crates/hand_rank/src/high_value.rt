@@ -18,7 +18,7 @@ use std::marker::Model;
 /// The value of five cards: their category, the ranks that occur most often, and the other ranks that decide. A
 /// straight has its top rank alone, and ranks that all occur once are the others. Contracts see it as the list of the
 /// category's number and these ranks, and values compare as these lists do. Suits break no tie.
-#[derive(Clone, Copy, Debug)]
+#[derive(Clone, Copy)]
 pub struct HighValue {
     category: Category,
     most: RankSet,

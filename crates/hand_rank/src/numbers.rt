@@ -10,7 +10,7 @@ use std::marker::Model;
 const MOST: usize = 6;
 
 /// A list of at most six numbers. Contracts see it as the list.
-#[derive(Clone, Copy, Debug)]
+#[derive(Clone, Copy)]
 pub struct Numbers {
     numbers: [u8; MOST],
     len: usize,

@@ -15,7 +15,7 @@ const NEAR: [u16; 16] = [
 ];
 
 /// A set of ranks, from 2 to 14 for the ace: a rank is in it where the bit of its number is 1.
-#[derive(Clone, Copy, Debug)]
+#[derive(Clone, Copy)]
 pub struct RankSet {
     pub bits: u16,
 }

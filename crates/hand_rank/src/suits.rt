@@ -12,7 +12,7 @@ use crate::tally::Tally;
 use card_set::Card;
 
 /// The ranks of the cards of each suit: clubs, diamonds, hearts and spades.
-#[derive(Clone, Copy, Debug)]
+#[derive(Clone, Copy)]
 pub struct Suits {
     pub ranks: [RankSet; 4],
 }

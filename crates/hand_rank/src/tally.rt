@@ -6,7 +6,7 @@ ghost use Rattle.hand_rank.specs.Sets.{HasRanks, IsTallyOf};
 use crate::rank_set::RankSet;
 
 /// The ranks that occur once or more often, twice or more often, three times or more often, and four times.
-#[derive(Clone, Copy, Debug)]
+#[derive(Clone, Copy)]
 pub struct Tally {
     pub once: RankSet,
     pub twice: RankSet,

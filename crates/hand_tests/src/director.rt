@@ -18,7 +18,7 @@ fn seed_of(number: u64) -> [u8; 32] {
 }
 
 /// What a table does.
-#[derive(Clone, Copy, PartialEq, Eq, Debug)]
+#[derive(Clone, Copy, PartialEq, Eq)]
 enum Doing {
     /// Nothing: no hand is played there.
     Rests,
@@ -56,7 +56,7 @@ const fn does(doing: Doing, taken: &'static [u8]) -> Table {
 }
 
 /// An order, without its draw.
-#[derive(Clone, Copy, PartialEq, Eq, Debug)]
+#[derive(Clone, Copy, PartialEq, Eq)]
 enum Owed {
     Nothing,
     Balance(u64, u64),

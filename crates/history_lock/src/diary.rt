@@ -10,7 +10,7 @@ use crate::pass::Pass;
 use std::sync::Wait;
 
 /// A note, with the number of the pass that made it.
-#[derive(Clone, Copy, Debug, PartialEq, Eq)]
+#[derive(Clone, Copy, PartialEq, Eq)]
 pub(crate) struct Note {
     pub(crate) caller: u32,
     pub(crate) page: u32,

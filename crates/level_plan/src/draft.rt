@@ -17,7 +17,7 @@ use std::alloc::{AllocError, Global};
 use std::marker::Model;
 
 /// What the accepted lines have given of a plan so far. Contracts see it as a `Draft`.
-#[derive(Debug, Drop)]
+#[derive(Drop)]
 pub struct PlanDraft {
     alloc: Global,
     game: Option<Game>,

@@ -9,7 +9,7 @@ use floor_text::List;
 use std::alloc::{AllocError, AllocFailed};
 
 /// What a plan consists of, as a wrong plan names it.
-#[derive(Clone, Copy, Debug, PartialEq, Eq)]
+#[derive(Clone, Copy, PartialEq, Eq)]
 pub enum PlanItem {
     /// The text of a plan file.
     Toml,
@@ -36,7 +36,7 @@ pub enum PlanItem {
 }
 
 /// A line of a plan. Its numbers may be any: what is lawful is for the draft to say.
-#[derive(Debug, Drop)]
+#[derive(Drop)]
 pub enum PlanLine {
     /// The game.
     Game(Game),
@@ -77,7 +77,7 @@ impl PlanLine {
 }
 
 /// Why a plan line or a whole plan was not taken.
-#[derive(Clone, Copy, Debug, PartialEq, Eq)]
+#[derive(Clone, Copy, PartialEq, Eq)]
 pub enum PlanFault {
     /// This item is wrong or missing.
     Wrong(PlanItem),

@@ -5,7 +5,7 @@ use floor_text::List;
 use std::marker::Model;
 
 /// The blinds of a level and the unit of its chips.
-#[derive(Clone, Copy, Debug, PartialEq, Eq)]
+#[derive(Clone, Copy, PartialEq, Eq)]
 pub struct Blind {
     /// The small blind, in chips.
     pub small: u64,
@@ -16,7 +16,7 @@ pub struct Blind {
 }
 
 /// A plan with all its items, each lawful alone and with the others.
-#[derive(Debug, Drop)]
+#[derive(Drop)]
 pub struct Plan {
     /// Which game is played.
     pub game: Game,

@@ -15,7 +15,7 @@ use std::marker::Model;
 pub(crate) const COMMA: u8 = b',';
 
 /// At most `MOST` items, with at least one. Contracts see it as the list of its items.
-#[derive(Debug, Drop)]
+#[derive(Drop)]
 pub struct Few<T, const MOST: usize> {
     items: [T; MOST],
     count: usize,

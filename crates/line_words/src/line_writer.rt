@@ -18,7 +18,7 @@ use seat_book::Place;
 use std::alloc::AllocError;
 
 /// A word of a line.
-#[derive(Clone, Copy, Debug)]
+#[derive(Clone, Copy)]
 pub enum Word<'a> {
     /// Bytes as they are.
     Text(&'a [u8]),

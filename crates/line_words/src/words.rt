@@ -59,7 +59,7 @@ fn first_of(between: u8, bytes: &[u8]) -> Option<usize>
 }
 
 /// The words of a line that are still to be read, or the pieces of a word. Contracts see it as their list.
-#[derive(Debug, Drop)]
+#[derive(Drop)]
 pub struct LineWords<'a> {
     between: u8,
     rest: Option<&'a [u8]>,

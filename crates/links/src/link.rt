@@ -7,7 +7,7 @@ ghost use Rattle.links.specs.Links.{FitsBuffer, BringsNoByte, Puts, after_take};
 use floor_text::Failed;
 
 /// What a take brought.
-#[derive(Clone, Copy, Debug, PartialEq, Eq)]
+#[derive(Clone, Copy, PartialEq, Eq)]
 pub enum Taken {
     /// So many bytes, in the first places of the buffer.
     Bytes(usize),

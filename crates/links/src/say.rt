@@ -1,7 +1,7 @@
 //! What a link in memory may say.
 
 /// One thing that a link in memory does when it is taken from.
-#[derive(Debug, Drop)]
+#[derive(Drop)]
 pub enum Say {
     /// Gives these bytes, as many at a time as there is room for. Without bytes it is passed over.
     Give(Vec<u8>),

@@ -9,7 +9,7 @@ use crate::link::Taken;
 use crate::say::Say;
 
 /// All that a link says, and where it is in that.
-#[derive(Debug, Drop)]
+#[derive(Drop)]
 pub(crate) struct Script {
     says: Vec<Say>,
     /// The index of what it says next.

@@ -19,7 +19,7 @@ fn low_rank(card: Card) -> u8
 }
 
 /// A set of low ranks, from 1 for the ace to 8: a rank is in it where the bit of its number is 1.
-#[derive(Clone, Copy, Debug)]
+#[derive(Clone, Copy)]
 pub struct LowRanks {
     pub bits: u16,
     pub ghost low: { bits < 2 ^ 9 },

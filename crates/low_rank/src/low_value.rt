@@ -11,7 +11,7 @@ use std::marker::Model;
 
 /// The value of a low hand: its five ranks in falling order, the ace as 1. Contracts see it as the list of these ranks,
 /// and values compare as these lists do. The lesser value is better.
-#[derive(Clone, Copy, Debug)]
+#[derive(Clone, Copy)]
 pub struct LowValue {
     ranks: [u8; 5],
 }

@@ -1,7 +1,7 @@
 //! Players who are out.
 
 /// A player who is out.
-#[derive(Clone, Copy, Debug, PartialEq, Eq)]
+#[derive(Clone, Copy, PartialEq, Eq)]
 pub struct Bust {
     /// The player's number, by his entry.
     pub player: u32,

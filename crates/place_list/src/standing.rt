@@ -1,7 +1,7 @@
 //! Where a player stands.
 
 /// Where a player stands who is out, or who has won.
-#[derive(Clone, Copy, Debug, PartialEq, Eq)]
+#[derive(Clone, Copy, PartialEq, Eq)]
 pub struct Standing {
     /// The player's number, by his entry.
     pub player: u32,

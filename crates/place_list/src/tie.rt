@@ -9,7 +9,7 @@ use crate::Bust;
 use crate::order::ties;
 
 /// The players of a list in the order of their places who tie, next to one another.
-#[derive(Clone, Copy, Debug)]
+#[derive(Clone, Copy)]
 pub(crate) struct Tie {
     /// The index of the first of them.
     pub(crate) first: usize,

@@ -10,7 +10,7 @@ use std::alloc::{AllocError, Global};
 use std::marker::Model;
 
 /// A word that somebody has to say who opens a session: 1 to 32 letters and digits. Contracts see it as its bytes.
-#[derive(Debug, Drop)]
+#[derive(Drop)]
 pub struct SessionWord {
     bytes: Vec<u8>,
 }

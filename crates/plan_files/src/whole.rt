@@ -9,7 +9,7 @@ use floor_text::{Failed, Source};
 use std::alloc::{AllocError, Global};
 
 /// Why a source was not read to its end.
-#[derive(Clone, Copy, Debug, PartialEq, Eq)]
+#[derive(Clone, Copy, PartialEq, Eq)]
 pub enum WholeEnd {
     /// The source failed.
     ReadFault,

@@ -16,7 +16,7 @@ use std::marker::Model;
 use toml::{Table, Value};
 
 /// A player's session word.
-#[derive(Debug, Drop)]
+#[derive(Drop)]
 pub struct PlayerWord {
     /// The player's name.
     pub name: Name,
@@ -25,7 +25,7 @@ pub struct PlayerWord {
 }
 
 /// The session words of the floor and of the players, at most 640 of them.
-#[derive(Debug, Drop)]
+#[derive(Drop)]
 pub struct Words {
     floor: SessionWord,
     players: List<PlayerWord>,

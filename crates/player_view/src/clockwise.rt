@@ -9,7 +9,7 @@ ghost use Rattle.view_rules.specs.Shown.{players_clockwise};
 use table_engine::{HandStart, StartSeat};
 
 /// The players of a hand, clockwise from the seat after the button.
-#[derive(Clone, Copy, Debug)]
+#[derive(Clone, Copy)]
 pub(crate) struct Clockwise<'a> {
     /// Those who sit behind the button.
     pub(crate) first: &'a [StartSeat],

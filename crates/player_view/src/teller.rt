@@ -21,14 +21,14 @@ use table_engine::{ActFault, ActOf, Hand, HandStart};
 use view_rules::TableEntry;
 
 /// The start and the acts of a hand.
-#[derive(Debug, Drop)]
+#[derive(Drop)]
 struct Kept {
     start: HandStart,
     acts: List<ActOf>,
 }
 
 /// A hand as far as it was told.
-#[derive(Debug, Drop)]
+#[derive(Drop)]
 enum Told {
     /// No hand is played.
     Nothing,
@@ -39,7 +39,7 @@ enum Told {
 }
 
 /// Tells a player, or nobody, of one table, entry by entry. It plays a hand of its own along with the entries.
-#[derive(Debug, Drop)]
+#[derive(Drop)]
 pub struct TableTeller {
     alloc: Global,
     table: u8,

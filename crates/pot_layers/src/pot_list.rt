@@ -10,7 +10,7 @@ use std::marker::Model;
 const MOST_POTS: usize = 10;
 
 /// A pot, in chips, and the seats of the players who may win it.
-#[derive(Clone, Copy, Debug, PartialEq, Eq)]
+#[derive(Clone, Copy, PartialEq, Eq)]
 pub struct Pot {
     /// The chips in it.
     pub amount: u64,
@@ -19,7 +19,7 @@ pub struct Pot {
 }
 
 /// The pots of a hand, the main pot first. Contracts see the list of them.
-#[derive(Debug, Drop)]
+#[derive(Drop)]
 pub struct Pots {
     pots: [Pot; 10],
     len: usize,

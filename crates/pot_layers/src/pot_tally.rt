@@ -14,7 +14,7 @@ const MOST_SEATS: usize = 10;
 
 /// The pots while chips come in and players fold. It keeps for each seat what was put in up to its height, as a
 /// running total. Contracts see the list of puts by seat: index 0 is seat 1.
-#[derive(Debug, Drop)]
+#[derive(Drop)]
 pub struct PotTally {
     reaches: [Reach; 10],
     total: u64,

@@ -3,7 +3,7 @@
 ghost use Rattle.std.specs.Prelude.{◌≡◌, true, false};
 
 /// What a player has put in during the whole hand, in chips, and whether he is live: he has not folded.
-#[derive(Clone, Copy, Debug, PartialEq, Eq)]
+#[derive(Clone, Copy, PartialEq, Eq)]
 pub struct Put {
     /// What he has put in during the whole hand, in chips.
     pub amount: u64,

@@ -9,7 +9,7 @@ use crate::Put;
 use button_blinds::SeatSet;
 
 /// How far a player's chips reach: his put, and what all players have put in up to its height.
-#[derive(Clone, Copy, Debug, PartialEq, Eq)]
+#[derive(Clone, Copy, PartialEq, Eq)]
 pub(crate) struct Reach {
     pub(crate) put: Put,
     pub(crate) total: u64,

@@ -1,7 +1,7 @@
 //! A seat of a table.
 
 /// A seat of a table.
-#[derive(Clone, Copy, Debug, PartialEq, Eq)]
+#[derive(Clone, Copy, PartialEq, Eq)]
 pub struct Place {
     /// The table's number, from 1.
     pub table: u8,

@@ -20,7 +20,7 @@ use std::marker::Model;
 
 /// The seats of all tables: who sits where with which stack, and how each table stands. Contracts see it as a
 /// `Seating`.
-#[derive(Debug, Drop)]
+#[derive(Drop)]
 pub struct SeatBook {
     table_count: u8,
     seat_count: u8,

@@ -4,7 +4,7 @@ use crate::Place;
 use floor_text::Name;
 
 /// A player who sits.
-#[derive(Clone, Copy, Debug)]
+#[derive(Clone, Copy)]
 pub struct Seated {
     /// Where he sits.
     pub place: Place,

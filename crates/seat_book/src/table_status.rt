@@ -6,7 +6,7 @@ ghost use Rattle.seat_book.specs.Tables.{fresh_status};
 use button_blinds::Marks;
 
 /// How a table stands.
-#[derive(Clone, Copy, Debug, PartialEq, Eq)]
+#[derive(Clone, Copy, PartialEq, Eq)]
 pub struct TableStatus {
     /// The marks of the last hand that began there, if one did.
     pub marks: Option<Marks>,

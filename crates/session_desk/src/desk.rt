@@ -14,7 +14,7 @@ use table_dock::TablePass;
 use table_engine::ActOf;
 
 /// An act, or a called time, that a desk's session asked for and that was accepted.
-#[derive(Clone, Copy, Debug)]
+#[derive(Clone, Copy)]
 pub struct Asked {
     /// Who asked: the player of a name, or `None` for the floor.
     pub who: Option<Name>,

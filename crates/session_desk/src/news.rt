@@ -19,7 +19,7 @@ use std::sync::Wait;
 use table_dock::{TableDock, Untold};
 
 /// What was found when news were told.
-#[derive(Clone, Copy, Debug)]
+#[derive(Clone, Copy)]
 pub(crate) struct Found {
     /// Whether the journal ends with the stop.
     pub(crate) stopped: bool,

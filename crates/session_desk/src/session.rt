@@ -12,7 +12,7 @@ use session_lines::ReplyText;
 use std::alloc::{AllocError, Global};
 
 /// Why a session is over.
-#[derive(Clone, Copy, Debug, PartialEq, Eq)]
+#[derive(Clone, Copy, PartialEq, Eq)]
 pub enum SessionEnd {
     /// The link gave its end, and no line is held.
     Ended,
@@ -29,7 +29,7 @@ pub enum SessionEnd {
 }
 
 /// What a turn of a session came to.
-#[derive(Clone, Copy, Debug, PartialEq, Eq)]
+#[derive(Clone, Copy, PartialEq, Eq)]
 pub enum Step {
     /// Bytes were taken.
     Took,

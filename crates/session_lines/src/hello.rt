@@ -8,7 +8,7 @@ use line_words::{LineWords, is};
 use plan_files::Words;
 
 /// Who speaks in a session.
-#[derive(Clone, Copy, Debug, PartialEq, Eq)]
+#[derive(Clone, Copy, PartialEq, Eq)]
 pub enum Speaker {
     /// The floor.
     Floor,

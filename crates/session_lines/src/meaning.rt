@@ -8,7 +8,7 @@ use crate::request::{Request, read_request};
 use plan_files::Words;
 
 /// What a line means in a session.
-#[derive(Clone, Copy, Debug)]
+#[derive(Clone, Copy)]
 pub enum Meaning {
     /// The session ends.
     Quit,

@@ -10,7 +10,7 @@ use std::alloc::{AllocError, Global};
 use std::marker::Model;
 
 /// What a client is replied.
-#[derive(Clone, Copy, Debug, PartialEq, Eq)]
+#[derive(Clone, Copy, PartialEq, Eq)]
 pub enum Reply {
     /// It was done.
     Ok,
@@ -36,7 +36,7 @@ fn behind_words(reply: Reply, behind: bool) -> &'static [u8]
 }
 
 /// The text of one reply. It has room for the longest. Contracts see it as its bytes.
-#[derive(Debug, Drop)]
+#[derive(Drop)]
 pub struct ReplyText {
     bytes: Vec<u8>,
 }

@@ -11,7 +11,7 @@ use floor_text::Name;
 use line_words::{LineWords, is};
 
 /// What a line of a session asks for.
-#[derive(Clone, Copy, Debug)]
+#[derive(Clone, Copy)]
 pub enum Request {
     /// To be told of the table of a number. Any number of the grammar may stand here.
     Watch(u64),

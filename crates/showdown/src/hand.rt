@@ -11,14 +11,14 @@ use hand_rank::{HighValue, best_holdem, best_omaha};
 use low_rank::{LowValue, best_low};
 
 /// A hand that is tabled: its high value, and its low value where it has one.
-#[derive(Clone, Copy, Debug)]
+#[derive(Clone, Copy)]
 pub(crate) struct Hand {
     pub(crate) high: HighValue,
     pub(crate) low: Option<LowValue>,
 }
 
 /// A side of a pot.
-#[derive(Clone, Copy, Debug, PartialEq, Eq)]
+#[derive(Clone, Copy, PartialEq, Eq)]
 pub(crate) enum Side {
     /// The side of the best high hands.
     High,

@@ -9,7 +9,7 @@ use rulebook::seat_after;
 use std::marker::Model;
 
 /// Seats in an order. Contracts see the list of them.
-#[derive(Debug, Drop)]
+#[derive(Drop)]
 pub(crate) struct InTurn {
     seats: [u8; 10],
     count: usize,

@@ -5,7 +5,7 @@ ghost use Rattle.std.specs.Prelude.{◌≡◌, length};
 use card_set::Card;
 
 /// A live player at the showdown: his seat, from 1, and his hole cards, of which hold'em has the first two.
-#[derive(Clone, Copy, Debug, PartialEq, Eq)]
+#[derive(Clone, Copy, PartialEq, Eq)]
 pub struct Live {
     /// His seat, from 1.
     pub seat: u8,

@@ -1,7 +1,7 @@
 //! Where a simulated tournament stands.
 
 /// Where a simulated tournament stands: which table of which round has its turn.
-#[derive(Clone, Copy, Debug, PartialEq, Eq)]
+#[derive(Clone, Copy, PartialEq, Eq)]
 pub struct SimPlace {
     /// The round, from 1.
     pub round: u64,

@@ -4,7 +4,7 @@ use crate::place::SimPlace;
 use floor_events::Event;
 
 /// A step of a simulated tournament.
-#[derive(Debug, Drop)]
+#[derive(Drop)]
 pub enum SimStep {
     /// An event is taken, and this place comes after it.
     Take(Event, SimPlace),

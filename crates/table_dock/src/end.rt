@@ -5,7 +5,7 @@ use table_engine::Hand;
 use view_rules::TableEntry;
 
 /// What was behind the lock of a table.
-#[derive(Debug, Drop)]
+#[derive(Drop)]
 pub struct TableEnd {
     /// Its history.
     pub entries: List<TableEntry>,
@@ -14,7 +14,7 @@ pub struct TableEnd {
 }
 
 /// Memory ran out while lines were told.
-#[derive(Clone, Copy, Debug, PartialEq, Eq)]
+#[derive(Clone, Copy, PartialEq, Eq)]
 pub struct Untold {
     /// The number of the first entry that was not told. All before it were told whole.
     pub told: u64,

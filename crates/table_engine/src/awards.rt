@@ -4,7 +4,7 @@ ghost use Rattle.std.specs.Prelude.{◌≡◌, ◌≤◌};
 ghost use Rattle.table_engine.specs.Awards.{award_in};
 
 /// What the players of a hand get, in chips.
-#[derive(Clone, Copy, Debug)]
+#[derive(Clone, Copy)]
 pub enum Awards {
     /// One player alone is live and gets so much: everything.
     Sole(u64),

@@ -16,7 +16,7 @@ use card_set::Game;
 use floor_text::Refusal;
 
 /// The betting of a hand as it stands. Three streets may follow the first.
-#[derive(Clone, Copy, Debug)]
+#[derive(Clone, Copy)]
 pub struct Betting {
     /// The last street that has begun.
     pub round: Round,

@@ -30,7 +30,7 @@ const ACTS_OF_MOST: usize = 16;
 
 /// A hand that is played. It cannot be cloned: who has it plays it to its end, by `finish`, or gives its start
 /// back, by `void`. Contracts see it as its start and its acts so far.
-#[derive(Debug, Drop)]
+#[derive(Drop)]
 pub struct Hand {
     start: HandStart,
     acts: List<ActOf>,

@@ -12,7 +12,7 @@ use floor_text::{List, Name, Refusal};
 use std::alloc::{AllocError, AllocFailed};
 
 /// An act of a player.
-#[derive(Clone, Copy, Debug)]
+#[derive(Clone, Copy)]
 pub struct ActOf {
     /// Who acted.
     pub name: Name,
@@ -23,7 +23,7 @@ pub struct ActOf {
 }
 
 /// An act that is not refused, with what it comes to.
-#[derive(Clone, Copy, Debug)]
+#[derive(Clone, Copy)]
 pub(crate) struct Accepted {
     /// The seat of the player who acts.
     pub seat: u8,
@@ -34,7 +34,7 @@ pub(crate) struct Accepted {
 }
 
 /// A hand that is over.
-#[derive(Debug, Drop)]
+#[derive(Drop)]
 pub struct HandRecord {
     /// How it started.
     pub start: HandStart,
@@ -59,7 +59,7 @@ impl HandRecord {
 }
 
 /// Why an act was not taken.
-#[derive(Clone, Copy, Debug, PartialEq, Eq)]
+#[derive(Clone, Copy, PartialEq, Eq)]
 pub enum ActFault {
     /// The act is refused.
     No(Refusal),

@@ -13,7 +13,7 @@ use level_plan::Blind;
 use std::alloc::{AllocError, Global};
 
 /// A player who is dealt in.
-#[derive(Clone, Copy, Debug)]
+#[derive(Clone, Copy)]
 pub struct StartSeat {
     /// His seat, from 1.
     pub seat: u8,
@@ -35,7 +35,7 @@ impl StartSeat {
 }
 
 /// All that a hand is made of before the first act.
-#[derive(Debug, Drop)]
+#[derive(Drop)]
 pub struct HandStart {
     /// The number of its table, from 1.
     pub table: u8,

@@ -6,7 +6,7 @@ ghost use Rattle.table_worker.specs.Stages.{does_lie, hand_carried};
 use table_engine::Hand;
 
 /// Where a worker stands between two turns.
-#[derive(Debug, Drop)]
+#[derive(Drop)]
 pub(crate) enum Stage {
     /// No hand is out.
     Free,

@@ -3,7 +3,7 @@
 use floor_text::Refusal;
 
 /// What a turn did.
-#[derive(Clone, Copy, Debug, PartialEq, Eq)]
+#[derive(Clone, Copy, PartialEq, Eq)]
 pub enum Turn {
     /// A hand was brought to the dock.
     Opened,

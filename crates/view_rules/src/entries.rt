@@ -6,7 +6,7 @@ use seat_book::Place;
 use table_engine::{ActOf, HandStart};
 
 /// A player's stack, as it is told.
-#[derive(Clone, Copy, Debug)]
+#[derive(Clone, Copy)]
 pub struct StackLine {
     /// Where he sits, or sat as his hand began.
     pub place: Place,
@@ -17,7 +17,7 @@ pub struct StackLine {
 }
 
 /// An accepted event of the floor, with what is told of it besides.
-#[derive(Debug, Drop)]
+#[derive(Drop)]
 pub struct JournalEntry {
     /// The number of whoever brought the event.
     pub caller: u32,
@@ -34,7 +34,7 @@ pub struct JournalEntry {
 }
 
 /// What happened at a table.
-#[derive(Debug, Drop)]
+#[derive(Drop)]
 pub enum TableEntry {
     /// A hand began.
     Opened(HandStart),
