@@ -28,5 +28,3 @@ pub use laws::{
 };
 pub use round::Round;
 
-#[cfg(test)]
-mod tests;

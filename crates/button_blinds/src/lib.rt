@@ -7,8 +7,6 @@
 
 mod marks;
 mod seat_set;
-#[cfg(test)]
-mod tests;
 mod walks;
 
 pub use marks::{Marks, NextMarks, next_big, next_marks};

@@ -8,8 +8,6 @@ mod best_cards;
 pub mod laws;
 mod race_result;
 mod racing;
-#[cfg(test)]
-mod tests;
 mod winners;
 
 pub use race_result::RaceResult;

@@ -16,8 +16,6 @@ mod numbers;
 mod rank_set;
 mod suits;
 mod tally;
-#[cfg(test)]
-mod tests;
 
 pub use best::{best_holdem, best_omaha};
 pub use category::Category;

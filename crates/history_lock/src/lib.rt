@@ -35,8 +35,6 @@ mod news;
 mod pass;
 mod plays;
 mod rule;
-#[cfg(test)]
-mod tests;
 mod view;
 
 pub use closing::NotAll;

@@ -9,8 +9,6 @@ mod best;
 mod laws;
 mod low_ranks;
 mod low_value;
-#[cfg(test)]
-mod tests;
 
 pub use best::best_low;
 pub use laws::{order_does_not_count, suits_do_not_count};

@@ -11,8 +11,6 @@ mod order;
 mod place_list;
 mod prizes;
 mod standing;
-#[cfg(test)]
-mod tests;
 mod tie;
 
 pub use bust::Bust;

@@ -13,8 +13,6 @@ mod pot_tally;
 mod put;
 mod reach;
 mod shares;
-#[cfg(test)]
-mod tests;
 
 pub use cutting::pots;
 pub use pot_list::{Pot, Pots};

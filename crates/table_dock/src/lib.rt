@@ -25,8 +25,6 @@ mod end;
 mod gate;
 mod hold;
 mod making;
-#[cfg(test)]
-mod tests;
 
 pub use dock::{TableDock, TablePass};
 pub use end::{TableEnd, Untold};

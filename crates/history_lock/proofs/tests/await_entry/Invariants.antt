@@ -1,7 +1,0 @@
-use Rattle.std.proofs.Common.{◌≡◌}
-use Rattle.history_lock.specs.Passes.{lock_id, lock_of}
-use Rattle.history_lock.proofs.tests.await_entry.Given as goal
-
--- the pass stays a pass of this lock
-abbrev pub invariant-loop : goal.invariant-loop
-invariant-loop g l = lock_of l.pass ≡ lock_id l.lock

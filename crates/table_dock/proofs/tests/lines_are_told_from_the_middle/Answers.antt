@@ -1,8 +1,0 @@
-use Rattle.std.proofs.Common.{ap}
-use Rattle.dock_rules.specs.Tables.{lying_hand}
-use Rattle.table_dock.proofs.tests.lines_are_told_from_the_middle.Goals as goal
-
--- Nothing was told so far, and no hand lies at a table of no entries.
-pub read-requires-clause-told : goal.read-requires-clause-told
-unfolding lying_hand
-read-requires-clause-told g c = ap (λ told. told.hand) c.new-teller.ensures
