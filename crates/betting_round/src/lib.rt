@@ -27,4 +27,3 @@ pub use laws::{
     who_is_due_can_act,
 };
 pub use round::Round;
-

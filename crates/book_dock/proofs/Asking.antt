@@ -9,8 +9,8 @@ use Rattle.seat_book.specs.declared.place.Place.{Place}
 use Rattle.seat_book.specs.Seatings.{is_not_last, is_race_pending, is_round_open}
 use Rattle.table_engine.specs.declared.record.ActFault.{ActFault}
 use Rattle.table_engine.specs.declared.record.ActFault.TheVariants as faults
-use Rattle.floor_events.specs.declared.event.Event.TheVariants as events
-use Rattle.floor_events.specs.declared.event.Event.{Event}
+use Rattle.tournament_events.specs.declared.event.Event.TheVariants as events
+use Rattle.tournament_events.specs.declared.event.Event.{Event}
 use Rattle.floor_director.specs.Orders.{next_order}
 use Rattle.tournament_rules.specs.Books.{BookState}
 use Rattle.tournament_rules.specs.Checks.{book_refusal, is_over_for_all, is_playing, is_right_draw, is_table_open, round_checks}

@@ -20,8 +20,8 @@ use Rattle.table_engine.specs.declared.record.ActOf.{ActOf}
 use Rattle.table_engine.specs.Hands.{HandTerms}
 use Rattle.table_engine.specs.Results.{players_after, stack_after_hand, with_stack}
 use Rattle.table_engine.specs.Starts.{IsLawfulStart}
-use Rattle.floor_events.specs.declared.event.Event.{Event}
-use Rattle.floor_events.specs.declared.event.Event.TheVariants as events
+use Rattle.tournament_events.specs.declared.event.Event.{Event}
+use Rattle.tournament_events.specs.declared.event.Event.TheVariants as events
 use Rattle.seat_book.specs.declared.place.Place.{Place}
 use Rattle.balance_rule.specs.Filling.{empty_elsewhere, fill_seats, lacks_room, names_at}
 use Rattle.break_draw.proofs.FillRoom.{without_room-none}

@@ -8,7 +8,7 @@ use Rattle.level_plan.specs.Plans.{PlanTerms}
 use Rattle.level_plan.specs.declared.line.PlanLine.{PlanLine}
 use Rattle.plan_files.specs.PlanLines.{lines_of_plan}
 use Rattle.table_engine.specs.declared.start.HandStart.{HandStart}
-use Rattle.floor_events.specs.declared.event.Event.TheVariants as events
+use Rattle.tournament_events.specs.declared.event.Event.TheVariants as events
 use Rattle.tournament_rules.specs.Effects.{first_book}
 use Rattle.simulation_rules.specs.Runs.{plan_events}
 use Rattle.view_rules.specs.declared.entries.JournalEntry.{JournalEntry}

@@ -2,8 +2,8 @@
 use Rattle.std.specs.Prelude.{◌≡◌, true, false, List, [], map, Option, Some, None, Result, Ok, Err, MatchResult}
 use Rattle.floor_text.specs.declared.refusal.Refusal.{Refusal}
 use Rattle.seat_book.specs.Players.{players_at}
-use Rattle.floor_events.specs.declared.event.Event.{Event}
-use Rattle.floor_events.specs.declared.event.Event.TheVariants as events
+use Rattle.tournament_events.specs.declared.event.Event.{Event}
+use Rattle.tournament_events.specs.declared.event.Event.TheVariants as events
 use Rattle.table_engine.specs.declared.record.ActFault.{ActFault}
 use Rattle.table_engine.specs.declared.record.ActFault.TheVariants as faults
 use Rattle.tournament_rules.specs.Books.{BookState}

@@ -9,10 +9,10 @@ ghost use Rattle.dock_rules.specs.Points.{hand_begun, next_begin, refusal_at};
 use crate::hold::{BookHold, take_room};
 use crate::room::StackRoom;
 use floor_book::BookFault;
-use floor_events::Event;
 use floor_text::List;
 use player_view::JournalEntry;
 use table_engine::Hand;
+use tournament_events::Event;
 
 impl BookHold {
     /// Begins a hand at a table, with the deck that comes next, and takes the room for its settle. An error leaves the

@@ -2,7 +2,7 @@
 
 ghost use Rattle.std.specs.Prelude.{◌≡◌, ℕ, ◌<◌, ◌≤◌, ◌^◌, ◌↔◌, ◌++◌, [], All, Any, drop, not, IfErr, IfOk, IfSome, IsErr, OnErr, OnOk, is_ok, length, vec_len};
 ghost use mathlib.Core.List.{IsPrefix};
-ghost use Rattle.floor_events.specs.declared.event.Event.TheVariants as events;
+ghost use Rattle.tournament_events.specs.declared.event.Event.TheVariants as events;
 ghost use Rattle.table_engine.specs.Acts.{IsAnswer};
 ghost use Rattle.table_engine.specs.Plays.{IsCompletePlay};
 ghost use Rattle.tournament_rules.specs.Effects.{first_book};

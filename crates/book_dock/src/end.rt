@@ -6,9 +6,9 @@ ghost use Rattle.dock_rules.specs.Journals.{tale_of};
 ghost use Rattle.book_dock.specs.Ends.{journal_of};
 
 use crate::hold::BookHold;
-use floor_events::Report;
 use player_view::JournalEntry;
 use std::alloc::AllocError;
+use tournament_events::Report;
 
 /// The journal of a tournament whose lock was opened, and its book.
 #[derive(Drop)]

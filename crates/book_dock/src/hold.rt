@@ -11,12 +11,12 @@ use crate::room::StackRoom;
 use card_set::CardRow;
 use floor_book::Book;
 use floor_director::deck_of;
-use floor_events::Report;
 use floor_text::Name;
 use history_lock::Grows;
 use player_view::JournalEntry;
 use seat_book::{Place, Seated};
 use std::alloc::{AllocError, Global};
+use tournament_events::Report;
 
 /// More entries than the journal ever has.
 const TOO_MANY: usize = 1 << 60;

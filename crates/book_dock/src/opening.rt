@@ -3,7 +3,7 @@
 ghost use Rattle.std.specs.Prelude.{◌≡◌, ◌++◌, ◌∷◌, [], map, Ok, IfOk, OnOk};
 ghost use Rattle.level_plan.specs.Drafts.{empty_draft};
 ghost use Rattle.plan_files.specs.PlanLines.{lines_of_plan, plan_of_lines};
-ghost use Rattle.floor_events.specs.declared.event.Event.TheVariants as events;
+ghost use Rattle.tournament_events.specs.declared.event.Event.TheVariants as events;
 ghost use Rattle.tournament_rules.specs.Effects.{first_book};
 ghost use Rattle.history_lock.specs.Limits.{opener};
 ghost use Rattle.dock_rules.specs.Journals.{plain_entry};
@@ -11,13 +11,13 @@ ghost use Rattle.book_dock.specs.Opening.{opening};
 
 use crate::hold::{BookHold, take_room};
 use floor_book::Book;
-use floor_events::Event;
 use floor_text::List;
 use history_lock::OPENER;
 use level_plan::{Plan, PlanLine};
 use plan_files::plan_lines;
 use player_view::JournalEntry;
 use std::alloc::{AllocError, Global};
+use tournament_events::Event;
 
 /// Makes the opener's entry of an event of the plan.
 fn plan_entry(alloc: Global, seed: [u8; 32], event: Event) -> JournalEntry

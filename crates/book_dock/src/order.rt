@@ -10,7 +10,7 @@ ghost use Rattle.seat_book.specs.declared.place.Place.{Place};
 ghost use Rattle.seat_book.specs.Places.{IsTableOf};
 ghost use Rattle.seat_book.specs.Players.{players_at, players_in};
 ghost use Rattle.table_engine.specs.Acts.{IsAnswer};
-ghost use Rattle.floor_events.specs.declared.event.Event.TheVariants as events;
+ghost use Rattle.tournament_events.specs.declared.event.Event.TheVariants as events;
 ghost use Rattle.tournament_rules.specs.Checks.{book_refusal, is_right_draw, round_checks};
 ghost use Rattle.tournament_rules.specs.Kinds.{is_order, is_race};
 ghost use Rattle.dock_rules.specs.declared.asks.Ask.TheVariants as asks;
@@ -26,11 +26,11 @@ use break_draw::{draw, fill_seats};
 use dock_rules::{Ask, AskAnswer};
 use floor_book::{Book, BookFault};
 use floor_director::next_order;
-use floor_events::Event;
 use floor_text::{List, Refusal};
 use player_view::{JournalEntry, StackLine};
 use seat_book::{SeatBook, Seated};
 use std::alloc::{AllocError, Global};
+use tournament_events::Event;
 
 /// Gives the slots of a table of any number, by seat: who sits there, if one does.
 fn slots_at(seats: &SeatBook, table: u64) -> &[Option<Seated>]

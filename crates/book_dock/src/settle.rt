@@ -4,7 +4,7 @@ ghost use Rattle.std.specs.Prelude.{◌≡◌, ◌++◌, ◌≤◌, length, map,
 ghost use Rattle.rulebook.specs.Limits.{most_seats};
 ghost use Rattle.table_engine.specs.Plays.{IsCompletePlay};
 ghost use Rattle.table_engine.specs.Results.{with_stacks};
-ghost use Rattle.floor_events.specs.declared.event.Event.TheVariants as events;
+ghost use Rattle.tournament_events.specs.declared.event.Event.TheVariants as events;
 ghost use Rattle.dock_rules.specs.Added.{only_if};
 ghost use Rattle.dock_rules.specs.Journals.{Has, entry_told, tale_of};
 ghost use Rattle.view_rules.specs.Lines.{stack_after};
@@ -12,11 +12,11 @@ ghost use Rattle.book_dock.specs.Ends.{given_back, is_settled};
 
 use crate::hold::BookHold;
 use crate::room::StackRoom;
-use floor_events::Event;
 use floor_text::List;
 use player_view::{JournalEntry, StackLine};
 use std::alloc::Global;
 use table_engine::{HandRecord, HandStart};
+use tournament_events::Event;
 
 /// What becomes of a hand that is brought back.
 #[derive(Drop)]

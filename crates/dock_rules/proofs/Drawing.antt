@@ -12,8 +12,8 @@ use Rattle.break_draw.specs.Generator.{drawn_order}
 use Rattle.break_draw.proofs.FillRoom.{none-without_room}
 use Rattle.break_draw.proofs.Reorders.{draw-right}
 use Rattle.break_draw.proofs.Shuffles.{drawn-permutes}
-use Rattle.floor_events.specs.declared.event.Event.{Event}
-use Rattle.floor_events.specs.declared.event.Event.TheVariants as events
+use Rattle.tournament_events.specs.declared.event.Event.{Event}
+use Rattle.tournament_events.specs.declared.event.Event.TheVariants as events
 use Rattle.floor_director.specs.Owed.{IsNextOrder}
 use Rattle.tournament_rules.specs.Books.{BookState}
 use Rattle.tournament_rules.specs.Checks.{is_right_draw}

@@ -9,10 +9,10 @@ use Rattle.level_plan.specs.declared.line.PlanLine.{PlanLine}
 use Rattle.level_plan.specs.Drafts.{empty_draft}
 use Rattle.level_plan.specs.Plans.{PlanTerms}
 use Rattle.plan_files.specs.PlanLines.{lines_of_plan, plan_of_lines}
-use Rattle.floor_events.specs.declared.answer.Answer.{Answer}
-use Rattle.floor_events.specs.declared.answer.Answer.TheVariants.{Ok}
-use Rattle.floor_events.specs.declared.event.Event.{Event}
-use Rattle.floor_events.specs.declared.event.Event.TheVariants as events
+use Rattle.tournament_events.specs.declared.answer.Answer.{Answer}
+use Rattle.tournament_events.specs.declared.answer.Answer.TheVariants.{Ok}
+use Rattle.tournament_events.specs.declared.event.Event.{Event}
+use Rattle.tournament_events.specs.declared.event.Event.TheVariants as events
 use Rattle.tournament_rules.specs.Effects.{first_book}
 use Rattle.tournament_rules.specs.Kinds.{kind_of, is_played}
 use Rattle.tournament_rules.specs.States.{State, answer_to, answers, first_state, is_accepted, run}

@@ -18,8 +18,8 @@ use Rattle.table_engine.specs.Plays.{IsCompletePlay, IsLawfulPlay, recorded_hand
 use Rattle.table_engine.proofs.Plays.{lawful_play-each}
 use Rattle.table_engine.proofs.TurnLaws.{time-again, time-free_again}
 use Rattle.betting_round.specs.declared.act.Act.{Act}
-use Rattle.floor_events.specs.declared.event.Event.{Event}
-use Rattle.floor_events.specs.declared.event.Event.TheVariants as events
+use Rattle.tournament_events.specs.declared.event.Event.{Event}
+use Rattle.tournament_events.specs.declared.event.Event.TheVariants as events
 use Rattle.tournament_rules.specs.Books.{BookState, has_table, start_at}
 use Rattle.tournament_rules.specs.Checks.{book_refusal, is_playing}
 use Rattle.tournament_rules.specs.Effects.{settled}

@@ -4,7 +4,7 @@ use Rattle.std.specs.Prelude.{nat_lt}
 use Rattle.std.specs.List.{enumerate_from}
 use Rattle.rulebook.specs.Checks.{first_that_holds}
 use Rattle.level_plan.specs.Plans.{unit_of_level}
-use Rattle.floor_events.specs.declared.event.Event.TheVariants.{Level}
+use Rattle.tournament_events.specs.declared.event.Event.TheVariants.{Level}
 use Rattle.tournament_rules.specs.Books.{BookState}
 use Rattle.tournament_rules.specs.Checks.{level_checks, book_refusal}
 use Rattle.seat_book.specs.declared.seated.Seated.{Seated}

@@ -24,7 +24,7 @@ use Rattle.table_engine.specs.declared.start.StartSeat.{StartSeat}
 use Rattle.table_engine.specs.Hands.{HandTerms}
 use Rattle.table_engine.specs.Starts.{IsLawfulStart}
 use Rattle.table_engine.specs.Results.{players_after}
-use Rattle.floor_events.specs.declared.event.Event.TheVariants.{Begin}
+use Rattle.tournament_events.specs.declared.event.Event.TheVariants.{Begin}
 use Rattle.rulebook.specs.Checks.{first_that_holds}
 use Rattle.tournament_rules.specs.Books.{BookState, start_at, blind_now}
 use Rattle.tournament_rules.specs.Players.{start_seat, dealt_seats, dealt_in, put_back, stayed}

@@ -8,7 +8,7 @@ use Rattle.floor_text.specs.declared.refusal.Refusal.{Refusal}
 use Rattle.table_engine.specs.declared.record.ActFault.{ActFault}
 use Rattle.table_engine.specs.declared.record.ActFault.TheVariants.{No, NoMemory}
 use Rattle.table_engine.specs.Acts.{IsAnswer}
-use Rattle.floor_events.specs.declared.event.Event.TheVariants.{Enter, Stop}
+use Rattle.tournament_events.specs.declared.event.Event.TheVariants.{Enter, Stop}
 use Rattle.tournament_rules.specs.Books.{BookState}
 use Rattle.tournament_rules.specs.Checks.{going_checks, newcomer_checks, seat_checks, entry_checks, room_checks, enter_checks, book_refusal}
 

@@ -17,7 +17,7 @@ use Rattle.seat_book.specs.declared.table_status.TableStatus.{TableStatus}
 use Rattle.seat_book.specs.Tables.{status_at}
 use Rattle.seat_book.specs.Players.{sits_at, sits_in, player_at, with_stack}
 use Rattle.seat_book.specs.Seatings.{Seating, IsSeating, sits_within}
-use Rattle.floor_events.specs.declared.event.Event.TheVariants.{Race}
+use Rattle.tournament_events.specs.declared.event.Event.TheVariants.{Race}
 use Rattle.tournament_rules.specs.Books.{BookState}
 use Rattle.tournament_rules.specs.Checks.{is_table_open, is_playing, is_race_due, race_checks, book_refusal}
 use Rattle.tournament_rules.specs.Effects.{with_table, raced}

@@ -12,7 +12,7 @@ use Rattle.seat_book.proofs.PlaceOrder.{same_place-itself}
 use Rattle.balance_rule.specs.declared.balance.Move.{Move}
 use Rattle.balance_rule.specs.Balance.{balance_move, after_move}
 use Rattle.balance_rule.specs.Filling.{is_same_place}
-use Rattle.floor_events.specs.declared.event.Event.TheVariants.{Balance, Break}
+use Rattle.tournament_events.specs.declared.event.Event.TheVariants.{Balance, Break}
 use Rattle.tournament_rules.specs.Books.{BookState}
 use Rattle.tournament_rules.specs.Checks.{book_refusal, all_balance_checks, break_checks}
 use Rattle.tournament_rules.specs.Moving.{after_all}

@@ -7,7 +7,7 @@ ghost use Rattle.seat_book.specs.Places.{IsPlaceOf};
 ghost use Rattle.seat_book.specs.Players.{player_at, player_of};
 ghost use Rattle.balance_rule.specs.Balance.{balance_move};
 ghost use Rattle.table_engine.specs.Acts.{IsAnswer};
-ghost use Rattle.floor_events.specs.declared.event.Event.TheVariants as events;
+ghost use Rattle.tournament_events.specs.declared.event.Event.TheVariants as events;
 ghost use Rattle.tournament_rules.specs.Checks.{going_checks, both_open_checks, leaving_checks, all_balance_checks, book_refusal};
 ghost use Rattle.tournament_rules.specs.Effects.{balanced};
 ghost use Rattle.floor_book.specs.Tables.{AreOpen};

@@ -10,7 +10,7 @@ ghost use Rattle.floor_book.specs.Seats.{has_lawful_seat, dealt_of};
 ghost use Rattle.button_blinds.specs.SeatSets.{has_seat};
 ghost use Rattle.seat_book.specs.Counts.{count_at};
 ghost use Rattle.table_engine.specs.Acts.{IsAnswer};
-ghost use Rattle.floor_events.specs.declared.event.Event.TheVariants as events;
+ghost use Rattle.tournament_events.specs.declared.event.Event.TheVariants as events;
 ghost use Rattle.tournament_rules.specs.Books.{blind_now};
 ghost use Rattle.tournament_rules.specs.Players.{start_seat, dealt_in};
 ghost use Rattle.tournament_rules.specs.Dealing.{next_at, next_start};

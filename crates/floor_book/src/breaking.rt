@@ -4,7 +4,7 @@ ghost use Rattle.std.specs.Prelude.{◌≡◌, ◌<◌, ◌^◌, ◌++◌, IfOk,
 ghost use Rattle.rulebook.specs.Checks.{IsChecked};
 ghost use Rattle.seat_book.specs.Places.{IsTableOf};
 ghost use Rattle.table_engine.specs.Acts.{IsAnswer};
-ghost use Rattle.floor_events.specs.declared.event.Event.TheVariants as events;
+ghost use Rattle.tournament_events.specs.declared.event.Event.TheVariants as events;
 ghost use Rattle.tournament_rules.specs.Checks.{going_checks, open_table_checks, leaving_checks, break_checks, book_refusal};
 ghost use Rattle.tournament_rules.specs.Effects.{broken};
 

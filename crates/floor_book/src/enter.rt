@@ -6,7 +6,7 @@ ghost use Rattle.rulebook.specs.Checks.{IsChecked, first_that_holds};
 ghost use Rattle.entry_list.specs.Entries.{is_known};
 ghost use Rattle.seat_book.specs.Places.{IsPlaceOf};
 ghost use Rattle.table_engine.specs.Acts.{IsAnswer};
-ghost use Rattle.floor_events.specs.declared.event.Event.TheVariants as events;
+ghost use Rattle.tournament_events.specs.declared.event.Event.TheVariants as events;
 ghost use Rattle.tournament_rules.specs.Checks.{is_taken, room_checks, enter_checks, book_refusal};
 ghost use Rattle.tournament_rules.specs.Effects.{entered};
 

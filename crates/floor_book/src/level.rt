@@ -6,7 +6,7 @@ ghost use Rattle.level_plan.specs.Plans.{unit_of_level};
 ghost use Rattle.seat_book.specs.Counts.{is_open};
 ghost use Rattle.seat_book.specs.Places.{IsTableOf};
 ghost use Rattle.table_engine.specs.Acts.{IsAnswer};
-ghost use Rattle.floor_events.specs.declared.event.Event.TheVariants as events;
+ghost use Rattle.tournament_events.specs.declared.event.Event.TheVariants as events;
 ghost use Rattle.tournament_rules.specs.Checks.{is_last_level, level_checks, book_refusal};
 ghost use Rattle.tournament_rules.specs.Effects.{with_table, leveled};
 ghost use Rattle.tournament_rules.specs.Racing.{announced_table, announced};

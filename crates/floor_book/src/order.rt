@@ -10,9 +10,9 @@ ghost use Rattle.tournament_rules.specs.Kinds.{is_order};
 
 use crate::BookFault;
 use crate::book::Book;
-use floor_events::{Answer, Event};
 use floor_text::Refusal;
 use std::alloc::AllocError;
+use tournament_events::{Answer, Event};
 
 impl Book {
     /// Checks an order, and changes nothing: an order that meets no check is taken where memory does not run out.

@@ -7,7 +7,7 @@ ghost use Rattle.seat_book.specs.Places.{IsTableOf, IsPlaceOf};
 ghost use Rattle.seat_book.specs.Players.{with_stack};
 ghost use Rattle.table_engine.specs.Acts.{IsAnswer};
 ghost use Rattle.floor_text.specs.declared.refusal.Refusal.TheVariants as refusals;
-ghost use Rattle.floor_events.specs.declared.event.Event.TheVariants as events;
+ghost use Rattle.tournament_events.specs.declared.event.Event.TheVariants as events;
 ghost use Rattle.tournament_rules.specs.Checks.{is_table_open, is_playing, is_race_due, over_checks, race_checks, book_refusal};
 ghost use Rattle.tournament_rules.specs.Effects.{with_table, raced};
 ghost use Rattle.tournament_rules.specs.Racing.{stack_in, stacks_at, unit_after, raced_off, race_at, restacked};

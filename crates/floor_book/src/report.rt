@@ -11,12 +11,12 @@ ghost use Rattle.tournament_rules.specs.Report.{reported, reported_out, winner, 
 
 use crate::book::Book;
 use entry_list::EntryList;
-use floor_events::{Report, ReportOut, ReportSeat};
 use floor_text::List;
 use place_list::Standing;
 use seat_book::Seated;
 use std::alloc::{AllocError, Global};
 use table_engine::{HandStart, StartSeat};
+use tournament_events::{Report, ReportOut, ReportSeat};
 
 /// Sums the stacks at rest, in chips.
 fn rest_of(slots: &[Option<Seated>]) -> u64

@@ -3,7 +3,7 @@
 ghost use Rattle.std.specs.Prelude.{◌≡◌, ◌<◌, ◌+◌, ◌^◌, if◌then◌else◌, OnOk, OnErr};
 ghost use Rattle.rulebook.specs.Checks.{IsChecked};
 ghost use Rattle.table_engine.specs.Acts.{IsAnswer};
-ghost use Rattle.floor_events.specs.declared.event.Event.TheVariants as events;
+ghost use Rattle.tournament_events.specs.declared.event.Event.TheVariants as events;
 ghost use Rattle.tournament_rules.specs.Checks.{hands_checks, end_round_checks, book_refusal};
 ghost use Rattle.tournament_rules.specs.Effects.{with_hands, round_ended};
 

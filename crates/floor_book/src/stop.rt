@@ -3,7 +3,7 @@
 ghost use Rattle.std.specs.Prelude.{◌≡◌, ◌<◌, ◌^◌, OnOk, OnErr};
 ghost use Rattle.seat_book.specs.Places.{IsTableOf};
 ghost use Rattle.table_engine.specs.Acts.{IsAnswer};
-ghost use Rattle.floor_events.specs.declared.event.Event.TheVariants as events;
+ghost use Rattle.tournament_events.specs.declared.event.Event.TheVariants as events;
 ghost use Rattle.tournament_rules.specs.Checks.{book_refusal};
 ghost use Rattle.tournament_rules.specs.Effects.{void_at, stopped_book};
 

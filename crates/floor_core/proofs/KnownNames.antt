@@ -12,7 +12,7 @@ use Rattle.entry_list.specs.Entries.{is_known}
 use Rattle.table_engine.specs.declared.start.HandStart.{HandStart}
 use Rattle.table_engine.specs.Hands.{HandTerms}
 use Rattle.table_engine.specs.Acts.{is_dealt, act_checks}
-use Rattle.floor_events.specs.declared.event.Event.TheVariants as events
+use Rattle.tournament_events.specs.declared.event.Event.TheVariants as events
 use Rattle.tournament_rules.specs.Books.{start_at, has_table}
 use Rattle.tournament_rules.specs.Checks.{going_checks, known_checks, hand_checks, is_playing, playing_checks}
 use Rattle.tournament_rules.specs.States.{PlayState, acts_at, refusal_of}

@@ -4,7 +4,7 @@ use Rattle.std.specs.Option.{option_map_or}
 use Rattle.rulebook.specs.Checks.{first_that_holds}
 use Rattle.floor_text.specs.declared.refusal.Refusal.{Refusal}
 use Rattle.betting_round.specs.declared.act.Act.{Act}
-use Rattle.floor_events.specs.declared.event.Event.TheVariants as events
+use Rattle.tournament_events.specs.declared.event.Event.TheVariants as events
 use Rattle.tournament_rules.specs.Checks.{hand_checks, playing_checks}
 use Rattle.tournament_rules.specs.States.{PlayState, hand_at}
 

@@ -6,7 +6,7 @@ ghost use Rattle.table_engine.specs.Hands.{HandTerms, is_over};
 ghost use Rattle.table_engine.specs.Acts.{IsAnswer, refusal_of_act, refusal_of_time, hand_after, hand_after_time};
 ghost use Rattle.table_engine.specs.Plays.{IsCompletePlay, recorded_hand};
 ghost use Rattle.rulebook.specs.Checks.{IsChecked};
-ghost use Rattle.floor_events.specs.declared.event.Event.TheVariants as events;
+ghost use Rattle.tournament_events.specs.declared.event.Event.TheVariants as events;
 ghost use Rattle.std.specs.Option.{option_copied};
 ghost use Rattle.tournament_rules.specs.States.{first_play, hand_at, refusal_of, play_effect};
 ghost use Rattle.tournament_rules.specs.Checks.{end_checks};
@@ -18,12 +18,12 @@ ghost use Rattle.floor_core.specs.Acting.{refusal_by_hand};
 use betting_round::Act;
 use card_set::CardRow;
 use floor_book::{Book, BookFault, clear_slots, empty_slots};
-use floor_events::Event;
 use floor_text::{Name, Refusal};
 use level_plan::Plan;
 use std::alloc::{AllocError, Global};
 use std::marker::Model;
 use table_engine::{Hand, HandRecord};
+use tournament_events::Event;
 
 /// The book, and by table number the hand that is played there. Contracts see it as a `PlayState`.
 #[derive(Drop)]

@@ -3,8 +3,8 @@
 ghost use Rattle.std.specs.Prelude.{◌≡◌, ◌<◌, ◌^◌, ℕ, true, false, None, is_some, option_map, if◌then◌else◌, IfOk, OnOk, OnErr};
 ghost use Rattle.std.specs.Option.{ForSome, option_copied, option_map_or, option_and_then};
 ghost use Rattle.seat_book.specs.Seatings.{empty_seating};
-ghost use Rattle.floor_events.specs.declared.answer.Answer.TheVariants as answers;
-ghost use Rattle.floor_events.specs.declared.event.Event.TheVariants as events;
+ghost use Rattle.tournament_events.specs.declared.answer.Answer.TheVariants as answers;
+ghost use Rattle.tournament_events.specs.declared.event.Event.TheVariants as events;
 ghost use Rattle.card_set.specs.declared.card.CardRow.{CardRow};
 ghost use Rattle.table_engine.specs.Starts.{IsLawfulStart};
 ghost use Rattle.tournament_rules.specs.Dealing.{next_start};
@@ -17,13 +17,13 @@ use crate::plan::take_line;
 use crate::play::Play;
 use betting_round::Act;
 use floor_book::{Book, BookFault};
-use floor_events::{Answer, Event, Report};
 use floor_text::{List, Name, Refusal};
 use level_plan::{PlanDraft, PlanFault};
 use seat_book::SeatBook;
 use std::alloc::{AllocError, Global};
 use std::marker::Model;
 use table_engine::Hand;
+use tournament_events::{Answer, Event, Report};
 
 /// The sequential tournament: a plan's draft until `go`, and then a book and its hands. Contracts see it as a
 /// `State`.

@@ -19,8 +19,8 @@ use Rattle.balance_rule.proofs.Converse.{lawful-checked}
 use Rattle.break_draw.specs.declared.random.DrawKind.TheVariants.{Seats, Names}
 use Rattle.break_draw.specs.Generator.{drawn_order}
 use Rattle.break_draw.proofs.Shuffles.{drawn-permutes}
-use Rattle.floor_events.specs.declared.event.Event.{Event}
-use Rattle.floor_events.specs.declared.event.Event.TheVariants as events
+use Rattle.tournament_events.specs.declared.event.Event.{Event}
+use Rattle.tournament_events.specs.declared.event.Event.TheVariants as events
 use Rattle.floor_director.specs.Orders.{balance_of, break_of, drawn_break, first_order, giver, is_last_open, is_playing, last_open, may_give, may_take, next_order, owed_balance, owed_break, taker}
 use Rattle.floor_director.specs.Owed.{IsNextOrder, IsOwedBalance, IsOwedBreak}
 use Rattle.floor_director.proofs.FirstTables.{IsFirst, IsLowest, tables-any, tables-first, tables-none}

@@ -10,8 +10,8 @@ use Rattle.balance_rule.specs.Moves.{IsLawfulMove}
 use Rattle.balance_rule.specs.Moves.{Balance as ByBalance, Break as ByBreak}
 use Rattle.break_draw.specs.declared.random.DrawKind.TheVariants.{Seats, Names}
 use Rattle.break_draw.specs.Generator.{drawn_order}
-use Rattle.floor_events.specs.declared.event.Event.{Event}
-use Rattle.floor_events.specs.declared.event.Event.TheVariants as events
+use Rattle.tournament_events.specs.declared.event.Event.{Event}
+use Rattle.tournament_events.specs.declared.event.Event.TheVariants as events
 use Rattle.floor_director.specs.Owed.{IsNextOrder, IsOwedBalance, IsOwedBreak}
 
 -- two tables that break lawfully are one

@@ -12,8 +12,8 @@ use Rattle.balance_rule.specs.Moves.{Break as ByBreak}
 use Rattle.break_draw.specs.Draws.{is_draw}
 use Rattle.break_draw.proofs.FillRoom.{without_room-none}
 use Rattle.break_draw.proofs.Reorders.{draw-right}
-use Rattle.floor_events.specs.declared.event.Event.{Event}
-use Rattle.floor_events.specs.declared.event.Event.TheVariants as events
+use Rattle.tournament_events.specs.declared.event.Event.{Event}
+use Rattle.tournament_events.specs.declared.event.Event.TheVariants as events
 use Rattle.floor_director.specs.Owed.{IsNextOrder}
 use Rattle.floor_director.proofs.NextOrders.{lawful-last, taken}
 

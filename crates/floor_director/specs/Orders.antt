@@ -8,8 +8,8 @@ use Rattle.balance_rule.specs.Balance.{is_even_enough, is_not_fullest, is_not_sh
 use Rattle.balance_rule.specs.Filling.{fill_seats, names_at}
 use Rattle.break_draw.specs.declared.random.DrawKind.TheVariants.{Seats, Names}
 use Rattle.break_draw.specs.Generator.{drawn_order}
-use Rattle.floor_events.specs.declared.event.Event.{Event}
-use Rattle.floor_events.specs.declared.event.Event.TheVariants.{Balance, Break}
+use Rattle.tournament_events.specs.declared.event.Event.{Event}
+use Rattle.tournament_events.specs.declared.event.Event.TheVariants.{Balance, Break}
 
 -- A table plays a hand.
 abbrev pub is_playing : Seating → ℕ → Bool

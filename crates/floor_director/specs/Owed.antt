@@ -8,8 +8,8 @@ use Rattle.balance_rule.specs.Moves.{FloorMove, IsLawfulMove}
 use Rattle.balance_rule.specs.Moves.{Balance as ByBalance, Break as ByBreak}
 use Rattle.break_draw.specs.declared.random.DrawKind.TheVariants.{Seats, Names}
 use Rattle.break_draw.specs.Generator.{drawn_order}
-use Rattle.floor_events.specs.declared.event.Event.{Event}
-use Rattle.floor_events.specs.declared.event.Event.TheVariants as events
+use Rattle.tournament_events.specs.declared.event.Event.{Event}
+use Rattle.tournament_events.specs.declared.event.Event.TheVariants as events
 
 -- A break is lawful, and its orders are those of the draw.
 pub record IsOwedBreak (seating : Seating) (seed : List ℕ) (number table : ℕ) (seats : List Place)

@@ -12,8 +12,8 @@ ghost use Rattle.balance_rule.specs.Balance.{after_move, balance_checks};
 ghost use Rattle.balance_rule.specs.Filling.{fill_seats, lacks_room};
 ghost use Rattle.balance_rule.specs.Moves.{Balance as ByBalance, IsFreeTable, IsLawfulMove};
 ghost use Rattle.break_draw.specs.Draws.{is_draw};
-ghost use Rattle.floor_events.specs.declared.event.Event.{Event};
-ghost use Rattle.floor_events.specs.declared.event.Event.TheVariants.{Balance, Break};
+ghost use Rattle.tournament_events.specs.declared.event.Event.{Event};
+ghost use Rattle.tournament_events.specs.declared.event.Event.TheVariants.{Balance, Break};
 ghost use Rattle.floor_director.specs.Owed.{IsNextOrder};
 ghost use Rattle.floor_director.specs.Spread.{AreBalances, Balancing, spread};
 

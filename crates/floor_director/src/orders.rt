@@ -7,16 +7,16 @@ ghost use Rattle.seat_book.specs.Counts.{greatest_count, least_count};
 ghost use Rattle.seat_book.specs.Seatings.{IsSeating};
 ghost use Rattle.balance_rule.specs.declared.balance.Move.{Move};
 ghost use Rattle.balance_rule.specs.Balance.{balance_move};
-ghost use Rattle.floor_events.specs.declared.event.Event.TheVariants.{Balance};
+ghost use Rattle.tournament_events.specs.declared.event.Event.TheVariants.{Balance};
 ghost use Rattle.floor_director.specs.Orders.{giver, is_last_open, last_open, may_give, may_take, next_order, owed_balance, owed_break, taker};
 ghost use Rattle.floor_director.specs.Owed.{IsNextOrder};
 
 use balance_rule::{balance_order, names_at};
 use break_draw::{draw, fill_seats};
-use floor_events::Event;
 use floor_text::List;
 use seat_book::SeatBook;
 use std::alloc::{AllocError, Global};
+use tournament_events::Event;
 
 /// Tells whether a table is open, and none with a higher number is.
 fn is_last_open(book: &SeatBook, table: u8) -> bool

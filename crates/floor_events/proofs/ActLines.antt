@@ -13,9 +13,9 @@ use Rattle.line_words.specs.Fields.{next_by, name_of, act_of}
 use Rattle.line_words.specs.Words.{words_of_line}
 use Rattle.line_words.specs.Rows.{read_fields}
 use Rattle.floor_events.specs.declared.act_reader.ActLine.{ActLine}
-use Rattle.floor_events.specs.declared.event.Event.TheVariants as events
-use Rattle.floor_events.specs.declared.event.Item.{Item}
-use Rattle.floor_events.specs.declared.event.Item.TheVariants as found
+use Rattle.tournament_events.specs.declared.event.Event.TheVariants as events
+use Rattle.tournament_events.specs.declared.event.Item.{Item}
+use Rattle.tournament_events.specs.declared.event.Item.TheVariants as found
 use Rattle.floor_events.specs.Acts.{act_fields, act_line, item_of_act}
 use Rattle.floor_events.specs.Grammar.{is_note, item_of_words, item_of_bytes}
 use Rattle.floor_events.proofs.EventLaws.{line_found, act_text}

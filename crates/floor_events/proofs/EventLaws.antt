@@ -21,10 +21,10 @@ use Rattle.line_words.proofs.FieldLaws.{test_found}
 use Rattle.line_words.proofs.Growth.{join_with_byte-cons}
 use Rattle.line_words.proofs.RowLaws as rows
 use Rattle.level_plan.specs.declared.line.PlanLine.TheVariants as lines
-use Rattle.floor_events.specs.declared.event.Event.{Event}
-use Rattle.floor_events.specs.declared.event.Event.TheVariants as events
-use Rattle.floor_events.specs.declared.event.Item.{Item}
-use Rattle.floor_events.specs.declared.event.Item.TheVariants as found
+use Rattle.tournament_events.specs.declared.event.Event.{Event}
+use Rattle.tournament_events.specs.declared.event.Event.TheVariants as events
+use Rattle.tournament_events.specs.declared.event.Item.{Item}
+use Rattle.tournament_events.specs.declared.event.Item.TheVariants as found
 use Rattle.floor_events.specs.Grammar.{grammar, line_of, is_note, item_of_words, item_of_bytes}
 use Rattle.floor_events.specs.Spelling.{event_text, HasLineParts, IsWritable, IsNote, IsLineOf}
 

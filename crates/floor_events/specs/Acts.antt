@@ -3,9 +3,9 @@ use Rattle.std.specs.Prelude.{ℕ, List}
 use Rattle.betting_round.specs.declared.act.Act.{Act}
 use Rattle.line_words.specs.Rows.{a_number, a_name, an_act, ◌▸◌, Fields}
 use Rattle.floor_events.specs.declared.act_reader.ActLine.{ActLine}
-use Rattle.floor_events.specs.declared.event.Event.TheVariants as events
-use Rattle.floor_events.specs.declared.event.Item.{Item}
-use Rattle.floor_events.specs.declared.event.Item.TheVariants as found
+use Rattle.tournament_events.specs.declared.event.Event.TheVariants as events
+use Rattle.tournament_events.specs.declared.event.Item.{Item}
+use Rattle.tournament_events.specs.declared.event.Item.TheVariants as found
 
 -- the fields of an act behind its first word
 abbrev pub act_fields : Fields

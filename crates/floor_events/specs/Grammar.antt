@@ -7,10 +7,10 @@ use Rattle.level_plan.specs.Limits.{most_shares}
 use Rattle.level_plan.specs.declared.line.PlanLine.TheVariants as lines
 use Rattle.line_words.specs.Words.{words_of_line}
 use Rattle.line_words.specs.Rows.{a_number, a_name, a_row, a_game, a_switch, some_places, some_names, no_field, last, ◌▸◌, an_act, few, Row, row, read_words, Line, line}
-use Rattle.floor_events.specs.declared.event.Event.{Event}
-use Rattle.floor_events.specs.declared.event.Event.TheVariants as events
-use Rattle.floor_events.specs.declared.event.Item.{Item}
-use Rattle.floor_events.specs.declared.event.Item.TheVariants as found
+use Rattle.tournament_events.specs.declared.event.Event.{Event}
+use Rattle.tournament_events.specs.declared.event.Event.TheVariants as events
+use Rattle.tournament_events.specs.declared.event.Item.{Item}
+use Rattle.tournament_events.specs.declared.event.Item.TheVariants as found
 
 -- the rows of the events that hold a list, for which memory is wanted
 abbrev pub list_rows : List (Row Event)

@@ -6,14 +6,14 @@ use Rattle.floor_text.specs.Limits.{longest_line}
 use Rattle.floor_text.specs.Refusals.{refusal_number, refusal_name}
 use Rattle.level_plan.specs.declared.line.PlanItem.{PlanItem}
 use Rattle.level_plan.specs.declared.line.PlanItem.TheVariants as items
-use Rattle.floor_events.specs.declared.event.Event.{Event}
-use Rattle.floor_events.specs.declared.event.Item.{Item}
-use Rattle.floor_events.specs.declared.event.Item.TheVariants as found
-use Rattle.floor_events.specs.declared.answer.Answer.{Answer}
-use Rattle.floor_events.specs.declared.answer.Answer.TheVariants as answers
-use Rattle.floor_events.specs.declared.report.Report.{Report}
-use Rattle.floor_events.specs.declared.report.ReportSeat.{ReportSeat}
-use Rattle.floor_events.specs.declared.report.ReportOut.{ReportOut}
+use Rattle.tournament_events.specs.declared.event.Event.{Event}
+use Rattle.tournament_events.specs.declared.event.Item.{Item}
+use Rattle.tournament_events.specs.declared.event.Item.TheVariants as found
+use Rattle.tournament_events.specs.declared.answer.Answer.{Answer}
+use Rattle.tournament_events.specs.declared.answer.Answer.TheVariants as answers
+use Rattle.tournament_events.specs.declared.report.Report.{Report}
+use Rattle.tournament_events.specs.declared.report.ReportSeat.{ReportSeat}
+use Rattle.tournament_events.specs.declared.report.ReportOut.{ReportOut}
 use Rattle.line_words.specs.Words.{line_of_words}
 use Rattle.line_words.specs.Rows.{text_of, IsLawfulLine}
 use Rattle.floor_events.specs.Grammar.{line_of, is_note}

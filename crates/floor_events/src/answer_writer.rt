@@ -1,12 +1,13 @@
 //! Answers are written.
 
 ghost use Rattle.std.specs.Prelude.{◌≡◌, ◌++◌, OnOk, OnErr};
+ghost use Rattle.line_words.specs.Words.{Extends};
 ghost use Rattle.floor_events.specs.Spelling.{item_word, answer_text};
 
-use crate::answer::Answer;
 use level_plan::PlanItem;
-use line_words::{Word, WriteText, push_line, write_text};
+use line_words::{Word, push_line, whole_or_nothing};
 use std::alloc::AllocError;
+use tournament_events::Answer;
 
 fn item_word(item: PlanItem) -> &'static [u8]
     ensures { result.now ≡ item_word item }
@@ -26,30 +27,29 @@ fn item_word(item: PlanItem) -> &'static [u8]
     }
 }
 
-impl WriteText for Answer {
-    ghost text = { answer_text };
-
-    fn push_text(&self, out: &mut Vec<u8>) -> Result<(), AllocError> {
-        match *self {
-            Answer::Ok => push_line(out, &[Word::Text(b"ok")]),
-            Answer::No(refusal) => push_line(
-                out,
-                &[
-                    Word::Text(b"no"),
-                    Word::Number(refusal.number()),
-                    Word::Text(refusal.name().as_bytes()),
-                ],
-            ),
-            Answer::PlanWrong(item) => push_line(
-                out,
-                &[
-                    Word::Text(b"no"),
-                    Word::Text(b"4"),
-                    Word::Text(b"PlanWrong"),
-                    Word::Text(item_word(item)),
-                ],
-            ),
-        }
+fn push_answer(answer: Answer, out: &mut Vec<u8>) -> Result<(), AllocError>
+    ensures ok { OnOk result (out.new.items ≡ out.old.items ++ answer_text answer) }
+    ensures kept { Extends out.old.items out.new.items }
+{
+    match answer {
+        Answer::Ok => push_line(out, &[Word::Text(b"ok")]),
+        Answer::No(refusal) => push_line(
+            out,
+            &[
+                Word::Text(b"no"),
+                Word::Number(refusal.number()),
+                Word::Text(refusal.name().as_bytes()),
+            ],
+        ),
+        Answer::PlanWrong(item) => push_line(
+            out,
+            &[
+                Word::Text(b"no"),
+                Word::Text(b"4"),
+                Word::Text(b"PlanWrong"),
+                Word::Text(item_word(item)),
+            ],
+        ),
     }
 }
 
@@ -58,5 +58,7 @@ pub fn write_answer(answer: &Answer, out: &mut Vec<u8>) -> Result<(), AllocError
     ensures ok { OnOk result (out.new.items ≡ out.old.items ++ answer_text answer.now) }
     ensures err { OnErr result (out.new.items ≡ out.old.items) }
 {
-    write_text(answer, out)
+    let before = out.len();
+    let written = push_answer(*answer, out);
+    whole_or_nothing(written, before, out)
 }

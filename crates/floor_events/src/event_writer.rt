@@ -1,19 +1,19 @@
 //! Events are written.
 
 ghost use Rattle.std.specs.Prelude.{◌≡◌, ◌++◌, OnOk, OnErr};
-ghost use Rattle.floor_events.specs.declared.event.Event.TheVariants as events;
+ghost use Rattle.tournament_events.specs.declared.event.Event.TheVariants as events;
 ghost use Rattle.level_plan.specs.declared.line.PlanLine.TheVariants as lines;
 ghost use Rattle.floor_events.specs.Spelling.{event_text};
 ghost use Rattle.line_words.specs.Words.{Extends};
 
-use crate::event::Event;
 use betting_round::Act;
 use floor_text::Name;
 use level_plan::PlanLine;
 use line_words::{
-    Word, WriteText, act_word, game_word, push_behind, push_words, switch_word, write_text,
+    Word, act_word, game_word, push_behind, push_words, switch_word, whole_or_nothing,
 };
 use std::alloc::AllocError;
+use tournament_events::Event;
 
 /// Writes the shares of the prizes.
 #[tactic(auto, using(crate::proofs::EventLaws::shares_text))]
@@ -72,72 +72,65 @@ fn push_act(table: u64, name: &Name, act: Act, out: &mut Vec<u8>) -> Result<(), 
     }
 }
 
-impl WriteText for Event {
-    ghost text = { event_text };
-
-    #[tactic(auto, unfolding(crate::specs::Spelling::event_text))]
-    fn push_text(&self, out: &mut Vec<u8>) -> Result<(), AllocError> {
-        match self {
-            Event::Plan(line) => push_plan_line(line, out),
-            Event::Go => push_words(out, &[Word::Text(b"go")]),
-            Event::Enter { name, table, seat } => push_words(
+#[tactic(auto, unfolding(crate::specs::Spelling::event_text))]
+fn push_event(event: &Event, out: &mut Vec<u8>) -> Result<(), AllocError>
+    ensures ok { OnOk result (out.new.items ≡ out.old.items ++ event_text event.now) }
+    ensures kept { Extends out.old.items out.new.items }
+{
+    match event {
+        Event::Plan(line) => push_plan_line(line, out),
+        Event::Go => push_words(out, &[Word::Text(b"go")]),
+        Event::Enter { name, table, seat } => push_words(
+            out,
+            &[
+                Word::Text(b"enter"),
+                Word::Text(name.bytes()),
+                Word::Number(*table),
+                Word::Number(*seat),
+            ],
+        ),
+        Event::Begin { table, row } => {
+            push_words(
                 out,
-                &[
-                    Word::Text(b"enter"),
-                    Word::Text(name.bytes()),
-                    Word::Number(*table),
-                    Word::Number(*seat),
-                ],
-            ),
-            Event::Begin { table, row } => {
-                push_words(
-                    out,
-                    &[Word::Text(b"begin"), Word::Number(*table), Word::Cards(row)],
-                )
-            }
-            Event::Act { table, name, act } => push_act(*table, name, *act, out),
-            Event::Time { table } => push_words(out, &[Word::Text(b"time"), Word::Number(*table)]),
-            Event::Settle { table } => push_words(
-                out,
-                &[Word::Text(b"settle"), Word::Number(*table)],
-            ),
-            Event::Balance { from, to } => {
-                push_words(
-                    out,
-                    &[
-                        Word::Text(b"balance"),
-                        Word::Number(*from),
-                        Word::Number(*to),
-                    ],
-                )
-            }
-            Event::Break {
-                table,
-                seats,
-                names,
-            } => push_words(
-                out,
-                &[
-                    Word::Text(b"break"),
-                    Word::Number(*table),
-                    Word::Places(seats.items()),
-                    Word::Names(names.items()),
-                ],
-            ),
-            Event::Level => push_words(out, &[Word::Text(b"level")]),
-            Event::Race { table, row } => {
-                push_words(
-                    out,
-                    &[Word::Text(b"race"), Word::Number(*table), Word::Cards(row)],
-                )
-            }
-            Event::Hands(on) => push_words(
-                out,
-                &[Word::Text(b"hands"), Word::Text(switch_word(*on))],
-            ),
-            Event::Round => push_words(out, &[Word::Text(b"round")]),
-            Event::Stop => push_words(out, &[Word::Text(b"stop")]),
+                &[Word::Text(b"begin"), Word::Number(*table), Word::Cards(row)],
+            )
         }
+        Event::Act { table, name, act } => push_act(*table, name, *act, out),
+        Event::Time { table } => push_words(out, &[Word::Text(b"time"), Word::Number(*table)]),
+        Event::Settle { table } => push_words(out, &[Word::Text(b"settle"), Word::Number(*table)]),
+        Event::Balance { from, to } => {
+            push_words(
+                out,
+                &[
+                    Word::Text(b"balance"),
+                    Word::Number(*from),
+                    Word::Number(*to),
+                ],
+            )
+        }
+        Event::Break {
+            table,
+            seats,
+            names,
+        } => push_words(
+            out,
+            &[
+                Word::Text(b"break"),
+                Word::Number(*table),
+                Word::Places(seats.items()),
+                Word::Names(names.items()),
+            ],
+        ),
+        Event::Level => push_words(out, &[Word::Text(b"level")]),
+        Event::Race { table, row } => {
+            push_words(
+                out,
+                &[Word::Text(b"race"), Word::Number(*table), Word::Cards(row)],
+            )
+        }
+        Event::Hands(on) => push_words(out, &[Word::Text(b"hands"), Word::Text(switch_word(*on))]),
+        Event::Round => push_words(out, &[Word::Text(b"round")]),
+        Event::Stop => push_words(out, &[Word::Text(b"stop")]),
     }
 }
 
@@ -147,5 +140,7 @@ pub fn write_event(event: &Event, out: &mut Vec<u8>) -> Result<(), AllocError>
     ensures ok { OnOk result (out.new.items ≡ out.old.items ++ event_text event.now) }
     ensures err { OnErr result (out.new.items ≡ out.old.items) }
 {
-    write_text(event, out)
+    let before = out.len();
+    let written = push_event(event, out);
+    whole_or_nothing(written, before, out)
 }

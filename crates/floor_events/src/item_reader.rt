@@ -1,19 +1,19 @@
 //! Lines are read as items.
 
 ghost use Rattle.std.specs.Prelude.{◌≡◌, codes, Some, option_map, IfOk, OnErr, IfSome, IsSome};
-ghost use Rattle.floor_events.specs.declared.event.Event.TheVariants as events;
-ghost use Rattle.floor_events.specs.declared.event.Item.{Item};
-ghost use Rattle.floor_events.specs.declared.event.Item.TheVariants as items;
+ghost use Rattle.tournament_events.specs.declared.event.Event.TheVariants as events;
+ghost use Rattle.tournament_events.specs.declared.event.Item.{Item};
+ghost use Rattle.tournament_events.specs.declared.event.Item.TheVariants as items;
 ghost use Rattle.line_words.specs.Rows.{read_by};
 ghost use Rattle.floor_events.specs.Grammar.{plan_rows, plain_rows, is_note, item_of_words, item_of_bytes};
 ghost use Rattle.floor_events.specs.Spelling.{IsLineOf};
 
-use crate::event::{Event, Item};
 use crate::list_reader::{read_break, read_shares};
 use floor_text::LONGEST_LINE;
 use level_plan::{Blind, PlanLine};
 use line_words::{LineWords, is};
 use std::alloc::{AllocError, Global};
+use tournament_events::{Event, Item};
 
 /// Gives the item of a line of a plan.
 fn plan_item(line: PlanLine) -> Item

@@ -2,9 +2,9 @@
 
 ghost use Rattle.std.specs.Prelude.{◌≡◌, ◌∷◌, ◌++◌, ℕ, List, Some, None};
 ghost use Rattle.floor_text.specs.Lines.{lines_of_bytes};
-ghost use Rattle.floor_events.specs.declared.event.Event.{Event};
-ghost use Rattle.floor_events.specs.declared.event.Item.{Item};
-ghost use Rattle.floor_events.specs.declared.event.Item.TheVariants as items;
+ghost use Rattle.tournament_events.specs.declared.event.Event.{Event};
+ghost use Rattle.tournament_events.specs.declared.event.Item.{Item};
+ghost use Rattle.tournament_events.specs.declared.event.Item.TheVariants as items;
 ghost use Rattle.floor_events.specs.Grammar.{item_of_bytes};
 ghost use Rattle.floor_events.specs.Spelling.{event_text, IsWritable, IsLineOf};
 

@@ -6,21 +6,15 @@
 #![tactic(auto)]
 
 mod act_reader;
-mod answer;
 mod answer_writer;
-mod event;
 mod event_writer;
 mod item_reader;
 pub mod laws;
 mod list_reader;
-mod report;
 mod report_writer;
 
 pub use act_reader::{ActLine, read_act};
-pub use answer::Answer;
 pub use answer_writer::write_answer;
-pub use event::{Event, Item};
 pub use event_writer::write_event;
 pub use item_reader::read_item;
-pub use report::{Report, ReportOut, ReportSeat};
 pub use report_writer::write_report;

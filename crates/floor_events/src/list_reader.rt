@@ -3,16 +3,16 @@
 
 ghost use Rattle.std.specs.Prelude.{◌≡◌, codes, IfOk, OnErr, IsSome, option_map};
 ghost use Rattle.line_words.specs.Rows.{read_by};
-ghost use Rattle.floor_events.specs.declared.event.Event.TheVariants as events;
-ghost use Rattle.floor_events.specs.declared.event.Item.TheVariants as items;
+ghost use Rattle.tournament_events.specs.declared.event.Event.TheVariants as events;
+ghost use Rattle.tournament_events.specs.declared.event.Item.TheVariants as items;
 ghost use Rattle.floor_events.specs.Grammar.{grammar};
 
-use crate::event::{Event, Item};
 use floor_text::Name;
 use level_plan::{MOST_SHARES, PlanLine};
 use line_words::{Few, LineWords, MOST_MEMBERS, read_few};
 use seat_book::Place;
 use std::alloc::{AllocError, Global};
+use tournament_events::{Event, Item};
 
 /// Reads all words that are left as the shares of the prizes. `None` exactly where they are not 1 to 64 numbers;
 /// memory is wanted only where they are.

@@ -1,12 +1,24 @@
 //! Reports are written.
 
-ghost use Rattle.std.specs.Prelude.{◌≡◌, ◌∷◌, ◌++◌, [], codes, OnOk, OnErr};
+ghost use Rattle.std.specs.Prelude.{◌≡◌, ◌∷◌, ◌++◌, ℕ, List, [], codes, OnOk, OnErr};
+ghost use Rattle.std.specs.List.{flat_map};
 ghost use Rattle.floor_events.specs.Spelling.{report_head, report_end, seat_line, out_line, report_text};
 ghost use Rattle.line_words.specs.Words.{line_of_words, Extends};
 
-use crate::report::{Report, ReportOut, ReportSeat};
-use line_words::{Word, WriteText, push_each, push_line, push_lines, write_text};
+use line_words::{Word, push_line, push_lines, whole_or_nothing};
 use std::alloc::AllocError;
+use tournament_events::{Report, ReportOut, ReportSeat};
+
+/// What has a line of its own in a report.
+trait ReportLine {
+    /// The line of each value.
+    ghost line: { Self → List ℕ };
+
+    /// Writes the line at the end of `out`. Where memory runs out, `out` has something behind what it had.
+    fn push_report_line(&self, out: &mut Vec<u8>) -> Result<(), AllocError>
+        ensures ok { OnOk result (out.new.items ≡ out.old.items ++ line self.now) }
+        ensures kept { Extends out.old.items out.new.items };
+}
 
 fn push_head(report: &Report, out: &mut Vec<u8>) -> Result<(), AllocError>
     ensures ok { OnOk result (out.new.items ≡ out.old.items ++ report_head report.now) }
@@ -27,10 +39,10 @@ fn push_head(report: &Report, out: &mut Vec<u8>) -> Result<(), AllocError>
     )
 }
 
-impl WriteText for ReportSeat {
-    ghost text = { seat_line };
+impl ReportLine for ReportSeat {
+    ghost line = { seat_line };
 
-    fn push_text(&self, out: &mut Vec<u8>) -> Result<(), AllocError> {
+    fn push_report_line(&self, out: &mut Vec<u8>) -> Result<(), AllocError> {
         let stack = match self.stack {
             None => Word::Text(b"play"),
             Some(stack) => Word::Number(stack),
@@ -49,10 +61,10 @@ impl WriteText for ReportSeat {
     }
 }
 
-impl WriteText for ReportOut {
-    ghost text = { out_line };
+impl ReportLine for ReportOut {
+    ghost line = { out_line };
 
-    fn push_text(&self, out: &mut Vec<u8>) -> Result<(), AllocError> {
+    fn push_report_line(&self, out: &mut Vec<u8>) -> Result<(), AllocError> {
         push_line(
             out,
             &[
@@ -66,15 +78,25 @@ impl WriteText for ReportOut {
     }
 }
 
-impl WriteText for Report {
-    ghost text = { report_text };
-
-    fn push_text(&self, out: &mut Vec<u8>) -> Result<(), AllocError> {
-        push_head(self, out)?;
-        push_each(self.seats.items(), out)?;
-        push_each(self.outs.items(), out)?;
-        push_line(out, &[Word::Text(b"*"), Word::Text(b"end")])
+/// Writes the lines of players one after another.
+fn push_players<T: ReportLine>(players: &[T], out: &mut Vec<u8>) -> Result<(), AllocError>
+    ensures ok { OnOk result (out.new.items ≡ out.old.items ++ flat_map T.line players.now) }
+    ensures kept { Extends out.old.items out.new.items }
+{
+    for player in players {
+        player.push_report_line(out)?;
     }
+    Ok(())
+}
+
+fn push_report(report: &Report, out: &mut Vec<u8>) -> Result<(), AllocError>
+    ensures ok { OnOk result (out.new.items ≡ out.old.items ++ report_text report.now) }
+    ensures kept { Extends out.old.items out.new.items }
+{
+    push_head(report, out)?;
+    push_players(report.seats.items(), out)?;
+    push_players(report.outs.items(), out)?;
+    push_line(out, &[Word::Text(b"*"), Word::Text(b"end")])
 }
 
 /// Writes a report at the end of `out`, all its lines. After want of memory `out` is as before.
@@ -82,5 +104,7 @@ pub fn write_report(report: &Report, out: &mut Vec<u8>) -> Result<(), AllocError
     ensures ok { OnOk result (out.new.items ≡ out.old.items ++ report_text report.now) }
     ensures err { OnErr result (out.new.items ≡ out.old.items) }
 {
-    write_text(report, out)
+    let before = out.len();
+    let written = push_report(report, out);
+    whole_or_nothing(written, before, out)
 }

@@ -3,9 +3,9 @@ use Rattle.std.proofs.Common.{◌≡◌, ℕ, refl, ap, List, [], ◌∷◌, ◌
 use Rattle.std.specs.Prelude.{Option}
 use Rattle.std.specs.List.{flat_map}
 use Rattle.floor_events.specs.Spelling.{answer_text}
-use Rattle.floor_events.specs.declared.event.Item.{Item}
+use Rattle.tournament_events.specs.declared.event.Item.{Item}
 use Rattle.tournament_rules.specs.States.{State, first_state}
-use Rattle.tournament_rules.specs.Replay.{answer_to_item, state_after_item, answers_to_items, state_after_items, items_of_bytes, final_text, replay_text}
+use Rattle.replay_rules.specs.Replay.{answer_to_item, state_after_item, answers_to_items, state_after_items, items_of_bytes, final_text, replay_text}
 use Rattle.floor_offline.specs.Told.{items_told, stream_told, answers_told}
 
 items_answered : (state : State) (items : List (Option Item))

@@ -1,10 +1,10 @@
 -- Each line makes at most one accepted event, and leaves a valid state.
 use Rattle.std.proofs.Common.{◌≡◌, ◌≤◌, ◌+◌, Bool, true, false, arith}
 use Rattle.std.specs.Prelude.{Option, Some, None, cond}
-use Rattle.floor_events.specs.declared.event.Item.{Item}
-use Rattle.floor_events.specs.declared.event.Item.TheVariants.{Event, Note}
+use Rattle.tournament_events.specs.declared.event.Item.{Item}
+use Rattle.tournament_events.specs.declared.event.Item.TheVariants.{Event, Note}
 use Rattle.tournament_rules.specs.States.{State, answer_to, accepted, is_accepted}
-use Rattle.tournament_rules.specs.Replay.{state_after_item}
+use Rattle.replay_rules.specs.Replay.{state_after_item}
 use Rattle.tournament_rules.specs.Valid.{IsValidState}
 use Rattle.tournament_rules.proofs.Steps.{valid_state_after}
 

@@ -9,7 +9,7 @@ use Rattle.floor_offline.specs.Promise.{IsToldOf, TakesAndPuts}
 use Rattle.floor_offline.proofs.AnswersTold.{stream_answered}
 use Rattle.floor_offline.proofs.Running.{both_from}
 use Rattle.floor_offline.proofs.ViewTold.{stream_seen}
-use Rattle.tournament_rules.specs.Replay.{replay_text}
+use Rattle.replay_rules.specs.Replay.{replay_text}
 use Rattle.view_rules.specs.Views.{view_text}
 
 -- A front of what a command tells of the lines of the bytes taken is a front of its text of them.

@@ -16,9 +16,9 @@ use Rattle.floor_text.specs.declared.line_reader.ReadEnd.{ReadEnd}
 use Rattle.floor_text.specs.declared.line_reader.ReadEnd.TheVariants.{ReadFault, InputTooLong}
 use Rattle.floor_text.proofs.CutLines.{handed_so_far, handed_are_ended, lines_of_bytes-nil}
 use Rattle.floor_text.proofs.ReadLines.{HasNoFeed-take, whole_no_feed, held_on}
-use Rattle.floor_events.specs.declared.event.Item.{Item}
+use Rattle.tournament_events.specs.declared.event.Item.{Item}
 use Rattle.tournament_rules.specs.States.{State, first_state}
-use Rattle.tournament_rules.specs.Replay.{item_of_cut, state_after_item, state_after_items}
+use Rattle.replay_rules.specs.Replay.{item_of_cut, state_after_item, state_after_items}
 use Rattle.command_lines.specs.declared.fault.Fault.TheVariants as faults
 use Rattle.command_lines.specs.Endings.{fault_of_read_end}
 use Rattle.floor_offline.specs.Handed.{item_of_next}

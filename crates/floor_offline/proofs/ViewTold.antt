@@ -3,10 +3,10 @@ use Rattle.std.proofs.Common.{◌≡◌, ℕ, refl, sym, ap, ◌∙◌, List, []
 use Rattle.std.specs.Prelude.{Option, Some, None}
 use Rattle.std.proofs.lemmas.Grind.{flat_map-append}
 use Rattle.std.proofs.lemmas.List.{append-nil}
-use Rattle.floor_events.specs.declared.event.Item.{Item}
-use Rattle.floor_events.specs.declared.event.Item.TheVariants.{Event, Note}
+use Rattle.tournament_events.specs.declared.event.Item.{Item}
+use Rattle.tournament_events.specs.declared.event.Item.TheVariants.{Event, Note}
 use Rattle.tournament_rules.specs.States.{State, first_state, state_after}
-use Rattle.tournament_rules.specs.Replay.{events_of, items_of_bytes}
+use Rattle.replay_rules.specs.Replay.{events_of, items_of_bytes}
 use Rattle.view_rules.specs.Lines.{lines_of_event}
 use Rattle.view_rules.specs.Spelling.{line_text, lines_text}
 use Rattle.view_rules.specs.Views.{told_of, told_from, view_text}

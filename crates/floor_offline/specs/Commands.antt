@@ -2,7 +2,7 @@
 use Rattle.std.specs.Prelude.{◌≡◌, ℕ, List, ◌++◌, Option, Some, None, Result, Ok, Err}
 use Rattle.level_plan.specs.declared.line.PlanItem.{PlanItem}
 use Rattle.plan_files.specs.PlanFiles.{◌>>=◌, plan_of_file}
-use Rattle.tournament_rules.specs.Replay.{replay_text}
+use Rattle.replay_rules.specs.Replay.{replay_text}
 use Rattle.simulation_rules.specs.Runs.{simulation_text}
 use Rattle.view_rules.specs.Views.{view_text}
 use Rattle.command_lines.specs.declared.command.Command.{Command}

@@ -3,7 +3,7 @@ use Rattle.std.specs.Prelude.{◌≡◌, ℕ, ◌+◌, ◌≤◌, true, false, L
 use Rattle.floor_text.specs.Lines.{lines_of_bytes}
 use Rattle.floor_text.specs.Reading.{Reading}
 use Rattle.tournament_rules.specs.States.{State, first_state}
-use Rattle.tournament_rules.specs.Replay.{item_of_cut, state_after_items}
+use Rattle.replay_rules.specs.Replay.{item_of_cut, state_after_items}
 use Rattle.command_lines.specs.declared.fault.Fault.{Fault}
 use Rattle.command_lines.specs.declared.fault.Fault.TheVariants as faults
 use Rattle.floor_offline.specs.Limits.{input_limit}

@@ -1,11 +1,11 @@
 -- What is told of the lines of a stream, one after another. This project's own.
 use Rattle.std.specs.Prelude.{ℕ, List, [], ◌∷◌, ◌++◌, map, Option, Some}
 use Rattle.floor_text.specs.Lines.{ended_lines}
-use Rattle.floor_events.specs.declared.event.Item.{Item}
-use Rattle.floor_events.specs.declared.event.Item.TheVariants.{Event}
+use Rattle.tournament_events.specs.declared.event.Item.{Item}
+use Rattle.tournament_events.specs.declared.event.Item.TheVariants.{Event}
 use Rattle.floor_events.specs.Spelling.{answer_text}
 use Rattle.tournament_rules.specs.States.{State, first_state}
-use Rattle.tournament_rules.specs.Replay.{answer_to_item, item_of_cut, state_after_item, state_after_items, items_of_bytes, final_text}
+use Rattle.replay_rules.specs.Replay.{answer_to_item, item_of_cut, state_after_item, state_after_items, items_of_bytes, final_text}
 use Rattle.view_rules.specs.Lines.{lines_of_event}
 use Rattle.view_rules.specs.Spelling.{lines_text}
 use Rattle.view_rules.specs.Views.{told_of}

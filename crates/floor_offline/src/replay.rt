@@ -3,7 +3,7 @@
 ghost use Rattle.std.specs.Prelude.{◌≡◌, ◌<◌, ◌+◌, ◌^◌, ◌++◌, ℕ, [], Some, IfOk, IfSome, OnOk};
 ghost use Rattle.floor_events.specs.Grammar.{item_of_bytes};
 ghost use Rattle.floor_events.specs.Spelling.{answer_text};
-ghost use Rattle.tournament_rules.specs.Replay.{answer_to_item, state_after_item, replay_text};
+ghost use Rattle.replay_rules.specs.Replay.{answer_to_item, state_after_item, replay_text};
 ghost use Rattle.floor_offline.specs.Handed.{item_of_next};
 ghost use Rattle.floor_offline.specs.Runs.{HasRun};
 ghost use Rattle.floor_offline.specs.Told.{answers_told};
@@ -12,10 +12,11 @@ use crate::lines::tell_lines;
 use crate::teller::{LineTeller, put_text};
 use command_lines::Fault;
 use floor_core::Tournament;
-use floor_events::{Answer, Item, read_act, read_item, write_answer, write_report};
+use floor_events::{read_act, read_item, write_answer, write_report};
 use floor_text::{Next, Refusal, Sink, Source};
 use std::alloc::{AllocError, Global};
 use std::marker::Model;
+use tournament_events::{Answer, Item};
 
 /// Answers a line of at most 400 bytes.
 fn answer_line(
@@ -68,7 +69,7 @@ struct AnswerTeller {
 impl Model for AnswerTeller {
     ghost use Rattle.std.specs.Prelude.{◌≡◌, ℕ, List, if◌then◌else◌};
     ghost use Rattle.std.specs.Option.{ForSome};
-    ghost use Rattle.floor_events.specs.declared.answer.Answer.TheVariants as answers;
+    ghost use Rattle.tournament_events.specs.declared.answer.Answer.TheVariants as answers;
     ghost use Rattle.floor_events.specs.Spelling.{answer_text};
 
     ghost Value = { List ℕ };
@@ -126,7 +127,7 @@ impl LineTeller for AnswerTeller {
         self.keep(&answer)
     }
 
-    #[tactic(auto, unfolding(tournament_rules::specs::Replay::final_text))]
+    #[tactic(auto, unfolding(replay_rules::specs::Replay::final_text))]
     fn end(&mut self, tournament: &Tournament) -> Result<(), AllocError> {
         self.accepted = false;
         self.answer = None;

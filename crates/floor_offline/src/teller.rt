@@ -2,7 +2,7 @@
 
 ghost use Rattle.std.specs.Prelude.{◌≡◌, ◌≤◌, ◌<◌, ◌^◌, ℕ, List, [], false, IfSome, OnOk, OnErr, IfErr};
 ghost use Rattle.floor_text.specs.Outside.{Rose, Puts};
-ghost use Rattle.tournament_rules.specs.Replay.{state_after_item};
+ghost use Rattle.replay_rules.specs.Replay.{state_after_item};
 ghost use Rattle.tournament_rules.specs.Valid.{IsValidState};
 ghost use Rattle.floor_offline.specs.Handed.{item_of_next};
 ghost use Rattle.floor_offline.specs.Told.{Telling};

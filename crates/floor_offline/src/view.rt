@@ -2,7 +2,7 @@
 
 ghost use Rattle.std.specs.Prelude.{◌≡◌, ◌<◌, ◌^◌, ◌++◌, Some, IfSome, OnOk};
 ghost use Rattle.floor_events.specs.Grammar.{item_of_bytes};
-ghost use Rattle.tournament_rules.specs.Replay.{state_after_item};
+ghost use Rattle.replay_rules.specs.Replay.{state_after_item};
 ghost use Rattle.tournament_rules.specs.Valid.{IsValidState};
 ghost use Rattle.view_rules.specs.Views.{view_text};
 ghost use Rattle.floor_offline.specs.Runs.{HasRun};
@@ -12,10 +12,11 @@ use crate::lines::tell_lines;
 use crate::teller::{LineTeller, put_text};
 use command_lines::Fault;
 use floor_core::Tournament;
-use floor_events::{Item, read_act, read_item};
+use floor_events::{read_act, read_item};
 use floor_text::{Name, Next, Sink, Source};
 use floor_view::{tell_act, tell_event};
 use std::alloc::{AllocError, Global};
+use tournament_events::Item;
 
 /// Has a tournament take a line of at most 400 bytes, and writes what tells the player of a name of it: of a note, and
 /// of a line that is none of the grammar, nothing.

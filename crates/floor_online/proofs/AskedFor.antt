@@ -9,8 +9,8 @@ use Rattle.plan_files.specs.Words.{WordTerms}
 use Rattle.betting_round.specs.declared.act.Act.{Act}
 use Rattle.table_engine.specs.Acts.{time_act}
 use Rattle.table_engine.specs.Hands.{HandTerms}
-use Rattle.floor_events.specs.declared.event.Event.{Event}
-use Rattle.floor_events.specs.declared.event.Event.TheVariants as events
+use Rattle.tournament_events.specs.declared.event.Event.{Event}
+use Rattle.tournament_events.specs.declared.event.Event.TheVariants as events
 use Rattle.view_rules.specs.declared.entries.JournalEntry.{JournalEntry}
 use Rattle.view_rules.specs.declared.entries.TableEntry.{TableEntry}
 use Rattle.dock_rules.specs.declared.asks.Ask.{Ask}

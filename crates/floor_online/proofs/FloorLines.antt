@@ -9,8 +9,8 @@ use Rattle.table_engine.specs.Hands.{HandTerms, is_over}
 use Rattle.table_engine.specs.Acts.{time_act}
 use Rattle.table_engine.specs.Results.{players_after}
 use Rattle.seat_book.specs.Players.{players_at}
-use Rattle.floor_events.specs.declared.event.Event.{Event}
-use Rattle.floor_events.specs.declared.event.Event.TheVariants as events
+use Rattle.tournament_events.specs.declared.event.Event.{Event}
+use Rattle.tournament_events.specs.declared.event.Event.TheVariants as events
 use Rattle.tournament_rules.specs.Books.{start_at}
 use Rattle.tournament_rules.specs.States.{State, PlayState, acts_at, answer_to, hand_at, is_accepted, players_of, run, state_after}
 use Rattle.view_rules.specs.Lines.{act_lines_at, floor_lines, lines_of_event, opening_lines, serial_told, stack_after, stack_at_rest, stacks_told, table_lines}

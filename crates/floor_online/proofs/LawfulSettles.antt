@@ -8,8 +8,8 @@ use Rattle.std.proofs.lemmas.List.Elements.{All-from_recursion, filter-append, r
 use Rattle.table_engine.specs.declared.record.ActOf.{ActOf}
 use Rattle.table_engine.specs.Hands.{HandTerms}
 use Rattle.table_engine.specs.Plays.{IsLawfulPlay}
-use Rattle.floor_events.specs.declared.event.Event.{Event}
-use Rattle.floor_events.specs.declared.event.Event.TheVariants as events
+use Rattle.tournament_events.specs.declared.event.Event.{Event}
+use Rattle.tournament_events.specs.declared.event.Event.TheVariants as events
 use Rattle.level_plan.specs.Plans.{PlanTerms}
 use Rattle.level_plan.specs.declared.line.PlanLine.{PlanLine}
 use Rattle.plan_files.specs.PlanLines.{lines_of_plan}

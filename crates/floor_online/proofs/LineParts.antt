@@ -22,8 +22,8 @@ use Rattle.betting_round.specs.declared.act.Act.TheVariants.{Fold, Check, Call, 
 use Rattle.seat_book.specs.declared.place.Place.{Place}
 use Rattle.line_words.specs.Fields.{AreFew, HasLineAmount, IsLineName, IsLinePlace, act_words, game_word, list_text, place_text, switch_word}
 use Rattle.line_words.specs.Limits.{most_members}
-use Rattle.floor_events.specs.declared.event.Event.{Event}
-use Rattle.floor_events.specs.declared.event.Event.TheVariants as events
+use Rattle.tournament_events.specs.declared.event.Event.{Event}
+use Rattle.tournament_events.specs.declared.event.Event.TheVariants as events
 use Rattle.floor_events.specs.Spelling.{HasLineParts, IsWritable, event_text}
 
 -- The parts of an event are such as a line may hold, and shares are thousandths.

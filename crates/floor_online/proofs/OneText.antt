@@ -4,12 +4,12 @@ use Rattle.std.specs.List.{flat_map, AllByRecursion}
 use Rattle.std.proofs.lemmas.Bool.Decides.{nat_tests}
 use Rattle.floor_text.specs.Lines.{HasNoFeed}
 use Rattle.floor_text.proofs.CutLines.{first_other, rest_other}
-use Rattle.floor_events.specs.declared.event.Event.{Event}
+use Rattle.tournament_events.specs.declared.event.Event.{Event}
 use Rattle.floor_events.specs.Grammar.{is_note}
 use Rattle.floor_events.specs.Spelling.{IsWritable, event_text}
 use Rattle.floor_events.proofs.EventLaws.{event_text-no_note, one_text, text_no_feed}
 use Rattle.tournament_rules.specs.States.{State, first_state, run}
-use Rattle.tournament_rules.specs.Replay.{event_line, final_text, tournament_text}
+use Rattle.replay_rules.specs.Replay.{event_line, final_text, tournament_text}
 
 -- Two texts without a line feed, each with one behind it, are one where all is, and so is what comes behind.
 cut_alike : (one other behind beyond : List ℕ) → HasNoFeed one → HasNoFeed other

@@ -5,7 +5,7 @@ use Rattle.std.specs.List.{flat_map}
 use Rattle.std.proofs.lemmas.Grind.{flat_map-append}
 use Rattle.std.proofs.lemmas.List.{take-append-drop, take_at}
 use Rattle.floor_text.specs.Outside.{Puts}
-use Rattle.tournament_rules.specs.Replay.{event_line, final_text, tournament_text}
+use Rattle.replay_rules.specs.Replay.{event_line, final_text, tournament_text}
 use Rattle.view_rules.specs.declared.entries.JournalEntry.{JournalEntry}
 use Rattle.dock_rules.specs.Journals.{events_of, expand, tale_of}
 use Rattle.dock_rules.proofs.JournalTales.{state-told}

@@ -13,7 +13,7 @@ use Rattle.level_plan.specs.Plans.{PlanTerms}
 use Rattle.level_plan.specs.declared.line.PlanLine.{PlanLine}
 use Rattle.plan_files.specs.PlanLines.{lines_of_plan}
 use Rattle.plan_files.specs.Words.{WordTerms}
-use Rattle.floor_events.specs.declared.event.Event.TheVariants as events
+use Rattle.tournament_events.specs.declared.event.Event.TheVariants as events
 use Rattle.links.specs.Telling.{DoorTelling, Telling}
 use Rattle.view_rules.specs.declared.entries.JournalEntry.{JournalEntry}
 use Rattle.dock_rules.specs.Journals.{Tale, first_tale, journal_caller, plain_entry, tale_of, told_one}

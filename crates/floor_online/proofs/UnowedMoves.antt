@@ -13,8 +13,8 @@ use mathlib.Core.List.{IsPrefix}
 use Rattle.level_plan.specs.Items.{is_between}
 use Rattle.plan_files.specs.Words.{WordTerms}
 use Rattle.seat_book.specs.declared.place.Place.{Place}
-use Rattle.floor_events.specs.declared.event.Event.{Event}
-use Rattle.floor_events.specs.declared.event.Event.TheVariants as events
+use Rattle.tournament_events.specs.declared.event.Event.{Event}
+use Rattle.tournament_events.specs.declared.event.Event.TheVariants as events
 use Rattle.history_lock.specs.Entries.{entries_by}
 use Rattle.view_rules.specs.declared.entries.JournalEntry.{JournalEntry}
 use Rattle.dock_rules.specs.declared.asks.Ask.{Ask}

@@ -1,6 +1,6 @@
 -- The names of those who enter. This project's own.
-use Rattle.floor_events.specs.declared.event.Event.{Event}
-use Rattle.floor_events.specs.declared.event.Event.TheVariants as events
+use Rattle.tournament_events.specs.declared.event.Event.{Event}
+use Rattle.tournament_events.specs.declared.event.Event.TheVariants as events
 use Rattle.line_words.specs.Fields.{IsLineName}
 
 -- Whoever enters by an event has a name that a line may hold.

@@ -1,7 +1,7 @@
 -- What is written of an entry of the journal. This project's own.
 use Rattle.std.specs.Prelude.{ℕ, List}
 use Rattle.std.specs.List.{flat_map}
-use Rattle.tournament_rules.specs.Replay.{event_line}
+use Rattle.replay_rules.specs.Replay.{event_line}
 use Rattle.view_rules.specs.declared.entries.JournalEntry.{JournalEntry}
 use Rattle.dock_rules.specs.Journals.{events_of}
 

@@ -5,7 +5,7 @@ use Rattle.plan_files.specs.Words.{WordTerms, served_of_file}
 use Rattle.links.specs.Telling.{DoorTelling, HallTelling, Telling}
 use Rattle.view_rules.specs.declared.entries.JournalEntry.{JournalEntry}
 use Rattle.view_rules.specs.declared.entries.TableEntry.{TableEntry}
-use Rattle.tournament_rules.specs.Replay.{tournament_text}
+use Rattle.replay_rules.specs.Replay.{tournament_text}
 use Rattle.dock_rules.specs.Journals.{expand}
 use Rattle.dock_rules.specs.Whole.{DoMatch}
 use Rattle.floor_online.specs.Asks.{asks_at}

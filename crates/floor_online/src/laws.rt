@@ -4,12 +4,12 @@ ghost use Rattle.std.specs.Prelude.{◌≡◌, ◌++◌, ℕ, List, filter, None
 ghost use Rattle.std.specs.List.{AllByRecursion, flat_map};
 ghost use mathlib.Core.List.{IsPrefix};
 ghost use Rattle.floor_text.specs.Lines.{lines_of_bytes};
-ghost use Rattle.floor_events.specs.declared.answer.Answer.TheVariants.{Ok};
-ghost use Rattle.floor_events.specs.declared.event.Event.{Event};
+ghost use Rattle.tournament_events.specs.declared.answer.Answer.TheVariants.{Ok};
+ghost use Rattle.tournament_events.specs.declared.event.Event.{Event};
 ghost use Rattle.floor_events.specs.Spelling.{IsWritable, answer_text};
 ghost use Rattle.level_plan.specs.Plans.{PlanTerms};
 ghost use Rattle.plan_files.specs.Words.{WordTerms};
-ghost use Rattle.tournament_rules.specs.Replay.{final_text, replay_text, tournament_text};
+ghost use Rattle.replay_rules.specs.Replay.{final_text, replay_text, tournament_text};
 ghost use Rattle.tournament_rules.specs.States.{first_state, run};
 ghost use Rattle.view_rules.specs.declared.entries.JournalEntry.{JournalEntry};
 ghost use Rattle.view_rules.specs.Entries.{journal_lines};

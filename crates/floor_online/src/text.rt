@@ -3,7 +3,7 @@
 ghost use Rattle.std.specs.Prelude.{◌⊎◌, ◌≡◌, ◌≢◌, ◌++◌, ◌≤◌, [], ℕ, IfErr, IfSome, IsErrOf, OnOk, map, Err, Some};
 ghost use Rattle.std.specs.List.{flat_map};
 ghost use Rattle.floor_text.specs.Outside.{Puts, Rose};
-ghost use Rattle.tournament_rules.specs.Replay.{event_line, final_text, tournament_text};
+ghost use Rattle.replay_rules.specs.Replay.{event_line, final_text, tournament_text};
 ghost use Rattle.dock_rules.specs.Journals.{act_event, expand, tale_of};
 ghost use Rattle.book_dock.specs.Ends.{journal_of};
 ghost use Rattle.command_lines.specs.Endings.{IsOfWriting};
@@ -11,11 +11,12 @@ ghost use Rattle.floor_online.specs.EntryText.{entry_text};
 
 use book_dock::BookEnd;
 use command_lines::Fault;
-use floor_events::{Event, write_event, write_report};
+use floor_events::{write_event, write_report};
 use floor_text::Sink;
 use player_view::JournalEntry;
 use std::alloc::{AllocError, Global};
 use table_engine::ActOf;
+use tournament_events::Event;
 
 /// Writes an event and a line feed.
 fn push_event(event: &Event, text: &mut Vec<u8>) -> Result<(), AllocError>
@@ -94,7 +95,7 @@ fn put_entries<O: Sink>(
 }
 
 /// Writes the report in the place of what was written before.
-#[tactic(auto, unfolding(tournament_rules::specs::Replay::final_text))]
+#[tactic(auto, unfolding(replay_rules::specs::Replay::final_text))]
 fn write_end(end: &BookEnd, text: &mut Vec<u8>) -> Result<(), AllocError>
     ensures { OnOk result (text.new.items ≡ final_text (tale_of (journal_of end.now)).state) }
 {

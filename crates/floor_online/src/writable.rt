@@ -9,8 +9,8 @@ ghost use Rattle.book_dock.specs.Ends.{journal_of};
 ghost use Rattle.floor_online.specs.EnteredNames.{EntersByName};
 
 use book_dock::BookEnd;
-use floor_events::Event;
 use player_view::JournalEntry;
+use tournament_events::Event;
 
 /// Says that whoever enters by an event has a name that a line may hold, as each `Name` is one. It does nothing.
 fn entrant_is_named(event: &Event)

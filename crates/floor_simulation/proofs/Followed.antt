@@ -2,8 +2,8 @@
 use Rattle.std.proofs.Common.{◌≡◌, ◌∙◌, refl, sym, ap, ℕ, ◌+◌, ◌^◌, ◌<◌, ◌≤◌, List, ◌∷◌, [], length, arith}
 use Rattle.std.specs.Prelude.{count_by}
 use Rattle.rulebook.proofs.Tests.{at_most_one, count_by-cons}
-use Rattle.floor_events.specs.declared.answer.Answer.TheVariants.{Ok}
-use Rattle.floor_events.specs.declared.event.Event.{Event}
+use Rattle.tournament_events.specs.declared.answer.Answer.TheVariants.{Ok}
+use Rattle.tournament_events.specs.declared.event.Event.{Event}
 use Rattle.tournament_rules.specs.States.{State, accepted, answer_to, is_accepted, run, state_after}
 use Rattle.simulation_rules.specs.declared.place.SimPlace.{SimPlace}
 use Rattle.simulation_rules.specs.declared.step.SimStep.TheVariants.{Take, Move}

@@ -5,7 +5,7 @@ use Rattle.std.specs.Option.{ForSome, option_and_then, option_map_or}
 use Rattle.std.proofs.lemmas.Bool.{false_from_ne_true, ltb-true}
 use Rattle.betting_round.specs.declared.act.Act.{Act as PlayerAct}
 use Rattle.table_engine.specs.Hands.{HandTerms, due_name, is_over}
-use Rattle.floor_events.specs.declared.event.Event.TheVariants.{Act}
+use Rattle.tournament_events.specs.declared.event.Event.TheVariants.{Act}
 use Rattle.floor_director.specs.SimulatedActs.{simulated_act}
 use Rattle.tournament_rules.specs.Books.{BookState}
 use Rattle.tournament_rules.specs.Checks.{is_playing}

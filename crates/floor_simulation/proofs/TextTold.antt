@@ -4,10 +4,10 @@ use Rattle.std.specs.Prelude.{codes, count_by, Option, Some, None}
 use Rattle.std.specs.Option.{option_map_or}
 use Rattle.std.proofs.lemmas.List.{length-map}
 use Rattle.level_plan.specs.Plans.{PlanTerms}
-use Rattle.floor_events.specs.declared.report.Report.{Report}
+use Rattle.tournament_events.specs.declared.report.Report.{Report}
 use Rattle.floor_events.specs.Spelling.{report_text}
 use Rattle.tournament_rules.specs.States.{PlayState, State, first_state, run, players_of}
-use Rattle.tournament_rules.specs.Replay.{final_text}
+use Rattle.replay_rules.specs.Replay.{final_text}
 use Rattle.tournament_rules.specs.Report.{book_report, empty_report, report_of, reported}
 use Rattle.simulation_rules.specs.Runs.{count_line, is_settle, seed_of, simulated_run, simulation_text}
 use Rattle.floor_simulation.specs.Told.{told}

@@ -8,8 +8,8 @@ use Rattle.level_plan.specs.Drafts.{empty_draft}
 use Rattle.level_plan.specs.Plans.{PlanTerms, is_right}
 use Rattle.plan_files.specs.PlanLines.{lines_of_plan}
 use Rattle.plan_files.proofs.MadeAgain.{made_again}
-use Rattle.floor_events.specs.declared.event.Event.{Event}
-use Rattle.floor_events.specs.declared.event.Event.TheVariants as events
+use Rattle.tournament_events.specs.declared.event.Event.{Event}
+use Rattle.tournament_events.specs.declared.event.Event.TheVariants as events
 use Rattle.tournament_rules.specs.States.{State, first_state, run, state_after}
 use Rattle.simulation_rules.specs.Places.{first_place}
 use Rattle.simulation_rules.specs.Left.{events_left}

@@ -1,6 +1,6 @@
 -- What is told of a simulated tournament at its end. This project's own.
 use Rattle.std.specs.Prelude.{ℕ, List, ◌++◌, length, codes}
-use Rattle.tournament_rules.specs.Replay.{final_text}
+use Rattle.replay_rules.specs.Replay.{final_text}
 use Rattle.tournament_rules.specs.States.{State, players_of}
 use Rattle.simulation_rules.specs.Runs.{count_line}
 

@@ -8,11 +8,11 @@ ghost use Rattle.simulation_rules.specs.Entrants.{entrant_name, next_entry, seat
 
 use balance_rule::empty_seat_after;
 use floor_book::Book;
-use floor_events::Event;
 use floor_text::Name;
 use line_words::WriteText;
 use seat_book::SeatBook;
 use std::alloc::{AllocError, Global};
+use tournament_events::Event;
 
 /// Names the player who enters after so many others: `p1`, `p2`, and so on.
 fn entrant_name(alloc: Global, before: u32) -> Result<Name, AllocError>

@@ -2,7 +2,7 @@
 
 ghost use Rattle.std.specs.Prelude.{◌≡◌, ◌≤◌, ◌<◌, ◌+◌, ◌^◌, true, false, [], ◌∷◌, length, count_by, Ok, IfOk, OnOk};
 ghost use Rattle.level_plan.specs.Plans.{is_right};
-ghost use Rattle.floor_events.specs.declared.event.Event.TheVariants as events;
+ghost use Rattle.tournament_events.specs.declared.event.Event.TheVariants as events;
 ghost use Rattle.tournament_rules.specs.States.{first_state, run, state_after};
 ghost use Rattle.simulation_rules.specs.Steps.{simulated_next};
 ghost use Rattle.simulation_rules.specs.Effort.{effort};
@@ -12,11 +12,11 @@ ghost use Rattle.floor_simulation.specs.Midst.{IsInMidst, ComeToSame};
 
 use crate::simulation::Simulation;
 use floor_core::Tournament;
-use floor_events::Event;
 use level_plan::{Plan, PlanLine};
 use plan_files::plan_lines;
 use simulation_rules::{SimPlace, SimStep};
 use std::alloc::{AllocError, Global};
+use tournament_events::Event;
 
 /// The place at the first table of the first round.
 const FIRST_PLACE: SimPlace = SimPlace {

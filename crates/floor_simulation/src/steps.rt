@@ -3,7 +3,7 @@
 ghost use Rattle.std.specs.Prelude.{◌≡◌, ◌≤◌, ◌<◌, ◌+◌, ◌^◌, ℕ, false, nat_lt, length, Option, Some, None, find, IfSome, IfOk, option_map};
 ghost use Rattle.seat_book.specs.Counts.{table_numbers};
 ghost use Rattle.seat_book.specs.Places.{IsTableOf};
-ghost use Rattle.floor_events.specs.declared.event.Event.TheVariants as events;
+ghost use Rattle.tournament_events.specs.declared.event.Event.TheVariants as events;
 ghost use Rattle.tournament_rules.specs.Checks.{is_race_due};
 ghost use Rattle.tournament_rules.specs.States.{PlayState};
 ghost use Rattle.floor_director.specs.Orders.{next_order};
@@ -19,10 +19,10 @@ use crate::simulation::Simulation;
 use betting_round::Act;
 use floor_book::Book;
 use floor_director::{deck_of, next_order, sim_turn};
-use floor_events::Event;
 use floor_text::Name;
 use simulation_rules::{SimPlace, SimStep};
 use std::alloc::AllocError;
+use tournament_events::Event;
 
 /// The most hands of a simulated tournament.
 const MOST_HANDS: u64 = 20_000;

@@ -12,8 +12,8 @@ use Rattle.table_engine.specs.declared.record.ActOf.{ActOf}
 use Rattle.table_engine.specs.Hands.{HandTerms, due_name, streets_of}
 use Rattle.table_engine.specs.Acts.{done_of_time, hand_after_time, time_act}
 use Rattle.table_engine.proofs.NoCards.{time-deck}
-use Rattle.floor_events.specs.declared.event.Event.{Event}
-use Rattle.floor_events.specs.declared.event.Event.TheVariants as events
+use Rattle.tournament_events.specs.declared.event.Event.{Event}
+use Rattle.tournament_events.specs.declared.event.Event.TheVariants as events
 use Rattle.tournament_rules.specs.Apart.{hand_refusal}
 use Rattle.tournament_rules.specs.Books.{start_at}
 use Rattle.tournament_rules.specs.States.{State, PlayState, act_table, acts_at, hand_at, refusal_of, play_effect, answer_to, is_accepted, accepted, state_after}

@@ -10,8 +10,8 @@ use Rattle.card_set.specs.declared.card.CardRow.{CardRow}
 use Rattle.seat_book.specs.declared.seated.Seated.{Seated}
 use Rattle.seat_book.specs.Players.{players_at, players_in, sits_at}
 use Rattle.seat_book.specs.Seatings.{Seating, IsSeating, empty_seating, sits_within}
-use Rattle.floor_events.specs.declared.event.Event.{Event}
-use Rattle.floor_events.specs.declared.event.Event.TheVariants as events
+use Rattle.tournament_events.specs.declared.event.Event.{Event}
+use Rattle.tournament_events.specs.declared.event.Event.TheVariants as events
 use Rattle.tournament_rules.specs.States.{State, PlayState, players_of}
 use Rattle.view_rules.specs.declared.entries.StackLine.{StackLine}
 use Rattle.view_rules.specs.Shown.{Viewer}

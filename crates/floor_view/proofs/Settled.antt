@@ -15,8 +15,8 @@ use Rattle.table_engine.specs.declared.start.HandStart.{HandStart}
 use Rattle.table_engine.specs.declared.start.StartSeat.{StartSeat}
 use Rattle.table_engine.specs.Hands.{HandTerms, is_over}
 use Rattle.table_engine.specs.Results.{players_after, stack_after_hand, with_stack}
-use Rattle.floor_events.specs.declared.event.Event.{Event}
-use Rattle.floor_events.specs.declared.event.Event.TheVariants as events
+use Rattle.tournament_events.specs.declared.event.Event.{Event}
+use Rattle.tournament_events.specs.declared.event.Event.TheVariants as events
 use Rattle.tournament_rules.specs.Apart.{hand_refusal}
 use Rattle.tournament_rules.specs.Effects.{settled}
 use Rattle.tournament_rules.specs.Players.{is_among, is_one_of, paid, put_back, stayed, with_rest}

@@ -1,6 +1,6 @@
 -- What is told of an event once a tournament has taken it, or refused it.
 use Rattle.std.proofs.Common.{◌≡◌, ◌∙◌, sym, ap, ℕ, Bool, true, false, cond, List, [], ◌++◌}
-use Rattle.floor_events.specs.declared.event.Event.{Event}
+use Rattle.tournament_events.specs.declared.event.Event.{Event}
 use Rattle.tournament_rules.specs.States.{State, answer_to, is_accepted, state_after}
 use Rattle.view_rules.specs.Shown.{Viewer}
 use Rattle.view_rules.specs.Seen.{seen_by, seen_event}

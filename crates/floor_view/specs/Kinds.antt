@@ -1,8 +1,8 @@
 -- Which kind of event is told how. This project's own.
 use Rattle.std.specs.Prelude.{◌≡◌, ℕ, Bool, true, false}
 use Rattle.card_set.specs.declared.card.CardRow.{CardRow}
-use Rattle.floor_events.specs.declared.event.Event.{Event}
-use Rattle.floor_events.specs.declared.event.Event.TheVariants as events
+use Rattle.tournament_events.specs.declared.event.Event.{Event}
+use Rattle.tournament_events.specs.declared.event.Event.TheVariants as events
 
 -- An event is a begin at a table.
 abbrev pub IsBeginAt : Event → ℕ → Type 0

@@ -1,7 +1,7 @@
 -- The text of what tells of an event. This project's own.
 use Rattle.std.specs.Prelude.{ℕ, List, map}
 use Rattle.table_engine.specs.declared.start.HandStart.{HandStart}
-use Rattle.floor_events.specs.declared.event.Event.{Event}
+use Rattle.tournament_events.specs.declared.event.Event.{Event}
 use Rattle.tournament_rules.specs.States.{State, players_of}
 use Rattle.view_rules.specs.Shown.{Viewer}
 use Rattle.view_rules.specs.Seen.{seen_by, seen_event}

@@ -3,8 +3,8 @@ use Rattle.std.specs.Prelude.{◌≡◌, false, Option, Some, None}
 use Rattle.table_engine.specs.declared.record.ActOf.{ActOf}
 use Rattle.table_engine.specs.Hands.{HandTerms, streets_of}
 use Rattle.table_engine.specs.Acts.{done_of_act, time_act}
-use Rattle.floor_events.specs.declared.event.Event.{Event}
-use Rattle.floor_events.specs.declared.event.Event.TheVariants as events
+use Rattle.tournament_events.specs.declared.event.Event.{Event}
+use Rattle.tournament_events.specs.declared.event.Event.TheVariants as events
 use Rattle.floor_view.specs.declared.turns.Turn.{Turn}
 
 -- the act that an act of a player or a called time makes in a hand

@@ -1,7 +1,7 @@
 //! What is found before a tournament takes an event, so that a player can be told of it.
 
 ghost use Rattle.std.specs.Prelude.{◌≡◌, IfOk};
-ghost use Rattle.floor_events.specs.declared.event.Event.TheVariants as events;
+ghost use Rattle.tournament_events.specs.declared.event.Event.TheVariants as events;
 ghost use Rattle.tournament_rules.specs.Valid.{IsValidState};
 ghost use Rattle.floor_view.specs.Found.{IsFound};
 
@@ -9,10 +9,10 @@ use crate::stacks::start_at;
 use crate::turns::{Turn, turn_of_act, turn_of_time};
 use betting_round::Act;
 use floor_core::Tournament;
-use floor_events::Event;
 use floor_text::Name;
 use std::alloc::{AllocError, Global};
 use table_engine::HandStart;
+use tournament_events::Event;
 
 /// What is found of an event before it is taken.
 #[derive(Drop)]

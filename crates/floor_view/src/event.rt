@@ -4,7 +4,7 @@ ghost use Rattle.std.specs.Prelude.{◌≡◌, ◌<◌, ◌^◌, ◌++◌, true,
 ghost use Rattle.line_words.specs.Words.{Extends};
 ghost use Rattle.tournament_rules.specs.States.{State, answer_to, is_accepted, state_after};
 ghost use Rattle.tournament_rules.specs.Valid.{IsValidState};
-ghost use Rattle.floor_events.specs.declared.event.Event.TheVariants as events;
+ghost use Rattle.tournament_events.specs.declared.event.Event.TheVariants as events;
 ghost use Rattle.view_rules.specs.Shown.{Viewer};
 ghost use Rattle.view_rules.specs.Lines.{lines_of_event};
 ghost use Rattle.view_rules.specs.Spelling.{lines_text};
@@ -18,10 +18,10 @@ use crate::stacks::{push_race, push_settled};
 use crate::turns::{push_turn, turn_of_act};
 use betting_round::Act;
 use floor_core::Tournament;
-use floor_events::{Answer, Event};
 use floor_text::Name;
 use player_view::push_floor_lines;
 use std::alloc::{AllocError, Global};
+use tournament_events::{Answer, Event};
 
 /// Has a tournament take an event, and tells whether it was accepted.
 fn take_event(tournament: &mut Tournament, event: &Event) -> Result<bool, AllocError>

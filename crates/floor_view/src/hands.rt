@@ -9,11 +9,11 @@ ghost use Rattle.floor_view.specs.Told.{text_between};
 ghost use Rattle.floor_view.specs.Kinds.{IsBeginAt};
 
 use floor_core::Tournament;
-use floor_events::Event;
 use floor_text::Name;
 use player_view::{push_floor_lines, push_opening};
 use std::alloc::AllocError;
 use table_engine::Hand;
+use tournament_events::Event;
 
 /// Gives the hand that is played at a table of any number, if one is.
 pub(crate) fn hand_at(tournament: &Tournament, table: u64) -> Option<&Hand>

@@ -17,11 +17,11 @@ ghost use Rattle.floor_view.specs.Stacks.{rest_of, stack_now};
 
 use crate::hands::hand_at;
 use floor_core::Tournament;
-use floor_events::Event;
 use player_view::{StackLine, push_floor_lines};
 use seat_book::{Place, SeatBook, Seated};
 use std::alloc::{AllocError, Global};
 use table_engine::{HandStart, StartSeat};
+use tournament_events::Event;
 
 /// Copies how the hand began that is played at a table, if one is.
 pub(crate) fn start_at(

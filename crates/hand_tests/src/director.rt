@@ -2,13 +2,13 @@ use crate::dealt::two;
 use betting_round::Act;
 use card_set::{Deck, Game, read_row};
 use floor_director::{deck_of, next_order, sim_act};
-use floor_events::Event;
 use floor_text::Name;
 use seat_book::{Place, SeatBook, TableStatus};
 use std::alloc::{AllocError, Global};
 use std::process::Abort;
 use std::test::Fail;
 use table_engine::Hand;
+use tournament_events::Event;
 
 /// A number as eight bytes, the least first, and 24 zero bytes.
 fn seed_of(number: u64) -> [u8; 32] {

@@ -1,13 +1,11 @@
 use betting_round::Act;
 use card_set::{Card, Game};
-use floor_events::{
-    Answer, Event, Item, Report, ReportOut, ReportSeat, read_act, read_item, write_answer,
-    write_event, write_report,
-};
+use floor_events::{read_act, read_item, write_answer, write_event, write_report};
 use floor_text::{List, Name, Refusal};
 use level_plan::{PlanItem, PlanLine};
 use seat_book::Place;
 use std::test::Fail;
+use tournament_events::{Answer, Event, Item, Report, ReportOut, ReportSeat};
 
 /// Lines that are not in the grammar.
 static OUTSIDE: [&[u8]; 63] = [

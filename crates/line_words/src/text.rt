@@ -1,6 +1,6 @@
 //! What is written as text.
 
-ghost use Rattle.std.specs.Prelude.{◌≡◌, ◌∷◌, ◌++◌, ℕ, List, map, OnOk, OnErr};
+ghost use Rattle.std.specs.Prelude.{◌≡◌, ◌∷◌, ◌++◌, ℕ, List, map, take, OnOk, OnErr};
 ghost use Rattle.std.specs.List.{join_with_byte, flat_map};
 ghost use Rattle.line_words.specs.Words.{Extends};
 
@@ -17,29 +17,20 @@ pub trait WriteText {
         ensures kept { Extends out.old.items out.new.items };
 }
 
-/// Writes a text at the end of `out`. After want of memory `out` is as before.
-pub fn write_text<T: WriteText>(value: &T, out: &mut Vec<u8>) -> Result<(), AllocError>
-    ensures ok { OnOk result (out.new.items ≡ out.old.items ++ T.text value.now) }
-    ensures err { OnErr result (out.new.items ≡ out.old.items) }
+/// Takes back what was written behind the first `before` bytes of `out`, where it was not written whole.
+pub fn whole_or_nothing(
+    written: Result<(), AllocError>,
+    before: usize,
+    out: &mut Vec<u8>,
+) -> Result<(), AllocError>
+    ensures same { result ≡ written }
+    ensures ok { OnOk result (out.new.items ≡ out.old.items) }
+    ensures err { OnErr result (out.new.items ≡ take before out.old.items) }
 {
-    let before = out.len();
-    let written = value.push_text(out);
     if written.is_err() {
         out.truncate(before);
     }
     written
-}
-
-/// Writes texts one after another, with nothing between them. Where memory runs out, `out` has something behind what it
-/// had.
-pub fn push_each<T: WriteText>(items: &[T], out: &mut Vec<u8>) -> Result<(), AllocError>
-    ensures ok { OnOk result (out.new.items ≡ out.old.items ++ flat_map T.text items.now) }
-    ensures kept { Extends out.old.items out.new.items }
-{
-    for item in items {
-        item.push_text(out)?;
-    }
-    Ok(())
 }
 
 /// Writes texts one after another, with a byte before each. Where memory runs out, `out` has something behind what it

@@ -11,8 +11,8 @@ use Rattle.seat_book.specs.declared.seated.Seated.{Seated}
 use Rattle.table_engine.specs.declared.record.ActOf.{ActOf}
 use Rattle.table_engine.specs.Hands.{HandTerms, is_over}
 use Rattle.table_engine.specs.Results.{players_after}
-use Rattle.floor_events.specs.declared.event.Event.{Event}
-use Rattle.floor_events.specs.declared.event.Event.TheVariants as events
+use Rattle.tournament_events.specs.declared.event.Event.{Event}
+use Rattle.tournament_events.specs.declared.event.Event.TheVariants as events
 use Rattle.tournament_rules.specs.Dealing.{next_start}
 use Rattle.tournament_rules.specs.Effects.{raced}
 use Rattle.tournament_rules.specs.States.{State, PlayState, answer_to, is_accepted, state_after}

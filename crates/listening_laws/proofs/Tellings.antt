@@ -11,8 +11,8 @@ use Rattle.table_engine.specs.Hands.{HandTerms}
 use Rattle.table_engine.specs.Plays.{IsLawfulPlay}
 use Rattle.table_engine.proofs.NoCards.{time-deck}
 use Rattle.table_engine.proofs.Plays.{lawful_play-each, lawful_play-more, lawful_play-none, lawful_play-timed}
-use Rattle.floor_events.specs.declared.event.Event.{Event}
-use Rattle.floor_events.specs.declared.event.Event.TheVariants as events
+use Rattle.tournament_events.specs.declared.event.Event.{Event}
+use Rattle.tournament_events.specs.declared.event.Event.TheVariants as events
 use Rattle.tournament_rules.specs.Books.{BookState, start_at}
 use Rattle.tournament_rules.specs.Dealing.{next_start}
 use Rattle.tournament_rules.specs.States.{State, PlayState, answer_to, hand_at, is_accepted, play_effect, refusal_of, run, state_after}

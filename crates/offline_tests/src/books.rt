@@ -6,12 +6,13 @@ ghost use Rattle.tournament_rules.specs.Books.{start_at};
 use super::book_scripts::{BOOK_SCRIPTS, BookScript};
 use super::runs::{add_words, with_answer};
 use floor_core::{Book, Tournament};
-use floor_events::{Answer, Event, Item, Report, read_item, write_answer, write_report};
+use floor_events::{read_item, write_answer, write_report};
 use level_plan::{Plan, PlanDraft};
 use std::alloc::{AllocError, Global};
 use std::process::Abort;
 use std::test::Fail;
 use table_engine::Hand;
+use tournament_events::{Answer, Event, Item, Report};
 
 /// A book and a tournament with the same plan.
 #[derive(Drop)]

@@ -3,8 +3,8 @@ use Rattle.std.proofs.Common.{◌≡◌, ℕ, List, [], ◌∷◌, ◌++◌, map
 use Rattle.std.specs.List.{flat_map}
 use Rattle.betting_round.specs.declared.act.Act.{Act}
 use Rattle.card_set.specs.declared.card.CardRow.{CardRow}
-use Rattle.floor_events.specs.declared.event.Event.{Event}
-use Rattle.floor_events.specs.declared.event.Event.TheVariants as events
+use Rattle.tournament_events.specs.declared.event.Event.{Event}
+use Rattle.tournament_events.specs.declared.event.Event.TheVariants as events
 use Rattle.view_rules.specs.declared.entries.StackLine.{StackLine}
 use Rattle.view_rules.specs.Spelling.{BeginLine, EventLine, FloorLine, RaceLine, SettleLine, StackIs, Floor, line_text, lines_text}
 use Rattle.view_rules.specs.Lines.{floor_lines}

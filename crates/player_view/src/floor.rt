@@ -8,9 +8,10 @@ ghost use Rattle.view_rules.specs.Lines.{floor_lines};
 ghost use Rattle.view_rules.specs.Entries.{journal_lines};
 
 use crate::line::{push_floor, push_floor_line};
-use floor_events::{Event, write_event};
+use floor_events::write_event;
 use line_words::Word;
 use std::alloc::AllocError;
+use tournament_events::Event;
 use view_rules::{JournalEntry, StackLine};
 
 /// Writes that a hand has begun, with its number.

@@ -8,9 +8,9 @@ use Rattle.rulebook.specs.Limits.{most_entries}
 use Rattle.rulebook.proofs.Found.{none-by_test}
 use Rattle.seat_book.specs.Counts.{count_at, table_numbers}
 use Rattle.table_engine.specs.Hands.{HandTerms, due_name, is_over}
-use Rattle.floor_events.specs.declared.event.Event.{Event}
-use Rattle.floor_events.specs.declared.event.Event.TheVariants as events
-use Rattle.floor_events.specs.declared.answer.Answer.TheVariants.{Ok}
+use Rattle.tournament_events.specs.declared.event.Event.{Event}
+use Rattle.tournament_events.specs.declared.event.Event.TheVariants as events
+use Rattle.tournament_events.specs.declared.answer.Answer.TheVariants.{Ok}
 use Rattle.floor_director.specs.Orders.{next_order}
 use Rattle.floor_director.specs.SimulatedActs.{simulated_act}
 use Rattle.tournament_rules.specs.Checks.{book_refusal, is_last_level, is_over_for_all, is_playing, is_race_due}

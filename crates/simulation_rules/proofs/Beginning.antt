@@ -9,7 +9,7 @@ use Rattle.level_plan.specs.Drafts.{empty_draft}
 use Rattle.level_plan.specs.Plans.{PlanTerms, is_right}
 use Rattle.plan_files.specs.PlanLines.{lines_of_plan}
 use Rattle.plan_files.proofs.MadeAgain.{made_again}
-use Rattle.floor_events.specs.declared.answer.Answer.TheVariants.{Ok}
+use Rattle.tournament_events.specs.declared.answer.Answer.TheVariants.{Ok}
 use Rattle.seat_book.specs.declared.table_status.TableStatus.{TableStatus}
 use Rattle.tournament_rules.specs.Effects.{first_book, first_status}
 use Rattle.tournament_rules.specs.States.{PlayState, first_play, first_state, run, answers}

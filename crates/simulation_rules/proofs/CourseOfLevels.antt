@@ -7,7 +7,7 @@ use Rattle.level_plan.specs.Plans.{unit_of_level}
 use Rattle.seat_book.specs.declared.table_status.TableStatus.{TableStatus}
 use Rattle.seat_book.specs.Counts.{is_open}
 use Rattle.seat_book.specs.Tables.{status_at}
-use Rattle.floor_events.specs.declared.event.Event.TheVariants.{Race}
+use Rattle.tournament_events.specs.declared.event.Event.TheVariants.{Race}
 use Rattle.tournament_rules.specs.Books.{BookState}
 use Rattle.tournament_rules.specs.Checks.{book_refusal}
 use Rattle.tournament_rules.specs.Effects.{leveled, raced}

@@ -7,7 +7,7 @@ use Rattle.seat_book.specs.declared.table_status.TableStatus.{TableStatus}
 use Rattle.seat_book.specs.Tables.{status_at}
 use Rattle.seat_book.specs.Seatings.{Seating}
 use Rattle.balance_rule.specs.Balance.{balance_move}
-use Rattle.floor_events.specs.declared.event.Event.TheVariants.{Balance, Break}
+use Rattle.tournament_events.specs.declared.event.Event.TheVariants.{Balance, Break}
 use Rattle.tournament_rules.specs.Books.{BookState}
 use Rattle.tournament_rules.specs.Checks.{book_refusal}
 use Rattle.tournament_rules.specs.Effects.{balanced, broken, forgotten, with_table}

@@ -6,8 +6,8 @@ use Rattle.std.proofs.lemmas.Bool.{both_ways, cases_lt, cond_both, eqb-false, fa
 use Rattle.rulebook.proofs.Found.{none-by_test}
 use Rattle.seat_book.specs.Counts.{table_numbers}
 use Rattle.table_engine.specs.Hands.{HandTerms, due_name, is_over}
-use Rattle.floor_events.specs.declared.event.Event.{Event}
-use Rattle.floor_events.specs.declared.event.Event.TheVariants.{Act, Balance, Begin, Break, Level, Race, Settle, Stop}
+use Rattle.tournament_events.specs.declared.event.Event.{Event}
+use Rattle.tournament_events.specs.declared.event.Event.TheVariants.{Act, Balance, Begin, Break, Level, Race, Settle, Stop}
 use Rattle.floor_director.specs.Orders.{next_order}
 use Rattle.floor_director.specs.SimulatedActs.{simulated_act}
 use Rattle.tournament_rules.specs.Checks.{book_refusal, is_last_level, is_over_for_all, is_playing, is_race_due}

@@ -24,7 +24,7 @@ use Rattle.balance_rule.specs.EmptySeats.{is_empty_seat, lowest_seat}
 use Rattle.balance_rule.proofs.FreeSeats.{empty-untaken, some-free, walk-finds}
 use Rattle.break_draw.proofs.Chosen.{lowest-within}
 use Rattle.floor_text.specs.declared.refusal.Refusal.TheVariants.{Stopped, NameKnown, NoTable, NoSeat, SeatTaken, NotFewest, LateClosed, Over, ListFull}
-use Rattle.floor_events.specs.declared.event.Event.TheVariants.{Enter}
+use Rattle.tournament_events.specs.declared.event.Event.TheVariants.{Enter}
 use Rattle.floor_director.proofs.FirstTables.{tables-none}
 use Rattle.tournament_rules.specs.Books.{BookState, has_seat_number, has_table}
 use Rattle.tournament_rules.specs.Checks.{book_refusal, is_late, is_not_fewest, is_over_for_all, is_taken, may_be_entered}

@@ -4,8 +4,8 @@ use Rattle.std.specs.Prelude.{nat_lt, length, if◌then◌else◌, Option, Some,
 use Rattle.std.specs.Option.{ForSome}
 use Rattle.std.proofs.lemmas.Bool.{cond_both}
 use Rattle.level_plan.specs.Drafts.{Draft}
-use Rattle.floor_events.specs.declared.answer.Answer.TheVariants.{Ok}
-use Rattle.floor_events.specs.declared.event.Event.{Event}
+use Rattle.tournament_events.specs.declared.answer.Answer.TheVariants.{Ok}
+use Rattle.tournament_events.specs.declared.event.Event.{Event}
 use Rattle.tournament_rules.specs.States.{State, PlayState, accepted, answer_to, is_accepted, refusal_of, state_after}
 use Rattle.tournament_rules.proofs.Plays.{some_so}
 use Rattle.tournament_rules.proofs.Steps.{accepted_none}

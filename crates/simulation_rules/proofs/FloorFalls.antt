@@ -15,7 +15,7 @@ use Rattle.seat_book.specs.Tables.{fresh_status, status_at, with_status}
 use Rattle.seat_book.specs.Seatings.{Seating}
 use Rattle.balance_rule.specs.declared.balance.Move.{Move}
 use Rattle.balance_rule.specs.Balance.{after_move}
-use Rattle.floor_events.specs.declared.event.Event.TheVariants.{Enter, Balance, Break, Level, Race}
+use Rattle.tournament_events.specs.declared.event.Event.TheVariants.{Enter, Balance, Break, Level, Race}
 use Rattle.tournament_rules.specs.Books.{has_table}
 use Rattle.tournament_rules.specs.Effects.{forgotten, newcomer}
 use Rattle.tournament_rules.specs.Racing.{announced, race_at, raced_off, restacked}

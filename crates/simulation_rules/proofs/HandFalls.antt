@@ -14,7 +14,7 @@ use Rattle.table_engine.specs.Hands.{HandTerms}
 use Rattle.table_engine.specs.Results.{players_after}
 use Rattle.table_engine.specs.Starts.{chips_of}
 use Rattle.table_engine.proofs.TurnLaws.{length-bound}
-use Rattle.floor_events.specs.declared.event.Event.TheVariants as events
+use Rattle.tournament_events.specs.declared.event.Event.TheVariants as events
 use Rattle.tournament_rules.specs.Books.{start_at}
 use Rattle.tournament_rules.specs.Checks.{is_playing}
 use Rattle.tournament_rules.specs.Dealing.{next_at}

@@ -10,7 +10,7 @@ use Rattle.table_engine.specs.Acts.{refusal_of_act}
 use Rattle.table_engine.specs.Hands.{HandTerms, due_in_hand, due_name, is_over, street_of}
 use Rattle.table_engine.specs.Starts.{IsLawfulStart}
 use Rattle.table_engine.proofs.TurnLaws.{due-somebody}
-use Rattle.floor_events.specs.declared.event.Event.TheVariants as events
+use Rattle.tournament_events.specs.declared.event.Event.TheVariants as events
 use Rattle.floor_director.specs.SimulatedActs.{act_number, is_lawful_act, listed_acts, simulated_act}
 use Rattle.floor_director.proofs.SimulatedActs.{due-goes_on}
 use Rattle.tournament_rules.specs.States.{PlayState, hand_at, refusal_of}

@@ -10,7 +10,7 @@ use Rattle.seat_book.specs.Counts.{count_at, table_numbers}
 use Rattle.seat_book.specs.Tables.{status_at}
 use Rattle.seat_book.specs.Seatings.{is_race_pending}
 use Rattle.floor_text.specs.declared.refusal.Refusal.TheVariants.{Stopped, RaceDue, LastLevel, NoTable, Playing, DeckWrong, NoRace, Over}
-use Rattle.floor_events.specs.declared.event.Event.TheVariants.{Level, Race, Stop}
+use Rattle.tournament_events.specs.declared.event.Event.TheVariants.{Level, Race, Stop}
 use Rattle.floor_director.proofs.FirstTables.{IsFirst, tables-first}
 use Rattle.tournament_rules.specs.Books.{BookState, has_table}
 use Rattle.tournament_rules.specs.Checks.{book_refusal, is_last_level, is_over_for_all, is_playing, is_race_due, is_table_open}

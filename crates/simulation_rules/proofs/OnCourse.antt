@@ -2,9 +2,9 @@
 use Rattle.std.proofs.Common.{◌≡◌, refl, sym, ap, subst, ℕ, List, false}
 use Rattle.std.specs.Prelude.{Option, Some, None, if◌then◌else◌}
 use Rattle.std.specs.Option.{option_map_or, ForSome}
-use Rattle.floor_events.specs.declared.answer.Answer.{Answer}
-use Rattle.floor_events.specs.declared.answer.Answer.TheVariants.{Ok}
-use Rattle.floor_events.specs.declared.event.Event.{Event}
+use Rattle.tournament_events.specs.declared.answer.Answer.{Answer}
+use Rattle.tournament_events.specs.declared.answer.Answer.TheVariants.{Ok}
+use Rattle.tournament_events.specs.declared.event.Event.{Event}
 use Rattle.tournament_rules.specs.States.{State, PlayState, accepted, answer_to, is_accepted, play_effect, refusal_of, state_after}
 use Rattle.tournament_rules.specs.Valid.{IsValidPlay}
 use Rattle.tournament_rules.proofs.Plays.{some_so}

@@ -14,8 +14,8 @@ use Rattle.balance_rule.specs.Moves.{IsFreeTable, IsLawfulMove}
 use Rattle.balance_rule.specs.Moves.{Break as ByBreak}
 use Rattle.balance_rule.proofs.Converse.{lawful-checked}
 use Rattle.floor_text.specs.declared.refusal.Refusal.TheVariants as refusals
-use Rattle.floor_events.specs.declared.event.Event.{Event}
-use Rattle.floor_events.specs.declared.event.Event.TheVariants as events
+use Rattle.tournament_events.specs.declared.event.Event.{Event}
+use Rattle.tournament_events.specs.declared.event.Event.TheVariants as events
 use Rattle.floor_director.specs.Orders.{balance_of, first_order, giver, is_playing as plays, may_give, may_take, next_order, owed_balance, owed_break, taker}
 use Rattle.floor_director.specs.Owed.{IsNextOrder}
 use Rattle.floor_director.proofs.FirstTables.{IsFirst, tables-first}

@@ -8,8 +8,8 @@ use Rattle.seat_book.specs.Counts.{is_open, table_numbers}
 use Rattle.seat_book.specs.Seatings.{Seating, IsSeating}
 use Rattle.balance_rule.specs.declared.balance.Move.{Move}
 use Rattle.balance_rule.specs.Balance.{after_move}
-use Rattle.floor_events.specs.declared.event.Event.{Event}
-use Rattle.floor_events.specs.declared.event.Event.TheVariants as events
+use Rattle.tournament_events.specs.declared.event.Event.{Event}
+use Rattle.tournament_events.specs.declared.event.Event.TheVariants as events
 use Rattle.floor_director.specs.Orders.{next_order}
 use Rattle.floor_director.proofs.Spreading.{spread-few}
 use Rattle.tournament_rules.specs.Books.{BookState}

@@ -10,10 +10,10 @@ use Rattle.level_plan.specs.Drafts.{Draft, draft_after, go_fault, is_wrong_line,
 use Rattle.level_plan.specs.Plans.{PlanTerms}
 use Rattle.plan_files.specs.PlanFiles.{unless}
 use Rattle.plan_files.specs.PlanLines.{plan_of_lines}
-use Rattle.floor_events.specs.declared.answer.Answer.{Answer}
-use Rattle.floor_events.specs.declared.answer.Answer.TheVariants.{Ok, PlanWrong}
-use Rattle.floor_events.specs.declared.event.Event.{Event}
-use Rattle.floor_events.specs.declared.event.Event.TheVariants as events
+use Rattle.tournament_events.specs.declared.answer.Answer.{Answer}
+use Rattle.tournament_events.specs.declared.answer.Answer.TheVariants.{Ok, PlanWrong}
+use Rattle.tournament_events.specs.declared.event.Event.{Event}
+use Rattle.tournament_events.specs.declared.event.Event.TheVariants as events
 use Rattle.tournament_rules.specs.States.{State, accepted, answer_to, answers, first_play, is_accepted, run, state_after}
 
 -- All events of a list are accepted, and the tournament of a plan begins behind them.

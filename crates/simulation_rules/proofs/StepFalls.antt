@@ -4,8 +4,8 @@ use Rattle.std.specs.Prelude.{not, nat_lt, ◌==◌, ◌&&◌, ◌||◌, find, l
 use Rattle.std.proofs.lemmas.Bool.{both_ways, cases_eq, cond_both, false_from_ne_true, ltb-true}
 use Rattle.seat_book.specs.Counts.{table_numbers}
 use Rattle.table_engine.specs.Hands.{HandTerms, due_name, is_over}
-use Rattle.floor_events.specs.declared.event.Event.{Event}
-use Rattle.floor_events.specs.declared.event.Event.TheVariants as events
+use Rattle.tournament_events.specs.declared.event.Event.{Event}
+use Rattle.tournament_events.specs.declared.event.Event.TheVariants as events
 use Rattle.floor_director.specs.Orders.{next_order}
 use Rattle.floor_director.specs.SimulatedActs.{simulated_act}
 use Rattle.tournament_rules.specs.Checks.{book_refusal, is_last_level, is_over_for_all, is_playing, is_race_due}

@@ -7,10 +7,10 @@ use Rattle.std.proofs.lemmas.List.Elements.{All-append, All-head, All-tail}
 use Rattle.level_plan.specs.Drafts.{Draft, plan_of}
 use Rattle.level_plan.specs.Plans.{PlanTerms, is_right}
 use Rattle.plan_files.specs.PlanLines.{lines_of_plan}
-use Rattle.floor_events.specs.declared.answer.Answer.{Answer}
-use Rattle.floor_events.specs.declared.answer.Answer.TheVariants.{Ok}
-use Rattle.floor_events.specs.declared.event.Event.{Event}
-use Rattle.floor_events.specs.declared.event.Event.TheVariants as events
+use Rattle.tournament_events.specs.declared.answer.Answer.{Answer}
+use Rattle.tournament_events.specs.declared.answer.Answer.TheVariants.{Ok}
+use Rattle.tournament_events.specs.declared.event.Event.{Event}
+use Rattle.tournament_events.specs.declared.event.Event.TheVariants as events
 use Rattle.tournament_rules.specs.States.{State, PlayState, accepted, answer_to, answers, first_play, first_state, is_accepted, refusal_of, run, state_after}
 use Rattle.tournament_rules.proofs.Passed.{go_late, passed-parts}
 use Rattle.tournament_rules.proofs.Steps.{accepted_none}

@@ -6,8 +6,8 @@ use Rattle.seat_book.specs.Counts.{count_at, table_numbers}
 use Rattle.seat_book.specs.Seatings.{Seating}
 use Rattle.balance_rule.specs.EmptySeats.{is_empty_seat, lowest_seat}
 use Rattle.balance_rule.specs.Filling.{lowest_table}
-use Rattle.floor_events.specs.declared.event.Event.{Event}
-use Rattle.floor_events.specs.declared.event.Event.TheVariants.{Enter}
+use Rattle.tournament_events.specs.declared.event.Event.{Event}
+use Rattle.tournament_events.specs.declared.event.Event.TheVariants.{Enter}
 use Rattle.tournament_rules.specs.Books.{BookState}
 
 -- As many players enter as the plan has seats.

@@ -1,6 +1,6 @@
 -- The events of a simulated tournament that are still to come. This project's own.
 use Rattle.std.specs.Prelude.{ℕ, List}
-use Rattle.floor_events.specs.declared.event.Event.{Event}
+use Rattle.tournament_events.specs.declared.event.Event.{Event}
 use Rattle.tournament_rules.specs.States.{State}
 use Rattle.simulation_rules.specs.declared.place.SimPlace.{SimPlace}
 use Rattle.simulation_rules.specs.Effort.{effort}

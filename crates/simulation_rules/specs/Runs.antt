@@ -5,10 +5,10 @@ use Rattle.std.specs.Fmt.{decimal}
 use Rattle.level_plan.specs.Plans.{PlanTerms}
 use Rattle.line_words.specs.Words.{line_of_words}
 use Rattle.plan_files.specs.PlanLines.{lines_of_plan}
-use Rattle.floor_events.specs.declared.event.Event.{Event}
-use Rattle.floor_events.specs.declared.event.Event.TheVariants as events
+use Rattle.tournament_events.specs.declared.event.Event.{Event}
+use Rattle.tournament_events.specs.declared.event.Event.TheVariants as events
 use Rattle.tournament_rules.specs.States.{State, first_state, run, state_after, players_of}
-use Rattle.tournament_rules.specs.Replay.{final_text}
+use Rattle.replay_rules.specs.Replay.{final_text}
 use Rattle.simulation_rules.specs.declared.place.SimPlace.{SimPlace}
 use Rattle.simulation_rules.specs.Places.{first_place}
 use Rattle.simulation_rules.specs.declared.step.SimStep.{SimStep}

@@ -4,8 +4,8 @@ use Rattle.std.specs.Option.{option_map_or}
 use Rattle.seat_book.specs.Counts.{table_numbers}
 use Rattle.card_set.specs.declared.card.CardRow.{CardRow}
 use Rattle.table_engine.specs.Hands.{HandTerms, due_name, is_over}
-use Rattle.floor_events.specs.declared.event.Event.{Event}
-use Rattle.floor_events.specs.declared.event.Event.TheVariants.{Begin, Act, Settle, Level, Race, Stop}
+use Rattle.tournament_events.specs.declared.event.Event.{Event}
+use Rattle.tournament_events.specs.declared.event.Event.TheVariants.{Begin, Act, Settle, Level, Race, Stop}
 use Rattle.tournament_rules.specs.Books.{BookState}
 use Rattle.tournament_rules.specs.Checks.{book_refusal, is_last_level, is_over_for_all, is_playing, is_race_due}
 use Rattle.tournament_rules.specs.States.{State, PlayState, hand_at}

@@ -1,7 +1,7 @@
 //! A step of a simulated tournament.
 
 use crate::place::SimPlace;
-use floor_events::Event;
+use tournament_events::Event;
 
 /// A step of a simulated tournament.
 #[derive(Drop)]

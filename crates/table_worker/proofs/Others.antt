@@ -4,8 +4,8 @@ use Rattle.std.specs.Prelude.{filter, Option, None, Some, option_map, option_to_
 use Rattle.std.proofs.lemmas.List.Elements.{filter-append}
 use Rattle.table_engine.specs.declared.record.ActOf.{ActOf}
 use Rattle.table_engine.specs.Hands.{HandTerms}
-use Rattle.floor_events.specs.declared.event.Event.{Event}
-use Rattle.floor_events.specs.declared.event.Event.TheVariants as events
+use Rattle.tournament_events.specs.declared.event.Event.{Event}
+use Rattle.tournament_events.specs.declared.event.Event.TheVariants as events
 use Rattle.history_lock.specs.Entries.{entries_by}
 use Rattle.view_rules.specs.declared.entries.JournalEntry.{JournalEntry}
 use Rattle.dock_rules.specs.Journals.{Begun, Settled, Tale, begun_by, first_tale, hand_out, journal_caller, seeded, settled_by, tale_of, told_one}

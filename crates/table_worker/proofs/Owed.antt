@@ -12,8 +12,8 @@ use Rattle.seat_book.specs.Counts.{table_numbers}
 use Rattle.seat_book.specs.Seatings.{Seating, is_race_pending, is_round_open}
 use Rattle.balance_rule.specs.Balance.{is_even_enough}
 use Rattle.balance_rule.specs.Filling.{fill_seats}
-use Rattle.floor_events.specs.declared.event.Event.{Event}
-use Rattle.floor_events.specs.declared.event.Event.TheVariants as events
+use Rattle.tournament_events.specs.declared.event.Event.{Event}
+use Rattle.tournament_events.specs.declared.event.Event.TheVariants as events
 use Rattle.floor_director.specs.Orders.{balance_of, break_of, drawn_break, first_order, giver, is_last_open, is_playing, last_open, may_give, next_order, owed_balance, owed_break, taker}
 use Rattle.tournament_rules.specs.Books.{BookState}
 use Rattle.tournament_rules.specs.Checks.{is_over_for_all}

@@ -8,8 +8,8 @@ use Rattle.rulebook.specs.Checks.{first_that_holds}
 use Rattle.card_set.specs.declared.card.CardRow.{CardRow}
 use Rattle.floor_text.specs.declared.refusal.Refusal.{Refusal}
 use Rattle.floor_text.specs.declared.refusal.Refusal.TheVariants.{Stopped, NoPlan}
-use Rattle.floor_events.specs.declared.event.Event.{Event}
-use Rattle.floor_events.specs.declared.event.Event.TheVariants as events
+use Rattle.tournament_events.specs.declared.event.Event.{Event}
+use Rattle.tournament_events.specs.declared.event.Event.TheVariants as events
 use Rattle.table_engine.specs.declared.record.ActFault.{ActFault}
 use Rattle.table_engine.specs.declared.record.ActFault.TheVariants as faults
 use Rattle.table_engine.specs.Acts.{IsAnswer}

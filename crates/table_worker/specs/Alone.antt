@@ -1,7 +1,7 @@
 -- Hands that one caller alone begins and settles at a table. This project's own.
 use Rattle.std.specs.Prelude.{◌≡◌, ◌==◌, ℕ, Bool, true, false, List, ◌∷◌, ◌++◌}
-use Rattle.floor_events.specs.declared.event.Event.{Event}
-use Rattle.floor_events.specs.declared.event.Event.TheVariants as events
+use Rattle.tournament_events.specs.declared.event.Event.{Event}
+use Rattle.tournament_events.specs.declared.event.Event.TheVariants as events
 use Rattle.view_rules.specs.declared.entries.JournalEntry.{JournalEntry}
 
 -- whether an event begins or settles a hand at this table

@@ -7,8 +7,8 @@ use Rattle.floor_text.specs.declared.refusal.Refusal.TheVariants.{Stopped}
 use Rattle.table_engine.specs.declared.record.ActFault.{ActFault}
 use Rattle.table_engine.specs.declared.record.ActFault.TheVariants as faults
 use Rattle.table_engine.specs.Hands.{HandTerms, is_over}
-use Rattle.floor_events.specs.declared.event.Event.{Event}
-use Rattle.floor_events.specs.declared.event.Event.TheVariants as events
+use Rattle.tournament_events.specs.declared.event.Event.{Event}
+use Rattle.tournament_events.specs.declared.event.Event.TheVariants as events
 use Rattle.view_rules.specs.declared.entries.JournalEntry.{JournalEntry}
 use Rattle.view_rules.specs.declared.entries.TableEntry.{TableEntry}
 use Rattle.view_rules.specs.declared.entries.TableEntry.TheVariants as entries

@@ -7,13 +7,13 @@ use Rattle.std.proofs.lemmas.List.{append-nil}
 use Rattle.std.proofs.lemmas.List.Folds.{flat_map-map}
 use Rattle.floor_text.specs.Lines.{lines_of_bytes}
 use Rattle.floor_text.proofs.CutLines.{lines_of_bytes-nil}
-use Rattle.floor_events.specs.declared.answer.Answer.{Answer}
-use Rattle.floor_events.specs.declared.answer.Answer.TheVariants.{Ok, No, PlanWrong}
-use Rattle.floor_events.specs.declared.event.Event.{Event}
+use Rattle.tournament_events.specs.declared.answer.Answer.{Answer}
+use Rattle.tournament_events.specs.declared.answer.Answer.TheVariants.{Ok, No, PlanWrong}
+use Rattle.tournament_events.specs.declared.event.Event.{Event}
 use Rattle.floor_events.specs.Spelling.{event_text, answer_text, IsWritable}
 use Rattle.floor_events.proofs.EventLaws.{event_again, note_again, text_no_feed}
 use Rattle.tournament_rules.specs.Report.{report_of}
-use Rattle.tournament_rules.specs.Replay.{item_of_cut, answers_to_items, state_after_items, final_text, replay_text, event_line, tournament_text}
+use Rattle.replay_rules.specs.Replay.{item_of_cut, answers_to_items, state_after_items, final_text, replay_text, event_line, tournament_text}
 use Rattle.tournament_rules.specs.States.{State, first_state, answer_to, answers, is_accepted, state_after, run}
 use Rattle.tournament_laws.specs.Accepted.{are_accepted}
 use Rattle.tournament_laws.proofs.Cuts.{IsLine, with_feed, lines_again}

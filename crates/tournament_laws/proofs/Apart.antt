@@ -13,14 +13,14 @@ use Rattle.table_engine.specs.declared.start.HandStart.{HandStart}
 use Rattle.table_engine.specs.declared.record.ActOf.{ActOf}
 use Rattle.table_engine.specs.Hands.{HandTerms}
 use Rattle.table_engine.specs.Acts.{hand_after, hand_after_time}
-use Rattle.floor_events.specs.declared.event.Event.{Event}
-use Rattle.floor_events.specs.declared.event.Event.TheVariants as events
+use Rattle.tournament_events.specs.declared.event.Event.{Event}
+use Rattle.tournament_events.specs.declared.event.Event.TheVariants as events
 use Rattle.tournament_rules.specs.Books.{BookState}
 use Rattle.tournament_rules.specs.Checks.{book_refusal, is_playing}
 use Rattle.tournament_rules.specs.Dealing.{next_start}
 use Rattle.tournament_rules.specs.Effects.{first_book, book_effect, settled, void_first, stopped_book}
 use Rattle.level_plan.specs.Drafts.{Draft, plan_of, go_fault}
-use Rattle.floor_events.specs.declared.answer.Answer.TheVariants.{Ok}
+use Rattle.tournament_events.specs.declared.answer.Answer.TheVariants.{Ok}
 use Rattle.tournament_rules.specs.States.{State, first_state, answer_to, answers, accepted, is_accepted, state_after, run, PlayState, first_play, answered, refusal_of, acts_effect, play_effect, play_after, answers_in_play, run_in_play}
 use Rattle.tournament_rules.specs.Valid.{IsValidPlay}
 use Rattle.tournament_rules.specs.Report.{book_report, empty_report, report_of}

@@ -6,10 +6,10 @@ use Rattle.std.proofs.Math.Nat.{zero-mul}
 use Rattle.level_plan.specs.Plans.{PlanTerms}
 use Rattle.level_plan.specs.Drafts.{Draft, plan_of}
 use Rattle.table_engine.specs.Hands.{HandTerms}
-use Rattle.floor_events.specs.declared.answer.Answer.{Answer}
-use Rattle.floor_events.specs.declared.answer.Answer.TheVariants.{Ok, No, PlanWrong}
-use Rattle.floor_events.specs.declared.event.Event.{Event}
-use Rattle.floor_events.specs.declared.event.Event.TheVariants as events
+use Rattle.tournament_events.specs.declared.answer.Answer.{Answer}
+use Rattle.tournament_events.specs.declared.answer.Answer.TheVariants.{Ok, No, PlanWrong}
+use Rattle.tournament_events.specs.declared.event.Event.{Event}
+use Rattle.tournament_events.specs.declared.event.Event.TheVariants as events
 use Rattle.tournament_rules.specs.Books.{BookState}
 use Rattle.tournament_rules.specs.Effects.{first_book, settled, book_effect}
 use Rattle.tournament_rules.specs.Kinds.{is_entry, is_race}

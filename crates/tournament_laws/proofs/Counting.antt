@@ -7,9 +7,9 @@ use Rattle.level_plan.specs.Drafts.{Draft}
 use Rattle.table_engine.specs.declared.start.HandStart.{HandStart}
 use Rattle.card_set.specs.declared.card.CardRow.{CardRow}
 use Rattle.table_engine.specs.Hands.{HandTerms}
-use Rattle.floor_events.specs.declared.answer.Answer.TheVariants.{Ok, No}
-use Rattle.floor_events.specs.declared.event.Event.{Event}
-use Rattle.floor_events.specs.declared.event.Event.TheVariants as events
+use Rattle.tournament_events.specs.declared.answer.Answer.TheVariants.{Ok, No}
+use Rattle.tournament_events.specs.declared.event.Event.{Event}
+use Rattle.tournament_events.specs.declared.event.Event.TheVariants as events
 use Rattle.tournament_rules.specs.Books.{BookState, start_at}
 use Rattle.tournament_rules.specs.Dealing.{next_start}
 use Rattle.tournament_rules.specs.Effects.{settled, book_effect}

@@ -4,8 +4,8 @@ use Rattle.std.specs.Prelude.{Option, Some, None, is_none, option_map, if◌then
 use Rattle.std.proofs.lemmas.List.{get_or-set_other}
 use Rattle.floor_text.specs.declared.refusal.Refusal.{Refusal}
 use Rattle.table_engine.specs.declared.record.ActOf.{ActOf}
-use Rattle.floor_events.specs.declared.event.Event.{Event}
-use Rattle.floor_events.specs.declared.event.Event.TheVariants as events
+use Rattle.tournament_events.specs.declared.event.Event.{Event}
+use Rattle.tournament_events.specs.declared.event.Event.TheVariants as events
 use Rattle.tournament_rules.specs.Books.{start_at}
 use Rattle.tournament_rules.specs.States.{PlayState, hand_at, act_table, refusal_of, play_effect, play_after}
 

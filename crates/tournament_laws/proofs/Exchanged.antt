@@ -8,8 +8,8 @@ use Rattle.std.proofs.lemmas.List.{get_or-set_other}
 use Rattle.table_engine.specs.declared.record.ActOf.{ActOf}
 use Rattle.table_engine.specs.Hands.{HandTerms}
 use Rattle.table_engine.specs.Acts.{hand_after_time}
-use Rattle.floor_events.specs.declared.event.Event.{Event}
-use Rattle.floor_events.specs.declared.event.Event.TheVariants as events
+use Rattle.tournament_events.specs.declared.event.Event.{Event}
+use Rattle.tournament_events.specs.declared.event.Event.TheVariants as events
 use Rattle.tournament_rules.specs.Checks.{book_refusal}
 use Rattle.tournament_rules.specs.States.{PlayState, act_table, acts_at, hand_at, hand_about, acts_effect, refusal_of, play_effect}
 use Rattle.tournament_rules.specs.Valid.{IsValidPlay}

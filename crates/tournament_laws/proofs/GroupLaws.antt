@@ -15,9 +15,9 @@ use Rattle.rulebook.proofs.Tests.{list_all-follows, some_there}
 use Rattle.place_list.specs.declared.bust.Bust.{Bust}
 use Rattle.table_engine.specs.declared.start.HandStart.{HandStart}
 use Rattle.table_engine.specs.Hands.{HandTerms}
-use Rattle.floor_events.specs.declared.answer.Answer.TheVariants.{Ok}
-use Rattle.floor_events.specs.declared.event.Event.{Event}
-use Rattle.floor_events.specs.declared.event.Event.TheVariants as events
+use Rattle.tournament_events.specs.declared.answer.Answer.TheVariants.{Ok}
+use Rattle.tournament_events.specs.declared.event.Event.{Event}
+use Rattle.tournament_events.specs.declared.event.Event.TheVariants as events
 use Rattle.tournament_rules.specs.Books.{BookState, start_at}
 use Rattle.tournament_rules.specs.Effects.{bust_of, busted_by, settled, book_effect, next_group}
 use Rattle.tournament_rules.specs.Kinds.{ends_round}

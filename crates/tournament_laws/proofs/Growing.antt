@@ -6,8 +6,8 @@ use Rattle.std.proofs.lemmas.Option.{same_Some}
 use Rattle.std.proofs.lemmas.List.{append-nil, append_assoc}
 use Rattle.place_list.specs.declared.bust.Bust.{Bust}
 use Rattle.table_engine.specs.Hands.{HandTerms}
-use Rattle.floor_events.specs.declared.event.Event.{Event}
-use Rattle.floor_events.specs.declared.event.Event.TheVariants as events
+use Rattle.tournament_events.specs.declared.event.Event.{Event}
+use Rattle.tournament_events.specs.declared.event.Event.TheVariants as events
 use Rattle.tournament_rules.specs.Effects.{bust_of, busted_by, settled}
 use Rattle.tournament_rules.specs.States.{State, PlayState, hand_at, answer_to, play_effect, is_accepted, state_after, run}
 use Rattle.tournament_rules.proofs.Ends.{left-void_first}

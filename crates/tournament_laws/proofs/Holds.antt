@@ -16,8 +16,8 @@ use Rattle.tournament_rules.specs.Chips.{sold_by, rest_in, play_of}
 use Rattle.table_engine.specs.Hands.{HandTerms}
 use Rattle.table_engine.specs.Starts.{IsLawfulStart}
 use Rattle.card_set.specs.declared.card.CardRow.{CardRow}
-use Rattle.floor_events.specs.declared.answer.Answer.TheVariants.{Ok}
-use Rattle.floor_events.specs.declared.event.Event.TheVariants.{Begin}
+use Rattle.tournament_events.specs.declared.answer.Answer.TheVariants.{Ok}
+use Rattle.tournament_events.specs.declared.event.Event.TheVariants.{Begin}
 use Rattle.tournament_rules.specs.Dealing.{next_start}
 use Rattle.tournament_rules.specs.States.{State, PlayState, acts_at, hand_at, refusal_of, answered, answer_to, is_accepted}
 use Rattle.tournament_rules.specs.Units.{is_whole_at}

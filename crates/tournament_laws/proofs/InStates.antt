@@ -9,8 +9,8 @@ use Rattle.level_plan.specs.Plans.{PlanTerms, is_right}
 use Rattle.level_plan.specs.Drafts.{Draft, IsLawful, go_fault, plan_of, draft_after}
 use Rattle.table_engine.specs.declared.start.HandStart.{HandStart}
 use Rattle.table_engine.specs.Hands.{HandTerms}
-use Rattle.floor_events.specs.declared.event.Event.{Event}
-use Rattle.floor_events.specs.declared.event.Event.TheVariants as events
+use Rattle.tournament_events.specs.declared.event.Event.{Event}
+use Rattle.tournament_events.specs.declared.event.Event.TheVariants as events
 use Rattle.tournament_rules.specs.States.{State, PlayState, first_play, act_table, acts_at, hand_at, no_acts, refusal_of, answered, answer_to, play_effect, is_accepted, state_after}
 use Rattle.tournament_rules.specs.Valid.{IsValidPlay, IsValidState}
 use Rattle.tournament_rules.proofs.Drafts.{right_plan}

@@ -1,13 +1,13 @@
 -- Items in order are a run of their events.
 use Rattle.std.proofs.Common.{◌≡◌, refl, ap, List, [], ◌∷◌}
 use Rattle.std.specs.Prelude.{Option, Some, None, map}
-use Rattle.floor_events.specs.declared.event.Event.{Event as EventOfLine}
-use Rattle.floor_events.specs.declared.event.Item.{Item}
-use Rattle.floor_events.specs.declared.event.Item.TheVariants.{Event, Note}
+use Rattle.tournament_events.specs.declared.event.Event.{Event as EventOfLine}
+use Rattle.tournament_events.specs.declared.event.Item.{Item}
+use Rattle.tournament_events.specs.declared.event.Item.TheVariants.{Event, Note}
 use Rattle.tournament_rules.specs.States.{State}
 use Rattle.tournament_rules.specs.States.{answer_to, state_after}
 use Rattle.tournament_rules.specs.States.{run, answers}
-use Rattle.tournament_rules.specs.Replay.{answers_to_items, state_after_items, events_of, item_of_event}
+use Rattle.replay_rules.specs.Replay.{answers_to_items, state_after_items, events_of, item_of_event}
 
 -- the state after items is the state after their events
 pub state_after_items_is_run : (state : State) (items : List (Option Item)) → state_after_items state items

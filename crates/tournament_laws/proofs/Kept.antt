@@ -17,8 +17,8 @@ use Rattle.balance_rule.specs.Balance.{balance_move, after_move}
 use Rattle.hand_rounds.specs.Rounds.{begun_by, begins_with}
 use Rattle.table_engine.specs.declared.start.HandStart.{HandStart}
 use Rattle.table_engine.specs.Hands.{HandTerms}
-use Rattle.floor_events.specs.declared.event.Event.{Event}
-use Rattle.floor_events.specs.declared.event.Event.TheVariants as events
+use Rattle.tournament_events.specs.declared.event.Event.{Event}
+use Rattle.tournament_events.specs.declared.event.Event.TheVariants as events
 use Rattle.tournament_rules.specs.Books.{BookState, start_at}
 use Rattle.tournament_rules.specs.Dealing.{next_at}
 use Rattle.tournament_rules.specs.Effects.{with_table, playing_from, at_rest, forgotten, ended, settled, void_first, book_effect}

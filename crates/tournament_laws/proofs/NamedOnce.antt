@@ -19,8 +19,8 @@ use Rattle.place_list.specs.Prizes.{prizes_of, prizes_together}
 use Rattle.place_list.specs.Standings.{standing_of, ordered, standings_of}
 use Rattle.place_list.proofs.Counts.{count_by-some}
 use Rattle.seat_book.specs.Players.{is_numbered}
-use Rattle.floor_events.specs.declared.report.ReportOut.{ReportOut}
-use Rattle.floor_events.specs.declared.report.ReportSeat.{ReportSeat}
+use Rattle.tournament_events.specs.declared.report.ReportOut.{ReportOut}
+use Rattle.tournament_events.specs.declared.report.ReportSeat.{ReportSeat}
 use Rattle.tournament_rules.specs.Books.{BookState}
 use Rattle.tournament_rules.specs.Report.{winner, reported, reported_out, standings_in, book_report}
 use Rattle.tournament_rules.specs.Valid.{IsValid, is_bust_of}

@@ -13,9 +13,9 @@ use Rattle.entry_list.specs.Entries.{is_known}
 use Rattle.seat_book.specs.declared.seated.Seated.{Seated}
 use Rattle.seat_book.specs.Players.{players_at, sits_at}
 use Rattle.balance_rule.specs.Filling.{names_at}
-use Rattle.floor_events.specs.declared.answer.Answer.TheVariants.{Ok}
-use Rattle.floor_events.specs.declared.event.Event.{Event}
-use Rattle.floor_events.specs.declared.event.Event.TheVariants as events
+use Rattle.tournament_events.specs.declared.answer.Answer.TheVariants.{Ok}
+use Rattle.tournament_events.specs.declared.event.Event.{Event}
+use Rattle.tournament_events.specs.declared.event.Event.TheVariants as events
 use Rattle.tournament_rules.specs.Books.{BookState}
 use Rattle.tournament_rules.specs.Checks.{book_checks, book_refusal}
 use Rattle.tournament_rules.specs.States.{State, PlayState, answer_to, planning_answer}

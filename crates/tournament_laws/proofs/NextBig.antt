@@ -26,7 +26,7 @@ use Rattle.seat_book.proofs.TakenSeats.{is_seat_to, may_come, one_more, seats_of
 use Rattle.table_engine.specs.declared.start.StartSeat.{StartSeat}
 use Rattle.table_engine.specs.Covers.{is_big_next}
 use Rattle.table_engine.specs.Hands.{player_of}
-use Rattle.floor_events.specs.declared.event.Event.TheVariants.{Begin}
+use Rattle.tournament_events.specs.declared.event.Event.TheVariants.{Begin}
 use Rattle.tournament_rules.specs.Books.{BookState}
 use Rattle.tournament_rules.specs.Checks.{book_refusal}
 use Rattle.tournament_rules.specs.Dealing.{next_at, next_start}

@@ -9,7 +9,7 @@ use Rattle.place_list.specs.declared.bust.Bust.{Bust}
 use Rattle.place_list.specs.Prizes.{pool_of}
 use Rattle.place_list.specs.Standings.{standings_of}
 use Rattle.place_list.proofs.Sums.{over-sum, out-sum}
-use Rattle.floor_events.specs.declared.report.ReportOut.{ReportOut}
+use Rattle.tournament_events.specs.declared.report.ReportOut.{ReportOut}
 use Rattle.tournament_rules.specs.Books.{BookState}
 use Rattle.tournament_rules.specs.Checks.{is_over_for_all}
 use Rattle.tournament_rules.specs.Report.{reported_out, standings_in, book_report}

@@ -9,9 +9,9 @@ use Rattle.seat_book.specs.declared.seated.Seated.{Seated}
 use Rattle.seat_book.specs.declared.table_status.TableStatus.{TableStatus}
 use Rattle.seat_book.specs.Players.{sits_at, players_at}
 use Rattle.seat_book.specs.Tables.{fresh_status, status_at, with_status}
-use Rattle.floor_events.specs.declared.answer.Answer.TheVariants.{Ok, No}
-use Rattle.floor_events.specs.declared.event.Event.{Event}
-use Rattle.floor_events.specs.declared.event.Event.TheVariants.{Level, Race}
+use Rattle.tournament_events.specs.declared.answer.Answer.TheVariants.{Ok, No}
+use Rattle.tournament_events.specs.declared.event.Event.{Event}
+use Rattle.tournament_events.specs.declared.event.Event.TheVariants.{Level, Race}
 use Rattle.tournament_rules.specs.Kinds.{is_level}
 use Rattle.tournament_laws.specs.Accepted.{is_any_accepted}
 use Rattle.tournament_rules.specs.Players.{with_rest}

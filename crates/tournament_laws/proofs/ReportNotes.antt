@@ -14,9 +14,9 @@ use Rattle.std.proofs.lemmas.Grind.{flat_map-append}
 use Rattle.floor_text.specs.Limits.{longest_name}
 use Rattle.floor_text.specs.Lines.{HasNoFeed}
 use Rattle.floor_text.specs.Names.{is_name, is_name_byte}
-use Rattle.floor_events.specs.declared.report.Report.{Report}
-use Rattle.floor_events.specs.declared.report.ReportSeat.{ReportSeat}
-use Rattle.floor_events.specs.declared.report.ReportOut.{ReportOut}
+use Rattle.tournament_events.specs.declared.report.Report.{Report}
+use Rattle.tournament_events.specs.declared.report.ReportSeat.{ReportSeat}
+use Rattle.tournament_events.specs.declared.report.ReportOut.{ReportOut}
 use Rattle.floor_events.specs.Spelling.{IsNote, stack_word, amount_line, report_head, seat_line, out_line, report_text}
 use Rattle.line_words.specs.Words.{line_of_words}
 use Rattle.line_words.proofs.Spaces.{is_word, decimal_word, name_word, line_no_feed}

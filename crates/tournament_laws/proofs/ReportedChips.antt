@@ -7,8 +7,8 @@ use Rattle.std.proofs.lemmas.Bool.{and_parts, eqb-true}
 use Rattle.std.proofs.lemmas.List.Elements.{All-head, All-tail}
 use Rattle.std.proofs.lemmas.List.Sums.{sum_by-cons}
 use Rattle.rulebook.proofs.Tests.{sum_by-map}
-use Rattle.floor_events.specs.declared.report.Report.{Report}
-use Rattle.floor_events.specs.declared.report.ReportSeat.{ReportSeat}
+use Rattle.tournament_events.specs.declared.report.Report.{Report}
+use Rattle.tournament_events.specs.declared.report.ReportSeat.{ReportSeat}
 use Rattle.seat_book.specs.declared.seated.Seated.{Seated}
 use Rattle.seat_book.specs.Players.{sits_at}
 use Rattle.table_engine.specs.declared.start.HandStart.{HandStart}

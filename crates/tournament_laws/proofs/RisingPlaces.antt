@@ -12,8 +12,8 @@ use Rattle.place_list.specs.declared.bust.Bust.{Bust}
 use Rattle.place_list.specs.Places.{is_ahead, place_of}
 use Rattle.level_plan.specs.Plans.{PlanTerms}
 use Rattle.table_engine.specs.Hands.{HandTerms}
-use Rattle.floor_events.specs.declared.event.Event.{Event}
-use Rattle.floor_events.specs.declared.event.Event.TheVariants as events
+use Rattle.tournament_events.specs.declared.event.Event.{Event}
+use Rattle.tournament_events.specs.declared.event.Event.TheVariants as events
 use Rattle.tournament_rules.specs.Books.{BookState}
 use Rattle.tournament_rules.specs.Checks.{is_late}
 use Rattle.tournament_rules.specs.Effects.{settled, book_effect}

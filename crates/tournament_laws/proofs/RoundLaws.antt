@@ -7,9 +7,9 @@ use Rattle.card_set.specs.declared.card.CardRow.{CardRow}
 use Rattle.seat_book.specs.declared.table_status.TableStatus.{TableStatus}
 use Rattle.seat_book.specs.Tables.{fresh_status, status_at}
 use Rattle.hand_rounds.specs.Rounds.{begun_by, begins_with}
-use Rattle.floor_events.specs.declared.answer.Answer.TheVariants.{Ok}
-use Rattle.floor_events.specs.declared.event.Event.{Event}
-use Rattle.floor_events.specs.declared.event.Event.TheVariants as events
+use Rattle.tournament_events.specs.declared.answer.Answer.TheVariants.{Ok}
+use Rattle.tournament_events.specs.declared.event.Event.{Event}
+use Rattle.tournament_events.specs.declared.event.Event.TheVariants as events
 use Rattle.tournament_rules.specs.Books.{BookState}
 use Rattle.tournament_rules.specs.Checks.{book_checks, book_refusal, is_playing}
 use Rattle.tournament_rules.specs.Dealing.{next_at}

@@ -19,8 +19,8 @@ use Rattle.table_engine.specs.declared.start.HandStart.{HandStart}
 use Rattle.table_engine.specs.declared.start.StartSeat.{StartSeat}
 use Rattle.table_engine.specs.Hands.{HandTerms}
 use Rattle.table_engine.specs.Results.{with_stack, stack_after_hand, players_after}
-use Rattle.floor_events.specs.declared.event.Event.{Event}
-use Rattle.floor_events.specs.declared.event.Event.TheVariants as events
+use Rattle.tournament_events.specs.declared.event.Event.{Event}
+use Rattle.tournament_events.specs.declared.event.Event.TheVariants as events
 use Rattle.tournament_rules.specs.Books.{BookState, start_at, starters_of}
 use Rattle.tournament_rules.specs.Dealing.{next_at, next_start}
 use Rattle.tournament_rules.specs.Effects.{newcomer, busted_by, settled}

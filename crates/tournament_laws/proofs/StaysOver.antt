@@ -15,8 +15,8 @@ use Rattle.seat_book.proofs.Numbers.{list_all-parts}
 use Rattle.balance_rule.specs.Filling.{is_other_open, filled}
 use Rattle.break_draw.proofs.Room.{filled-last}
 use Rattle.break_draw.proofs.FillLaws.{chosen-elsewhere}
-use Rattle.floor_events.specs.declared.event.Event.{Event}
-use Rattle.floor_events.specs.declared.event.Event.TheVariants as events
+use Rattle.tournament_events.specs.declared.event.Event.{Event}
+use Rattle.tournament_events.specs.declared.event.Event.TheVariants as events
 use Rattle.tournament_rules.specs.Books.{BookState}
 use Rattle.tournament_rules.specs.Checks.{Check, book_checks, book_refusal, is_over_for_all, is_playing}
 use Rattle.tournament_rules.specs.Effects.{void_at, void_first}

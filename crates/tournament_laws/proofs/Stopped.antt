@@ -2,9 +2,9 @@
 use Rattle.std.proofs.Common.{◌≡◌, ◌≢◌, ◌∙◌, refl, ap, true, List, [], ◌∷◌}
 use Rattle.std.specs.Prelude.{Option, Some, None}
 use Rattle.floor_text.specs.declared.refusal.Refusal.TheVariants.{NoPlan}
-use Rattle.floor_events.specs.declared.answer.Answer.TheVariants.{Ok, No}
-use Rattle.floor_events.specs.declared.event.Event.{Event}
-use Rattle.floor_events.specs.declared.event.Event.TheVariants.{Stop}
+use Rattle.tournament_events.specs.declared.answer.Answer.TheVariants.{Ok, No}
+use Rattle.tournament_events.specs.declared.event.Event.{Event}
+use Rattle.tournament_events.specs.declared.event.Event.TheVariants.{Stop}
 use Rattle.tournament_rules.specs.States.{State, PlayState, answer_to, is_accepted, play_effect, state_after, run}
 use Rattle.tournament_rules.proofs.Passed.{passed-parts}
 use Rattle.tournament_laws.proofs.ChipLaws.{refused-after}

@@ -20,8 +20,8 @@ use Rattle.seat_book.specs.Tables.{status_at}
 use Rattle.balance_rule.specs.Halting.{is_halted}
 use Rattle.table_engine.specs.declared.start.HandStart.{HandStart}
 use Rattle.table_engine.specs.declared.start.StartSeat.{StartSeat}
-use Rattle.floor_events.specs.declared.answer.Answer.TheVariants.{Ok}
-use Rattle.floor_events.specs.declared.event.Event.TheVariants.{Enter, Begin, Break}
+use Rattle.tournament_events.specs.declared.answer.Answer.TheVariants.{Ok}
+use Rattle.tournament_events.specs.declared.event.Event.TheVariants.{Enter, Begin, Break}
 use Rattle.tournament_rules.specs.Books.{BookState, has_table, start_at, starters_of}
 use Rattle.tournament_rules.specs.Players.{is_among, start_seat}
 use Rattle.tournament_rules.specs.Checks.{may_be_entered}

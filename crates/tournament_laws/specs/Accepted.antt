@@ -1,7 +1,7 @@
 -- Which events of a list are accepted where they stand. This project's own.
 use Rattle.std.specs.Prelude.{ℕ, ◌+◌, Bool, false, ◌&&◌, ◌||◌, if◌then◌else◌, List, [], ◌∷◌}
 use Rattle.std.specs.List.{list_all}
-use Rattle.floor_events.specs.declared.event.Event.{Event}
+use Rattle.tournament_events.specs.declared.event.Event.{Event}
 use Rattle.tournament_rules.specs.States.{State, answer_to, answers, is_accepted, state_after}
 
 -- whether some event of a list that passes a test is accepted where it stands

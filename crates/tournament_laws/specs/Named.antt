@@ -1,7 +1,7 @@
 -- Whom an event names. This project's own.
 use Rattle.std.specs.Prelude.{ℕ, List, [], ◌∷◌}
-use Rattle.floor_events.specs.declared.event.Event.{Event}
-use Rattle.floor_events.specs.declared.event.Event.TheVariants.{Act, Break}
+use Rattle.tournament_events.specs.declared.event.Event.{Event}
+use Rattle.tournament_events.specs.declared.event.Event.TheVariants.{Act, Break}
 
 -- The names of the players that an event moves or lets act: of an act that of its player, of a break those of the
 -- table's players.

@@ -1,8 +1,8 @@
 -- When two lists of events have one order: the same events of the book in order, and at each table the same begins,
 -- acts, called times and settles in order. So each hand that begins has the same acts in order. This project's own.
 use Rattle.std.specs.Prelude.{◌≡◌, ℕ, Bool, true, false, ◌==◌, not, List, filter}
-use Rattle.floor_events.specs.declared.event.Event.{Event}
-use Rattle.floor_events.specs.declared.event.Event.TheVariants as events
+use Rattle.tournament_events.specs.declared.event.Event.{Event}
+use Rattle.tournament_events.specs.declared.event.Event.TheVariants as events
 use Rattle.tournament_rules.specs.Kinds.{kind_of, is_played}
 
 -- whether an event is one of the book: all are but acts of players and called times

@@ -9,7 +9,7 @@ ghost use Rattle.place_list.specs.declared.bust.Bust.{Bust};
 ghost use Rattle.place_list.specs.Places.{place_of};
 ghost use Rattle.place_list.specs.Prizes.{pool_of};
 ghost use Rattle.seat_book.specs.Players.{is_numbered};
-ghost use Rattle.floor_events.specs.declared.event.Event.{Event};
+ghost use Rattle.tournament_events.specs.declared.event.Event.{Event};
 ghost use Rattle.tournament_rules.specs.Checks.{is_over_for_all, is_late};
 ghost use Rattle.tournament_rules.specs.Valid.{is_bust_of};
 ghost use Rattle.tournament_rules.specs.States.{first_state, run};

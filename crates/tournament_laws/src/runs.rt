@@ -3,9 +3,9 @@
 ghost use Rattle.std.specs.Prelude.{ℕ, ◌≡◌, List, [], ◌∷◌, true, false, Some, None, ◌≢◌};
 ghost use Rattle.level_plan.specs.Plans.{PlanTerms, is_right};
 ghost use Rattle.level_plan.specs.Drafts.{plan_of};
-ghost use Rattle.floor_events.specs.declared.event.Event.{Event};
-ghost use Rattle.floor_events.specs.declared.event.Event.TheVariants.{Go, Stop};
-ghost use Rattle.floor_events.specs.declared.answer.Answer.TheVariants.{Ok};
+ghost use Rattle.tournament_events.specs.declared.event.Event.{Event};
+ghost use Rattle.tournament_events.specs.declared.event.Event.TheVariants.{Go, Stop};
+ghost use Rattle.tournament_events.specs.declared.answer.Answer.TheVariants.{Ok};
 ghost use Rattle.tournament_rules.specs.States.{first_state, first_play, act_table, answer_to, answers, answers_in_play, run_in_play, state_after, run, State};
 ghost use Rattle.tournament_rules.specs.Report.{book_report, report_of};
 ghost use Rattle.tournament_rules.specs.Apart.{first_apart, answers_apart, run_apart, seen_of};

@@ -3,12 +3,12 @@
 ghost use Rattle.std.specs.Prelude.{◌≡◌, ◌++◌, true, List, Option, map};
 ghost use Rattle.std.specs.List.{flat_map, AllByRecursion};
 ghost use Rattle.floor_text.specs.Lines.{lines_of_bytes};
-ghost use Rattle.floor_events.specs.declared.answer.Answer.TheVariants.{Ok};
-ghost use Rattle.floor_events.specs.declared.event.Event.{Event};
-ghost use Rattle.floor_events.specs.declared.event.Item.{Item};
+ghost use Rattle.tournament_events.specs.declared.answer.Answer.TheVariants.{Ok};
+ghost use Rattle.tournament_events.specs.declared.event.Event.{Event};
+ghost use Rattle.tournament_events.specs.declared.event.Item.{Item};
 ghost use Rattle.floor_events.specs.Spelling.{answer_text, IsWritable};
 ghost use Rattle.tournament_rules.specs.States.{first_state, run, answers};
-ghost use Rattle.tournament_rules.specs.Replay.{answers_to_items, state_after_items, events_of, item_of_event, final_text, replay_text, tournament_text};
+ghost use Rattle.replay_rules.specs.Replay.{answers_to_items, state_after_items, events_of, item_of_event, final_text, replay_text, tournament_text};
 ghost use Rattle.tournament_laws.specs.Accepted.{are_accepted};
 
 /// Says that the lines of a stream leave the state that the run of their events leaves, so the laws of runs hold of

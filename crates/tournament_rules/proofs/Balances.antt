@@ -22,7 +22,7 @@ use Rattle.balance_rule.specs.Balance.{next_big_seat, next_big_player, move_to, 
 use Rattle.balance_rule.proofs.FreeSeats.{worst-empty, empty-nobody}
 use Rattle.balance_rule.proofs.Movers.{found-numbered, found-place}
 use Rattle.break_draw.proofs.Chosen.{place-within}
-use Rattle.floor_events.specs.declared.event.Event.TheVariants.{Balance}
+use Rattle.tournament_events.specs.declared.event.Event.TheVariants.{Balance}
 use Rattle.tournament_rules.specs.Books.{BookState, has_table}
 use Rattle.tournament_rules.specs.Checks.{book_checks, book_refusal, is_table_open, is_playing}
 use Rattle.tournament_rules.specs.Effects.{balanced}

@@ -34,7 +34,7 @@ use Rattle.hand_rounds.specs.Rounds.{has_begun}
 use Rattle.table_engine.specs.declared.start.HandStart.{HandStart}
 use Rattle.table_engine.specs.declared.start.StartSeat.{StartSeat}
 use Rattle.table_engine.specs.Starts.{chips_of, have_playable_stacks, IsLawfulStart}
-use Rattle.floor_events.specs.declared.event.Event.TheVariants.{Begin}
+use Rattle.tournament_events.specs.declared.event.Event.TheVariants.{Begin}
 use Rattle.tournament_rules.specs.Books.{BookState, has_table, start_at, starters_of, blind_now}
 use Rattle.tournament_rules.specs.Players.{start_seat, is_dealt_in, dealt_seats, dealt_in}
 use Rattle.tournament_rules.specs.Checks.{book_checks, book_refusal, deck_checks, due_checks, going_checks, is_playing, table_checks}

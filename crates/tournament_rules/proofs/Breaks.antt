@@ -31,7 +31,7 @@ use Rattle.break_draw.proofs.Chosen.{chosen-places}
 use Rattle.break_draw.proofs.FillLaws.{chosen-empty, chosen-apart}
 use Rattle.level_plan.specs.Items.{is_between}
 use Rattle.level_plan.specs.Plans.{unit_of_level}
-use Rattle.floor_events.specs.declared.event.Event.TheVariants.{Break}
+use Rattle.tournament_events.specs.declared.event.Event.TheVariants.{Break}
 use Rattle.tournament_rules.specs.Books.{BookState, has_table, start_at}
 use Rattle.tournament_rules.specs.Checks.{book_checks, book_refusal, is_table_open, is_playing}
 use Rattle.tournament_rules.specs.Effects.{with_table, forgotten, broken}

@@ -17,7 +17,7 @@ use Rattle.level_plan.specs.Limits.{greatest_amount, most_shares, whole_pool}
 use Rattle.level_plan.specs.Plans.{PlanTerms, is_right, unit_of_level}
 use Rattle.entry_list.specs.Entries.{is_known}
 use Rattle.entry_list.proofs.Added.{names-added}
-use Rattle.floor_events.specs.declared.event.Event.TheVariants.{Enter}
+use Rattle.tournament_events.specs.declared.event.Event.TheVariants.{Enter}
 use Rattle.level_plan.proofs.Levels.{unit_of_level_above}
 use Rattle.seat_book.specs.declared.seated.Seated.{Seated}
 use Rattle.seat_book.specs.declared.table_status.TableStatus.{TableStatus}

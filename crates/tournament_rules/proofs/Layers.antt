@@ -6,7 +6,7 @@ use Rattle.std.proofs.Math.ListN.{get_or-map as get_or-map_all}
 use Rattle.std.proofs.Math.Seq.{map-set_same}
 use Rattle.std.proofs.lemmas.List.{map-set, length-map}
 use Rattle.table_engine.specs.Hands.{HandTerms}
-use Rattle.floor_events.specs.declared.event.Event.{Event}
+use Rattle.tournament_events.specs.declared.event.Event.{Event}
 use Rattle.tournament_rules.specs.Books.{BookState, start_at}
 use Rattle.tournament_rules.specs.States.{acts_at, hand_at, hand_table, hand_about}
 use Rattle.tournament_rules.specs.Apart.{hand_in, hand_for, start_of, acts_of, seen_of}

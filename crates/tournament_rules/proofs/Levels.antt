@@ -19,7 +19,7 @@ use Rattle.seat_book.specs.Players.{sits_at}
 use Rattle.seat_book.specs.Counts.{count_at, is_open}
 use Rattle.seat_book.specs.Tables.{fresh_status, status_at, IsStatusOf}
 use Rattle.seat_book.specs.Seatings.{Seating}
-use Rattle.floor_events.specs.declared.event.Event.TheVariants.{Level}
+use Rattle.tournament_events.specs.declared.event.Event.TheVariants.{Level}
 use Rattle.tournament_rules.specs.Books.{BookState}
 use Rattle.tournament_rules.specs.Checks.{book_checks, book_refusal}
 use Rattle.tournament_rules.specs.Effects.{leveled}

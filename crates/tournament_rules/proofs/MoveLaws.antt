@@ -31,8 +31,8 @@ use Rattle.balance_rule.proofs.Balances.{checked-lawful}
 use Rattle.balance_rule.proofs.Extremes.{among-tables}
 use Rattle.balance_rule.proofs.FreeSeats.{walk-free, first-alike, empty-untaken, empty-apart}
 use Rattle.balance_rule.proofs.Movers.{taken-player, carried-is}
-use Rattle.floor_events.specs.declared.answer.Answer.TheVariants.{Ok}
-use Rattle.floor_events.specs.declared.event.Event.{Event}
+use Rattle.tournament_events.specs.declared.answer.Answer.TheVariants.{Ok}
+use Rattle.tournament_events.specs.declared.event.Event.{Event}
 use Rattle.tournament_rules.specs.Books.{BookState, has_table}
 use Rattle.tournament_rules.specs.Checks.{is_table_open, is_playing}
 use Rattle.tournament_rules.specs.States.{State, PlayState, refusal_of, answered, answer_to, is_accepted, play_effect, state_after}

@@ -13,8 +13,8 @@ use Rattle.rulebook.specs.Limits.{most_entries}
 use Rattle.level_plan.specs.declared.line.PlanLine.{PlanLine}
 use Rattle.betting_round.specs.declared.act.Act.{Act}
 use Rattle.table_engine.specs.Hands.{HandTerms, is_over}
-use Rattle.floor_events.specs.declared.event.Event.{Event}
-use Rattle.floor_events.specs.declared.event.Event.TheVariants.{Plan, Go, Enter, Act as Acts, Time, Settle}
+use Rattle.tournament_events.specs.declared.event.Event.{Event}
+use Rattle.tournament_events.specs.declared.event.Event.TheVariants.{Plan, Go, Enter, Act as Acts, Time, Settle}
 use Rattle.tournament_rules.specs.Books.{BookState, has_table, has_seat_number}
 use Rattle.tournament_rules.specs.Checks.{book_checks, hand_checks, before_hand_checks, end_checks, book_refusal, is_not_fewest, is_late, is_playing}
 use Rattle.tournament_rules.specs.States.{PlayState, hand_about, refusal_of}

@@ -33,7 +33,7 @@ use Rattle.balance_rule.proofs.Movers.{found-place}
 use Rattle.level_plan.specs.Items.{is_between, is_next_unit}
 use Rattle.level_plan.specs.Plans.{unit_of_level}
 use Rattle.level_plan.proofs.Levels.{unit_of_level_above}
-use Rattle.floor_events.specs.declared.event.Event.TheVariants.{Race}
+use Rattle.tournament_events.specs.declared.event.Event.TheVariants.{Race}
 use Rattle.tournament_rules.specs.Books.{BookState, has_table, start_at}
 use Rattle.tournament_rules.specs.Checks.{book_checks, book_refusal, is_table_open, is_playing}
 use Rattle.tournament_rules.specs.Effects.{raced}

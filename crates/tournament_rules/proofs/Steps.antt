@@ -5,9 +5,9 @@ use Rattle.std.specs.Option.{option_map_or, ForSome}
 use Rattle.floor_text.specs.declared.refusal.Refusal.{Refusal}
 use Rattle.level_plan.specs.declared.line.PlanItem.{PlanItem}
 use Rattle.level_plan.specs.Drafts.{Draft, item_of_line, is_wrong_line, go_fault, plan_of, IsLawful}
-use Rattle.floor_events.specs.declared.answer.Answer.TheVariants.{Ok, PlanWrong}
-use Rattle.floor_events.specs.declared.event.Event.{Event}
-use Rattle.floor_events.specs.declared.event.Event.TheVariants as events
+use Rattle.tournament_events.specs.declared.answer.Answer.TheVariants.{Ok, PlanWrong}
+use Rattle.tournament_events.specs.declared.event.Event.{Event}
+use Rattle.tournament_events.specs.declared.event.Event.TheVariants as events
 use Rattle.table_engine.specs.Hands.{HandTerms}
 use Rattle.tournament_rules.specs.Effects.{settled}
 use Rattle.tournament_rules.specs.States.{State, PlayState, first_state, first_play, hand_at, refusal_of, answered, answer_to, play_effect, accepted, is_accepted, state_after, run}

@@ -20,8 +20,8 @@ use Rattle.break_draw.specs.Draws.{is_draw}
 use Rattle.hand_rounds.specs.Rounds.{begin_checks as turn_checks, round_checks as close_checks, switch_checks}
 use Rattle.table_engine.specs.Hands.{HandTerms, is_over}
 use Rattle.table_engine.specs.Acts.{act_checks, time_checks}
-use Rattle.floor_events.specs.declared.event.Event.{Event}
-use Rattle.floor_events.specs.declared.event.Event.TheVariants as events
+use Rattle.tournament_events.specs.declared.event.Event.{Event}
+use Rattle.tournament_events.specs.declared.event.Event.TheVariants as events
 use Rattle.tournament_rules.specs.Books.{BookState, has_table, has_seat_number}
 
 -- a refusal, and whether its check holds

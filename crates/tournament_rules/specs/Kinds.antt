@@ -1,7 +1,7 @@
 -- What kind an event is of: each event is named once. This project's own.
 use Rattle.std.specs.Prelude.{Bool, true, false, not}
-use Rattle.floor_events.specs.declared.event.Event.{Event}
-use Rattle.floor_events.specs.declared.event.Event.TheVariants as events
+use Rattle.tournament_events.specs.declared.event.Event.{Event}
+use Rattle.tournament_events.specs.declared.event.Event.TheVariants as events
 
 -- The kinds of events: the plan is given, the book alone is asked, a hand begins, is played or is settled, or the
 -- tournament is stopped.

@@ -9,7 +9,6 @@ pub mod States
 pub mod Kinds
 pub mod Chips
 pub mod Report
-pub mod Replay
 pub mod Units
 pub mod Valid
 pub mod Apart

@@ -1,9 +1,9 @@
 -- What is reported of a state. This project's own.
 use Rattle.std.specs.Prelude.{ℕ, [], length, map, slice_get, slice_index_or, Some, None, Option, option_map, List, if◌then◌else◌}
 use Rattle.std.specs.Option.{option_map_or}
-use Rattle.floor_events.specs.declared.report.Report.{Report}
-use Rattle.floor_events.specs.declared.report.ReportSeat.{ReportSeat}
-use Rattle.floor_events.specs.declared.report.ReportOut.{ReportOut}
+use Rattle.tournament_events.specs.declared.report.Report.{Report}
+use Rattle.tournament_events.specs.declared.report.ReportSeat.{ReportSeat}
+use Rattle.tournament_events.specs.declared.report.ReportOut.{ReportOut}
 use Rattle.place_list.specs.declared.standing.Standing.{Standing}
 use Rattle.place_list.specs.Standings.{standings_of}
 use Rattle.seat_book.specs.declared.seated.Seated.{Seated}

@@ -1,7 +1,7 @@
 //! What holds of a tournament at every moment.
 
 ghost use Rattle.std.specs.Prelude.{List};
-ghost use Rattle.floor_events.specs.declared.event.Event.{Event};
+ghost use Rattle.tournament_events.specs.declared.event.Event.{Event};
 ghost use Rattle.tournament_rules.specs.States.{first_state, run};
 ghost use Rattle.tournament_rules.specs.Valid.{IsValidState};
 

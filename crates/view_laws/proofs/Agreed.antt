@@ -8,8 +8,8 @@ use Rattle.card_set.specs.declared.card.Card.{Card}
 use Rattle.card_set.specs.declared.card.CardRow.{CardRow}
 use Rattle.table_engine.specs.Deals.{two_of_clubs}
 use Rattle.table_engine.specs.Hands.{HandTerms}
-use Rattle.floor_events.specs.declared.event.Event.{Event}
-use Rattle.floor_events.specs.declared.event.Event.TheVariants as events
+use Rattle.tournament_events.specs.declared.event.Event.{Event}
+use Rattle.tournament_events.specs.declared.event.Event.TheVariants as events
 use Rattle.tournament_rules.specs.Report.{book_report, report_of, empty_report}
 use Rattle.tournament_rules.specs.States.{State, PlayState, first_state, hand_at, answers, is_accepted, state_after, run}
 use Rattle.tournament_rules.specs.Valid.{IsValidState}

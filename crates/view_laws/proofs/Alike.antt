@@ -10,8 +10,8 @@ use Rattle.card_set.specs.declared.card.CardRow.{CardRow}
 use Rattle.card_set.specs.Decks.{repeats_a_card}
 use Rattle.level_plan.specs.Drafts.{Draft}
 use Rattle.table_engine.specs.Hands.{HandTerms, is_over}
-use Rattle.floor_events.specs.declared.event.Event.{Event}
-use Rattle.floor_events.specs.declared.event.Event.TheVariants as events
+use Rattle.tournament_events.specs.declared.event.Event.{Event}
+use Rattle.tournament_events.specs.declared.event.Event.TheVariants as events
 use Rattle.tournament_rules.specs.Books.{BookState}
 use Rattle.tournament_rules.specs.Checks.{book_refusal, going_checks, table_checks, due_checks, deck_checks}
 use Rattle.tournament_rules.specs.Effects.{settled}

@@ -12,8 +12,8 @@ use Rattle.table_engine.specs.declared.record.ActOf.{ActOf}
 use Rattle.table_engine.specs.Deals.{card_at}
 use Rattle.table_engine.specs.Hands.{HandTerms, player_of, posted}
 use Rattle.table_engine.specs.Acts.{time_act}
-use Rattle.floor_events.specs.declared.event.Event.{Event}
-use Rattle.floor_events.specs.declared.event.Event.TheVariants as events
+use Rattle.tournament_events.specs.declared.event.Event.{Event}
+use Rattle.tournament_events.specs.declared.event.Event.TheVariants as events
 use Rattle.tournament_rules.specs.States.{State, answer_to, is_accepted, state_after}
 use Rattle.view_rules.specs.declared.entries.StackLine.{StackLine}
 use Rattle.view_rules.specs.Shown.{Viewer, own_places, open_streets, tabled_players, hole_places, street_places, places_shown}

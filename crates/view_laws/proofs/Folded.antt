@@ -14,7 +14,7 @@ use Rattle.table_engine.specs.declared.start.StartSeat.{StartSeat}
 use Rattle.table_engine.specs.Deals.{card_at, two_of_clubs}
 use Rattle.table_engine.specs.Hands.{HandTerms, player_of, street_of}
 use Rattle.table_engine.specs.Starts.{IsLawfulStart}
-use Rattle.floor_events.specs.declared.event.Event.{Event}
+use Rattle.tournament_events.specs.declared.event.Event.{Event}
 use Rattle.tournament_rules.specs.States.{State, first_state, state_after, run}
 use Rattle.tournament_rules.specs.Valid.{IsValidState}
 use Rattle.tournament_rules.proofs.Steps.{valid_state_after, valid_events}

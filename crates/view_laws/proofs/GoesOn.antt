@@ -17,8 +17,8 @@ use Rattle.table_engine.specs.Plays.{IsLawfulPlay}
 use Rattle.table_engine.specs.Starts.{IsLawfulStart}
 use Rattle.table_engine.proofs.Plays.{lawful_play-each}
 use Rattle.table_engine.proofs.TurnLaws.{lawful_play-time}
-use Rattle.floor_events.specs.declared.event.Event.{Event}
-use Rattle.floor_events.specs.declared.event.Event.TheVariants as events
+use Rattle.tournament_events.specs.declared.event.Event.{Event}
+use Rattle.tournament_events.specs.declared.event.Event.TheVariants as events
 use Rattle.tournament_rules.specs.Books.{start_at}
 use Rattle.tournament_rules.specs.Dealing.{next_start}
 use Rattle.tournament_rules.specs.Effects.{settled}

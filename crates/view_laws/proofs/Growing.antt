@@ -15,7 +15,7 @@ use Rattle.table_engine.specs.Hands.{HandTerms, StreetPlayed, Streets, due_in_ha
 use Rattle.table_engine.specs.Results.{is_won_by_folds}
 use Rattle.table_engine.proofs.Refusals.{refused-in_seat, refused-without_seat}
 use Rattle.table_engine.proofs.Running.{streets-more}
-use Rattle.floor_events.specs.declared.event.Event.{Event}
+use Rattle.tournament_events.specs.declared.event.Event.{Event}
 use Rattle.tournament_rules.specs.States.{State, first_state, state_after, run}
 use Rattle.tournament_rules.specs.Valid.{IsValidState}
 use Rattle.tournament_rules.proofs.Steps.{valid_state_after, valid_events}

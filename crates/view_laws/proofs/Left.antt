@@ -5,7 +5,7 @@ use Rattle.std.specs.Option.{ForSome}
 use Rattle.std.proofs.lemmas.Option.{same_Some}
 use Rattle.table_engine.specs.Hands.{HandTerms}
 use Rattle.table_engine.specs.Starts.{IsLawfulStart}
-use Rattle.floor_events.specs.declared.event.Event.{Event}
+use Rattle.tournament_events.specs.declared.event.Event.{Event}
 use Rattle.tournament_rules.specs.States.{State, PlayState, hand_at, state_after}
 use Rattle.tournament_rules.specs.Valid.{IsValidPlay, IsValidState}
 use Rattle.tournament_rules.proofs.Acting.{started_at}

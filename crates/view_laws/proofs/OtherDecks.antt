@@ -9,9 +9,9 @@ use Rattle.card_set.specs.declared.card.CardRow.{CardRow}
 use Rattle.card_set.specs.Decks.{IsDeck}
 use Rattle.card_set.proofs.DeckLaws.{repeats_none-from_AllPairs}
 use Rattle.table_engine.specs.Deals.{two_of_clubs}
-use Rattle.floor_events.specs.declared.answer.Answer.TheVariants.{Ok}
-use Rattle.floor_events.specs.declared.event.Event.{Event}
-use Rattle.floor_events.specs.declared.event.Event.TheVariants.{Begin}
+use Rattle.tournament_events.specs.declared.answer.Answer.TheVariants.{Ok}
+use Rattle.tournament_events.specs.declared.event.Event.{Event}
+use Rattle.tournament_events.specs.declared.event.Event.TheVariants.{Begin}
 use Rattle.tournament_rules.specs.Report.{report_of}
 use Rattle.tournament_rules.specs.States.{State, PlayState, first_state, refusal_of, answer_to, answers, is_accepted, state_after, run}
 use Rattle.tournament_rules.specs.Valid.{IsValidPlay, IsValidState}

@@ -9,8 +9,8 @@ use Rattle.table_engine.specs.declared.start.StartSeat.{StartSeat}
 use Rattle.table_engine.specs.declared.record.ActOf.{ActOf}
 use Rattle.table_engine.specs.Hands.{HandTerms, player_of, posted}
 use Rattle.table_engine.specs.Acts.{done_of_act, time_act}
-use Rattle.floor_events.specs.declared.event.Event.{Event}
-use Rattle.floor_events.specs.declared.event.Event.TheVariants as events
+use Rattle.tournament_events.specs.declared.event.Event.{Event}
+use Rattle.tournament_events.specs.declared.event.Event.TheVariants as events
 use Rattle.tournament_rules.specs.States.{State, first_state, answer_to, is_accepted, state_after}
 use Rattle.view_rules.specs.Shown.{Viewer}
 use Rattle.view_rules.specs.Seen.{SeenHand, SeenState, seen_hand, seen_by, seen_event, hand_in}

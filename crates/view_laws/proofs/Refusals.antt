@@ -8,8 +8,8 @@ use Rattle.floor_text.specs.declared.refusal.Refusal.TheVariants.{HandOver, NotO
 use Rattle.table_engine.specs.declared.start.HandStart.{HandStart}
 use Rattle.table_engine.specs.Hands.{HandTerms}
 use Rattle.table_engine.proofs.NoCards.{refusal-deck}
-use Rattle.floor_events.specs.declared.event.Event.{Event}
-use Rattle.floor_events.specs.declared.event.Event.TheVariants as events
+use Rattle.tournament_events.specs.declared.event.Event.{Event}
+use Rattle.tournament_events.specs.declared.event.Event.TheVariants as events
 use Rattle.tournament_rules.specs.Books.{BookState, start_at}
 use Rattle.tournament_rules.specs.Checks.{book_refusal}
 use Rattle.tournament_rules.specs.States.{PlayState, acts_at, hand_at, hand_table, hand_about, refusal_of}

@@ -6,7 +6,7 @@ use Rattle.seat_book.specs.declared.seated.Seated.{Seated}
 use Rattle.table_engine.specs.declared.start.HandStart.{HandStart}
 use Rattle.table_engine.specs.declared.start.StartSeat.{StartSeat}
 use Rattle.table_engine.specs.Starts.{chips_of}
-use Rattle.floor_events.specs.declared.report.ReportSeat.{ReportSeat}
+use Rattle.tournament_events.specs.declared.report.ReportSeat.{ReportSeat}
 use Rattle.tournament_rules.specs.Books.{BookState, start_at, starters_of}
 use Rattle.tournament_rules.specs.Chips.{play_of}
 use Rattle.tournament_rules.specs.Players.{is_in_hand, is_one_of}

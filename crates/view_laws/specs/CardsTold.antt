@@ -3,8 +3,8 @@ use Rattle.std.specs.Prelude.{ℕ, ◌==◌, Bool, true, List, [], filter}
 use Rattle.std.specs.List.{flat_map}
 use Rattle.std.specs.Option.{option_map_or}
 use Rattle.card_set.specs.declared.card.Card.{Card}
-use Rattle.floor_events.specs.declared.event.Event.{Event}
-use Rattle.floor_events.specs.declared.event.Event.TheVariants.{Begin, Race}
+use Rattle.tournament_events.specs.declared.event.Event.{Event}
+use Rattle.tournament_events.specs.declared.event.Event.TheVariants.{Begin, Race}
 use Rattle.table_engine.specs.Hands.{HandTerms}
 use Rattle.tournament_rules.specs.States.{State, first_state, run}
 use Rattle.view_rules.specs.Shown.{Viewer, places_shown}

@@ -22,11 +22,11 @@ use Rattle.table_engine.specs.Hands.{streets_after}
 use Rattle.table_engine.specs.Results.{puts_in_hand, live_in_hand, showdown_awards}
 use Rattle.line_words.specs.Fields.{next_by, last_by, act_of}
 use Rattle.line_words.specs.Rows.{read_fields}
-use Rattle.floor_events.specs.declared.event.Event.{Event}
+use Rattle.tournament_events.specs.declared.event.Event.{Event}
 use Rattle.floor_events.specs.Grammar.{item_of_words, item_of_bytes}
 use Rattle.floor_events.specs.Spelling.{event_text}
 use Rattle.tournament_rules.specs.Checks.{book_refusal}
-use Rattle.tournament_rules.specs.Replay.{events_of, items_of_bytes}
+use Rattle.replay_rules.specs.Replay.{events_of, items_of_bytes}
 use Rattle.tournament_rules.specs.States.{first_state, refusal_of, run}
 use Rattle.view_rules.specs.Agreeing.{places_shown_in}
 use Rattle.view_rules.specs.Lines.{floor_lines, following_lines, opening_lines, act_lines, lines_of_event}

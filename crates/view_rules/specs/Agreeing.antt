@@ -7,8 +7,8 @@ use Rattle.card_set.specs.declared.card.CardRow.{CardRow}
 use Rattle.card_set.specs.Decks.{repeats_a_card}
 use Rattle.table_engine.specs.Deals.{two_of_clubs}
 use Rattle.table_engine.specs.Hands.{HandTerms}
-use Rattle.floor_events.specs.declared.event.Event.{Event}
-use Rattle.floor_events.specs.declared.event.Event.TheVariants as events
+use Rattle.tournament_events.specs.declared.event.Event.{Event}
+use Rattle.tournament_events.specs.declared.event.Event.TheVariants as events
 use Rattle.tournament_rules.specs.States.{State, first_state, answer_to, is_accepted, state_after}
 use Rattle.view_rules.specs.Shown.{Viewer, places_shown}
 use Rattle.view_rules.specs.Seen.{hand_in}

@@ -10,8 +10,8 @@ use Rattle.table_engine.specs.declared.record.ActOf.{ActOf}
 use Rattle.table_engine.specs.Hands.{HandTerms, player_of, posted}
 use Rattle.table_engine.specs.Acts.{done_of_act, time_act}
 use Rattle.card_set.specs.declared.card.Card.{Card}
-use Rattle.floor_events.specs.declared.event.Event.{Event}
-use Rattle.floor_events.specs.declared.event.Event.TheVariants as events
+use Rattle.tournament_events.specs.declared.event.Event.{Event}
+use Rattle.tournament_events.specs.declared.event.Event.TheVariants as events
 use Rattle.tournament_rules.specs.States.{players_of}
 use Rattle.view_rules.specs.declared.entries.StackLine.{StackLine}
 use Rattle.view_rules.specs.Seen.{SeenHand, SeenState}

@@ -7,8 +7,8 @@ use Rattle.table_engine.specs.declared.start.StartSeat.{StartSeat}
 use Rattle.table_engine.specs.Deals.{card_at, two_of_clubs}
 use Rattle.table_engine.specs.Hands.{HandTerms, is_over}
 use Rattle.table_engine.specs.Results.{award, players_after}
-use Rattle.floor_events.specs.declared.event.Event.{Event}
-use Rattle.floor_events.specs.declared.event.Event.TheVariants as events
+use Rattle.tournament_events.specs.declared.event.Event.{Event}
+use Rattle.tournament_events.specs.declared.event.Event.TheVariants as events
 use Rattle.tournament_rules.specs.Books.{BookState}
 use Rattle.tournament_rules.specs.States.{State, PlayState, hand_at}
 use Rattle.view_rules.specs.Shown.{Viewer, BoardStreet, hole_places, own_places, street_places, open_streets, players_clockwise, tabled_players}

@@ -9,8 +9,8 @@ use Rattle.betting_round.specs.declared.act.Done.{Done}
 use Rattle.betting_round.specs.declared.act.Done.TheVariants.{Folded, Checked, Called, BetTo, RaisedTo}
 use Rattle.table_engine.specs.declared.start.StartSeat.{StartSeat}
 use Rattle.line_words.specs.Words.{line_of_words}
-use Rattle.floor_events.specs.declared.event.Event.{Event}
-use Rattle.tournament_rules.specs.Replay.{event_line}
+use Rattle.tournament_events.specs.declared.event.Event.{Event}
+use Rattle.replay_rules.specs.Replay.{event_line}
 use Rattle.view_rules.specs.declared.entries.StackLine.{StackLine}
 use Rattle.view_rules.specs.Shown.{BoardStreet, Flop, Turn, River}
 use Rattle.view_rules.specs.Seen.{OpenStreet, Tabled, Won}

@@ -1,8 +1,8 @@
 -- What a player is told of a list of events. This project's own.
 use Rattle.std.specs.Prelude.{ℕ, List, [], ◌∷◌, ◌++◌, Some, if◌then◌else◌}
-use Rattle.floor_events.specs.declared.event.Event.{Event}
+use Rattle.tournament_events.specs.declared.event.Event.{Event}
 use Rattle.tournament_rules.specs.States.{State, first_state, answer_to, is_accepted, state_after}
-use Rattle.tournament_rules.specs.Replay.{events_of, items_of_bytes}
+use Rattle.replay_rules.specs.Replay.{events_of, items_of_bytes}
 use Rattle.view_rules.specs.Shown.{Viewer}
 use Rattle.view_rules.specs.Seen.{SeenState, seen_by, seen_event}
 use Rattle.view_rules.specs.Spelling.{ViewLine, lines_text}

@@ -1,9 +1,9 @@
 //! What is told of the floor and of a table, entry by entry.
 
-use floor_events::Event;
 use floor_text::{List, Name};
 use seat_book::Place;
 use table_engine::{ActOf, HandStart};
+use tournament_events::Event;
 
 /// A player's stack, as it is told.
 #[derive(Clone, Copy)]

@@ -11,8 +11,8 @@ use Rattle.table_engine.specs.Hands.{HandTerms}
 use Rattle.table_engine.specs.Plays.{IsLawfulPlay}
 use Rattle.table_engine.proofs.Plays.{lawful_play-each}
 use Rattle.table_engine.proofs.TurnLaws.{time-again, time-free_again}
-use Rattle.floor_events.specs.declared.event.Event.{Event}
-use Rattle.floor_events.specs.declared.event.Event.TheVariants as events
+use Rattle.tournament_events.specs.declared.event.Event.{Event}
+use Rattle.tournament_events.specs.declared.event.Event.TheVariants as events
 use Rattle.tournament_rules.specs.Books.{start_at}
 use Rattle.tournament_rules.specs.States.{State, PlayState, acts_at, hand_at, play_effect, refusal_of, run, state_after}
 use Rattle.tournament_rules.specs.Valid.{IsValidPlay, IsValidState}

@@ -6,8 +6,8 @@ use Rattle.std.proofs.lemmas.Bool.{and_parts}
 use Rattle.level_plan.specs.declared.line.PlanLine.{PlanLine}
 use Rattle.level_plan.specs.Drafts.{Draft, plan_of}
 use Rattle.table_engine.specs.declared.record.ActOf.{ActOf}
-use Rattle.floor_events.specs.declared.event.Event.{Event}
-use Rattle.floor_events.specs.declared.event.Event.TheVariants as events
+use Rattle.tournament_events.specs.declared.event.Event.{Event}
+use Rattle.tournament_events.specs.declared.event.Event.TheVariants as events
 use Rattle.tournament_rules.specs.States.{State, PlayState, accepted, answer_to, answered, first_play, is_accepted, planning_answer, planning_effect, play_effect, refusal_of, state_after}
 use Rattle.dock_rules.specs.Journals.{act_event, acts_before, are_accepted}
 

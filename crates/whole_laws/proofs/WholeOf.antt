@@ -4,8 +4,8 @@ use Rattle.std.specs.Prelude.{Some, None}
 use Rattle.level_plan.specs.Drafts.{plan_of}
 use Rattle.rulebook.proofs.Repeats.{get_or-repeated}
 use Rattle.table_engine.specs.declared.record.ActOf.{ActOf}
-use Rattle.floor_events.specs.declared.event.Event.{Event}
-use Rattle.floor_events.specs.declared.event.Event.TheVariants as events
+use Rattle.tournament_events.specs.declared.event.Event.{Event}
+use Rattle.tournament_events.specs.declared.event.Event.TheVariants as events
 use Rattle.tournament_rules.specs.States.{State, PlayState, first_play, run, state_after}
 use Rattle.tournament_rules.proofs.Entries.{start_none}
 use Rattle.view_rules.specs.declared.entries.JournalEntry.{JournalEntry}

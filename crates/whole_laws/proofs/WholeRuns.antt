@@ -3,8 +3,8 @@ use Rattle.std.proofs.Common.{◌≡◌, ◌∙◌, refl, sym, ap, subst, ℕ, i
 use Rattle.std.specs.Prelude.{Option}
 use Rattle.std.specs.Option.{option_map_or}
 use Rattle.std.proofs.lemmas.Bool.{and_from}
-use Rattle.floor_events.specs.declared.event.Event.{Event}
-use Rattle.floor_events.specs.declared.report.Report.{Report}
+use Rattle.tournament_events.specs.declared.event.Event.{Event}
+use Rattle.tournament_events.specs.declared.report.Report.{Report}
 use Rattle.tournament_rules.specs.Report.{book_report, empty_report, report_of}
 use Rattle.tournament_rules.specs.States.{PlayState, State, first_state, run}
 use Rattle.tournament_rules.specs.Valid.{IsValidState}

@@ -1,7 +1,7 @@
 -- What stands between two hands of a table. This project's own.
 use Rattle.std.specs.Prelude.{ℕ, Bool, false, ◌==◌}
-use Rattle.floor_events.specs.declared.event.Event.{Event}
-use Rattle.floor_events.specs.declared.event.Event.TheVariants as events
+use Rattle.tournament_events.specs.declared.event.Event.{Event}
+use Rattle.tournament_events.specs.declared.event.Event.TheVariants as events
 
 -- whether an event settles the hand of a table
 abbrev pub settles_at : ℕ → Event → Bool

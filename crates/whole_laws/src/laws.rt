@@ -3,7 +3,7 @@
 ghost use Rattle.std.specs.Prelude.{◌≡◌, ◌++◌, ◌∷◌, ℕ, true, List};
 ghost use Rattle.std.specs.List.{list_any};
 ghost use Rattle.card_set.specs.declared.card.CardRow.{CardRow};
-ghost use Rattle.floor_events.specs.declared.event.Event.TheVariants.{Begin};
+ghost use Rattle.tournament_events.specs.declared.event.Event.TheVariants.{Begin};
 ghost use Rattle.view_rules.specs.declared.entries.JournalEntry.{JournalEntry};
 ghost use Rattle.dock_rules.specs.Journals.{tale_of};
 ghost use Rattle.dock_rules.specs.Whole.{TheWholeIsLegal};

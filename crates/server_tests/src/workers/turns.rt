@@ -13,7 +13,6 @@ use crate::shared::SEED;
 use betting_round::Done;
 use book_dock::{Ask, BookDock, BookEnd, BookPass};
 use break_draw::draw;
-use floor_events::Event;
 use floor_text::Refusal;
 use player_view::JournalEntry;
 use seat_book::Place;
@@ -23,6 +22,7 @@ use std::sync::Wait;
 use std::test::Fail;
 use table_dock::{TableDock, TableEnd, TablePass};
 use table_worker::{Turn, Worker};
+use tournament_events::Event;
 
 /// Two tables of six seats.
 const TWO: &str = "game = \"holdem\"\ntables = 2\nseats = 6\nstack = 1000\nbuyin = 100\nlate = 1\n\

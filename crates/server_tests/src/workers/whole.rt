@@ -2,12 +2,13 @@
 
 use crate::shared::check_replay;
 use book_dock::BookEnd;
-use floor_events::{Event, write_event, write_report};
+use floor_events::{write_event, write_report};
 use player_view::JournalEntry;
 use std::alloc::{AllocError, Global};
 use std::process::Abort;
 use table_dock::TableEnd;
 use table_engine::ActOf;
+use tournament_events::Event;
 use view_rules::TableEntry;
 
 /// Writes an event as a line.

@@ -1,7 +1,7 @@
 use Rattle.std.proofs.Common.{◌≡◌, ◌∙◌, ◌∷◌, ◌++◌, [], map}
 use Rattle.level_plan.specs.declared.line.PlanLine.{PlanLine}
 use Rattle.plan_files.specs.PlanLines.{lines_of_plan}
-use Rattle.floor_events.specs.declared.event.Event.TheVariants as events
+use Rattle.tournament_events.specs.declared.event.Event.TheVariants as events
 use Rattle.view_rules.specs.declared.entries.JournalEntry.{JournalEntry}
 use Rattle.history_lock.specs.Limits.{opener}
 use Rattle.dock_rules.specs.Journals.{plain_entry}

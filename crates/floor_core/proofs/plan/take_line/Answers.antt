@@ -2,7 +2,7 @@ use Rattle.std.proofs.Common.{◌≡◌, refl, subst, if◌then◌else◌, Bool,
 use Rattle.level_plan.specs.declared.line.PlanItem.{PlanItem}
 use Rattle.level_plan.specs.declared.line.PlanFault.{PlanFault}
 use Rattle.level_plan.specs.Drafts.{IsFault, is_wrong_line, item_of_line, line_fault}
-use Rattle.floor_events.specs.declared.answer.Answer.TheVariants as answers
+use Rattle.tournament_events.specs.declared.answer.Answer.TheVariants as answers
 use Rattle.floor_core.proofs.plan.take_line.Goals as goal
 
 -- A line that is wrong is answered with its item.

@@ -1,6 +1,6 @@
 use Rattle.std.proofs.Common.{◌≡◌, ◌∙◌, refl, sym, ap, subst, true, false, Some, None, Option}
 use Rattle.seat_book.specs.Seatings.{is_race_pending, is_round_open}
-use Rattle.floor_events.specs.declared.event.Event.{Event}
+use Rattle.tournament_events.specs.declared.event.Event.{Event}
 use Rattle.floor_director.specs.Orders.{first_order, owed_balance, owed_break}
 use Rattle.floor_director.specs.Owed.{IsNextOrder}
 use Rattle.floor_director.proofs.NextOrders.{IsBreakAnswer, balance-answer, break-answer, order-free, order-held}

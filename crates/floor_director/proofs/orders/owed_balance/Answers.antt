@@ -1,7 +1,7 @@
 use Rattle.std.proofs.Common.{◌∙◌, sym, true, false, Some}
 use Rattle.floor_text.specs.declared.refusal.Refusal.TheVariants.{NotFullest, NotShortest, EvenEnough}
 use Rattle.balance_rule.specs.Balance.{is_even_enough, is_not_fullest, is_not_shortest}
-use Rattle.floor_events.specs.declared.event.Event.TheVariants.{Balance}
+use Rattle.tournament_events.specs.declared.event.Event.TheVariants.{Balance}
 use Rattle.floor_director.proofs.NextOrders.{balance-between, balance-without_giver, balance-without_taker, giver-gives, last-free, last-held, moved-on, taker-takes}
 use Rattle.floor_director.proofs.orders.owed_balance.Goals as goal
 

@@ -6,7 +6,7 @@ use Rattle.balance_rule.specs.Filling.{empty_elsewhere, fill_seats}
 use Rattle.break_draw.specs.declared.random.DrawKind.TheVariants.{Names}
 use Rattle.break_draw.specs.Generator.{drawn_order}
 use Rattle.break_draw.proofs.FillRoom.{without_room-none}
-use Rattle.floor_events.specs.declared.event.Event.TheVariants.{Break}
+use Rattle.tournament_events.specs.declared.event.Event.TheVariants.{Break}
 use Rattle.floor_director.specs.Orders.{is_playing}
 use Rattle.floor_director.proofs.NextOrders.{break-drawn, break-playing, break-without_room, break-without_table}
 use Rattle.floor_director.proofs.orders.owed_break.Goals as goal

@@ -1,5 +1,5 @@
 use Rattle.std.proofs.Common.{◌≡◌, ◌∙◌, rules, Some}
-use Rattle.floor_events.specs.declared.event.Item.TheVariants as items
+use Rattle.tournament_events.specs.declared.event.Item.TheVariants as items
 use Rattle.floor_events.specs.Grammar.{item_of_words, item_of_bytes}
 use Rattle.floor_events.proofs.EventLaws.{found_there, only_there, line_again}
 use Rattle.floor_events.proofs.item_reader.read_item.Goals as goal

@@ -5,7 +5,7 @@ use Rattle.floor_text.specs.Reading.{Reading}
 use Rattle.command_lines.specs.declared.fault.Fault.TheVariants as faults
 use Rattle.floor_offline.specs.Handed.{item_of_next}
 use Rattle.floor_offline.specs.Promise.{IsTelling}
-use Rattle.tournament_rules.specs.Replay.{state_after_item}
+use Rattle.replay_rules.specs.Replay.{state_after_item}
 use Rattle.floor_offline.proofs.AtErrors.{no_ok}
 use Rattle.floor_offline.proofs.Promises.{fail_line, hold_line, holds_a_line, tell_line, told_front}
 use Rattle.floor_offline.proofs.Running.{err_so}

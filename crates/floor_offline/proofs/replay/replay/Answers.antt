@@ -1,7 +1,7 @@
 use Rattle.floor_offline.specs.Told.{answers_told}
 use Rattle.floor_offline.proofs.AnswersTold.{stream_answered}
 use Rattle.floor_offline.proofs.Running.{on_ok_from, text_is}
-use Rattle.tournament_rules.specs.Replay.{replay_text}
+use Rattle.replay_rules.specs.Replay.{replay_text}
 use Rattle.floor_offline.proofs.replay.replay.Goals as goal
 
 pub returns-clause-text : goal.returns-clause-text

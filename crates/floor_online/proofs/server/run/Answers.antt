@@ -1,6 +1,6 @@
 use Rattle.std.proofs.Common.{◌≡◌, ◌∙◌, ap, subst, inr, rules, Some, Err}
 use Rattle.std.specs.Prelude.{◌⊎◌}
-use Rattle.tournament_rules.specs.Replay.{tournament_text}
+use Rattle.replay_rules.specs.Replay.{tournament_text}
 use Rattle.dock_rules.specs.Journals.{expand}
 use Rattle.book_dock.specs.Ends.{journal_of}
 use Rattle.command_lines.specs.declared.fault.Fault.TheVariants as faults

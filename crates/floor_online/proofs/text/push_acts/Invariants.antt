@@ -1,6 +1,6 @@
 use Rattle.std.proofs.Common.{◌≡◌, ◌++◌, drop, map}
 use Rattle.std.specs.List.{flat_map}
-use Rattle.tournament_rules.specs.Replay.{event_line}
+use Rattle.replay_rules.specs.Replay.{event_line}
 use Rattle.dock_rules.specs.Journals.{act_event}
 use Rattle.floor_online.proofs.text.push_acts.Given as goal
 

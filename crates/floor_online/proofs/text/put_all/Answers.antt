@@ -1,6 +1,6 @@
 use Rattle.std.proofs.Common.{◌≡◌, ℕ, List, subst, rules}
 use Rattle.std.specs.List.{flat_map}
-use Rattle.tournament_rules.specs.Replay.{final_text, tournament_text}
+use Rattle.replay_rules.specs.Replay.{final_text, tournament_text}
 use Rattle.dock_rules.specs.Journals.{expand, tale_of}
 use Rattle.view_rules.specs.declared.entries.JournalEntry.{JournalEntry}
 use Rattle.book_dock.specs.Ends.{journal_of}

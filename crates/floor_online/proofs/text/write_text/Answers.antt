@@ -1,4 +1,4 @@
-use Rattle.tournament_rules.specs.Replay.{tournament_text}
+use Rattle.replay_rules.specs.Replay.{tournament_text}
 use Rattle.dock_rules.specs.Journals.{expand}
 use Rattle.book_dock.specs.Ends.{journal_of}
 use Rattle.command_lines.specs.declared.fault.Fault.TheVariants.{Write}

@@ -2,7 +2,7 @@ use Rattle.std.proofs.Common.{◌≡◌, ◌∙◌, sym, ap, ℕ, true, Option, 
 use Rattle.std.specs.Prelude.{is_none, if◌then◌else◌}
 use Rattle.std.specs.Result.{is_ok}
 use Rattle.floor_text.specs.declared.refusal.Refusal.{Refusal}
-use Rattle.floor_events.specs.declared.event.Event.TheVariants.{Begin}
+use Rattle.tournament_events.specs.declared.event.Event.TheVariants.{Begin}
 use Rattle.tournament_rules.specs.Checks.{book_refusal}
 use Rattle.simulation_rules.specs.declared.step.SimStep.TheVariants.{Take}
 use Rattle.simulation_rules.specs.Steps.{after_table, row_drawn}

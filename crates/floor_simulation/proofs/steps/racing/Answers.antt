@@ -1,7 +1,7 @@
 use Rattle.std.proofs.Common.{◌≡◌, ◌∙◌, sym, ap, Some}
 use Rattle.std.specs.Prelude.{find}
 use Rattle.seat_book.specs.Counts.{table_numbers}
-use Rattle.floor_events.specs.declared.event.Event.TheVariants.{Race}
+use Rattle.tournament_events.specs.declared.event.Event.TheVariants.{Race}
 use Rattle.tournament_rules.specs.Checks.{is_race_due}
 use Rattle.simulation_rules.specs.declared.step.SimStep.TheVariants.{Take}
 use Rattle.simulation_rules.specs.Steps.{racing}

@@ -1,5 +1,5 @@
 use Rattle.std.proofs.Common.{ap, length, List}
-use Rattle.floor_events.specs.declared.report.ReportSeat.{ReportSeat}
+use Rattle.tournament_events.specs.declared.report.ReportSeat.{ReportSeat}
 use Rattle.floor_simulation.proofs.TextTold.{told-so}
 use Rattle.floor_simulation.proofs.text.told.Goals as goal
 

@@ -1,5 +1,5 @@
 use Rattle.std.proofs.Common.{refl}
-use Rattle.floor_events.specs.declared.event.Event.TheVariants as events
+use Rattle.tournament_events.specs.declared.event.Event.TheVariants as events
 use Rattle.floor_view.proofs.Looked.{turn-found, turn-missed}
 use Rattle.floor_view.proofs.before.before_act.Goals as goal
 

@@ -1,6 +1,6 @@
 use Rattle.std.proofs.Common.{◌∙◌, refl, sym}
 use Rattle.std.proofs.lemmas.Result.{on_ok_weaker}
-use Rattle.floor_events.specs.declared.event.Event.TheVariants.{Act}
+use Rattle.tournament_events.specs.declared.event.Event.TheVariants.{Act}
 use Rattle.floor_view.specs.Turns.{act_made}
 use Rattle.floor_view.proofs.Acted.{some-turn, told-turn, written-told}
 use Rattle.floor_view.proofs.Taken.{spelled, written-accepted, written-refused}

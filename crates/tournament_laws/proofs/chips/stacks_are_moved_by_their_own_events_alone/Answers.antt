@@ -1,5 +1,5 @@
 use Rattle.std.proofs.Common.{◌≡◌, ◌≢◌, false, length}
-use Rattle.floor_events.specs.declared.event.Event.TheVariants.{Enter, Begin, Settle}
+use Rattle.tournament_events.specs.declared.event.Event.TheVariants.{Enter, Begin, Settle}
 use Rattle.tournament_rules.specs.Books.{start_at, starters_of}
 use Rattle.tournament_rules.specs.Dealing.{next_start}
 use Rattle.tournament_rules.specs.Players.{is_among}

@@ -1,6 +1,6 @@
 use Rattle.std.proofs.Common.{◌≡◌, refl, ◌+◌, length}
 use Rattle.std.specs.List.{All}
-use Rattle.floor_events.specs.declared.event.Event.TheVariants.{Enter}
+use Rattle.tournament_events.specs.declared.event.Event.TheVariants.{Enter}
 use Rattle.place_list.specs.Places.{place_of}
 use Rattle.tournament_rules.specs.States.{first_state, run}
 use Rattle.tournament_rules.proofs.Plays.{play_keeps}

@@ -1,4 +1,4 @@
-use Rattle.floor_events.specs.declared.event.Event.TheVariants.{Balance, Break}
+use Rattle.tournament_events.specs.declared.event.Event.TheVariants.{Balance, Break}
 use Rattle.tournament_rules.specs.States.{first_state, run}
 use Rattle.tournament_rules.proofs.Balances.{balance_passed}
 use Rattle.tournament_rules.proofs.Breaks.{break_passed}

@@ -1,5 +1,5 @@
 use Rattle.std.proofs.Common.{rules, ◌≡◌, ◌∙◌, ◌++◌, ℕ, List, ap, refl, sym, subst}
-use Rattle.floor_events.specs.declared.event.Event.TheVariants as events
+use Rattle.tournament_events.specs.declared.event.Event.TheVariants as events
 use Rattle.history_lock.specs.Holds.{IsEntered}
 use Rattle.history_lock.specs.Passes.{seen}
 use Rattle.dock_rules.specs.Added.{only_if}

@@ -2,7 +2,7 @@ use Rattle.std.proofs.Common.{◌≡◌, ◌∙◌, ◌+◌, ℕ, [], ap, sym, a
 use Rattle.std.specs.Prelude.{Err}
 use Rattle.table_engine.specs.declared.start.HandStart.{HandStart}
 use Rattle.table_engine.specs.Hands.{HandTerms}
-use Rattle.floor_events.specs.declared.event.Event.TheVariants as events
+use Rattle.tournament_events.specs.declared.event.Event.TheVariants as events
 use Rattle.tournament_rules.specs.Dealing.{next_start}
 use Rattle.book_dock.proofs.Booked.{answer-same, hand-is, handed-exit, memory-exit, refused-exit}
 use Rattle.book_dock.proofs.Carried.{begin-has, begin-left, begin-refused}

@@ -2,7 +2,7 @@ use Rattle.std.proofs.Common.{◌≡◌, ◌∙◌, ◌+◌, ap, length, sym, su
 use Rattle.std.specs.Prelude.{false}
 use Rattle.table_engine.specs.Results.{with_stacks}
 use Rattle.table_engine.proofs.Stacks.{players-of_record}
-use Rattle.floor_events.specs.declared.event.Event.TheVariants as events
+use Rattle.tournament_events.specs.declared.event.Event.TheVariants as events
 use Rattle.tournament_rules.specs.Books.{BookState}
 use Rattle.dock_rules.specs.Kept.{owed}
 use Rattle.book_dock.proofs.Booked.{few-after, has-in_book, owed-one}

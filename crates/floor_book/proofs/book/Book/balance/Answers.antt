@@ -3,7 +3,7 @@ use Rattle.std.specs.Prelude.{Some, None}
 use Rattle.seat_book.specs.Players.{sits_in}
 use Rattle.balance_rule.specs.Balance.{balance_move}
 use Rattle.balance_rule.proofs.Movers.{found-numbered}
-use Rattle.floor_events.specs.declared.event.Event.TheVariants.{Balance}
+use Rattle.tournament_events.specs.declared.event.Event.TheVariants.{Balance}
 use Rattle.tournament_rules.specs.Books.{BookState}
 use Rattle.tournament_rules.specs.Checks.{book_refusal}
 use Rattle.tournament_rules.specs.Valid.{IsValid}

@@ -1,7 +1,7 @@
 use Rattle.std.proofs.Common.{◌≡◌, ◌∙◌, sym, ap, subst, ℕ}
 use Rattle.std.specs.Prelude.{None}
 use Rattle.seat_book.specs.Seatings.{Seating}
-use Rattle.floor_events.specs.declared.event.Event.TheVariants.{Break}
+use Rattle.tournament_events.specs.declared.event.Event.TheVariants.{Break}
 use Rattle.tournament_rules.specs.Books.{BookState}
 use Rattle.tournament_rules.specs.Checks.{book_refusal}
 use Rattle.tournament_rules.specs.Effects.{with_table, forgotten}

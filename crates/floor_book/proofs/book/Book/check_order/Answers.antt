@@ -1,5 +1,5 @@
 use Rattle.std.proofs.Common.{◌∙◌}
-use Rattle.floor_events.specs.declared.event.Event.TheVariants.{Enter, Balance}
+use Rattle.tournament_events.specs.declared.event.Event.TheVariants.{Enter, Balance}
 use Rattle.tournament_rules.specs.Checks.{room_checks, book_refusal}
 use Rattle.floor_book.proofs.Joins.{refused_on, passed_on, held_on, entry_sooner, entry_later}
 use Rattle.floor_book.proofs.Rearranged.{balance_refusal}

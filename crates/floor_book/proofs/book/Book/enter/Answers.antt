@@ -1,7 +1,7 @@
 use Rattle.std.proofs.Common.{◌≡◌, ◌∙◌, sym, ap, subst, List, ℕ}
 use Rattle.std.specs.Prelude.{None, Err}
 use Rattle.table_engine.specs.Acts.{IsAnswer}
-use Rattle.floor_events.specs.declared.event.Event.TheVariants.{Enter}
+use Rattle.tournament_events.specs.declared.event.Event.TheVariants.{Enter}
 use Rattle.tournament_rules.specs.Books.{BookState}
 use Rattle.rulebook.specs.Checks.{first_that_holds}
 use Rattle.tournament_rules.specs.Checks.{book_refusal, room_checks}

@@ -2,7 +2,7 @@ use Rattle.std.proofs.Common.{◌≡◌, ◌∙◌, ◌+◌, sym, ap, subst, len
 use Rattle.std.specs.Prelude.{None}
 use Rattle.level_plan.specs.Plans.{unit_of_level}
 use Rattle.level_plan.proofs.Levels.{unit_of_level_above}
-use Rattle.floor_events.specs.declared.event.Event.TheVariants.{Level}
+use Rattle.tournament_events.specs.declared.event.Event.TheVariants.{Level}
 use Rattle.tournament_rules.specs.Books.{BookState}
 use Rattle.tournament_rules.specs.Checks.{book_refusal}
 use Rattle.tournament_rules.specs.Effects.{leveled}

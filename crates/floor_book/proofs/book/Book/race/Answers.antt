@@ -1,6 +1,6 @@
 use Rattle.std.proofs.Common.{◌≡◌, ◌∙◌, sym, ap, subst, arith}
 use Rattle.std.specs.Prelude.{None, is_some}
-use Rattle.floor_events.specs.declared.event.Event.TheVariants.{Race}
+use Rattle.tournament_events.specs.declared.event.Event.TheVariants.{Race}
 use Rattle.tournament_rules.specs.Books.{BookState}
 use Rattle.tournament_rules.specs.Checks.{is_table_open, is_playing, is_race_due, book_refusal}
 use Rattle.tournament_rules.specs.Effects.{raced}

@@ -1,5 +1,5 @@
 use Rattle.std.proofs.Common.{◌∙◌}
-use Rattle.floor_events.specs.declared.event.Event.TheVariants.{Stop}
+use Rattle.tournament_events.specs.declared.event.Event.TheVariants.{Stop}
 use Rattle.tournament_rules.specs.Checks.{book_refusal}
 use Rattle.floor_book.proofs.Joins.{answered_no, stop_refusal}
 use Rattle.floor_book.proofs.book.Book.stop.Goals as goal

@@ -1,7 +1,7 @@
 use Rattle.std.proofs.Common.{◌≡◌, ◌∙◌, subst}
 use Rattle.std.specs.Prelude.{Some, None}
 use Rattle.rulebook.specs.Checks.{first_that_holds}
-use Rattle.floor_events.specs.declared.event.Event.TheVariants.{Act as Acts}
+use Rattle.tournament_events.specs.declared.event.Event.TheVariants.{Act as Acts}
 use Rattle.tournament_rules.specs.Checks.{going_checks, known_checks}
 use Rattle.tournament_rules.specs.States.{PlayState, refusal_of}
 use Rattle.floor_book.proofs.Joins.{answered_no}

@@ -4,7 +4,7 @@ use Rattle.std.specs.Option.{option_and_then}
 use Rattle.rulebook.specs.Checks.{first_that_holds}
 use Rattle.table_engine.specs.Hands.{HandTerms}
 use Rattle.floor_text.specs.declared.refusal.Refusal.{Refusal}
-use Rattle.floor_events.specs.declared.event.Event.TheVariants.{Settle}
+use Rattle.tournament_events.specs.declared.event.Event.TheVariants.{Settle}
 use Rattle.tournament_rules.specs.Books.{start_at}
 use Rattle.tournament_rules.specs.Checks.{end_checks}
 use Rattle.tournament_rules.specs.States.{PlayState, refusal_of}

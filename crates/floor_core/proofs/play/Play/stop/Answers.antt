@@ -1,5 +1,5 @@
 use Rattle.std.proofs.Common.{◌∙◌, refl, sym, ap, map}
-use Rattle.floor_events.specs.declared.event.Event.TheVariants.{Stop}
+use Rattle.tournament_events.specs.declared.event.Event.TheVariants.{Stop}
 use Rattle.tournament_rules.specs.Books.{BookState}
 use Rattle.tournament_rules.specs.Checks.{book_refusal}
 use Rattle.tournament_rules.specs.States.{PlayState, refusal_of}

@@ -1,5 +1,5 @@
 use Rattle.std.proofs.Common.{◌∙◌, sym, ap}
-use Rattle.floor_events.specs.declared.event.Event.TheVariants.{Time}
+use Rattle.tournament_events.specs.declared.event.Event.TheVariants.{Time}
 use Rattle.tournament_rules.specs.States.{PlayState, refusal_of}
 use Rattle.floor_book.proofs.Joins.{answered_no}
 use Rattle.floor_core.proofs.Parts.{by_book, time_refusal}

@@ -3,10 +3,10 @@ use Rattle.std.specs.Option.{ForSome}
 use Rattle.std.specs.declared.alloc.AllocError.{AllocError}
 use Rattle.card_set.specs.declared.card.CardRow.{CardRow}
 use Rattle.table_engine.specs.Starts.{IsLawfulStart}
-use Rattle.floor_events.specs.declared.event.Event.{Event}
-use Rattle.floor_events.specs.declared.event.Event.TheVariants.{Begin}
-use Rattle.floor_events.specs.declared.answer.Answer.{Answer}
-use Rattle.floor_events.specs.declared.answer.Answer.TheVariants as answers
+use Rattle.tournament_events.specs.declared.event.Event.{Event}
+use Rattle.tournament_events.specs.declared.event.Event.TheVariants.{Begin}
+use Rattle.tournament_events.specs.declared.answer.Answer.{Answer}
+use Rattle.tournament_events.specs.declared.answer.Answer.TheVariants as answers
 use Rattle.tournament_rules.specs.Dealing.{next_start}
 use Rattle.tournament_rules.specs.States.{State, answer_to, answered, is_accepted, refusal_of}
 use Rattle.tournament_rules.specs.Valid.{IsValid}

@@ -2,7 +2,7 @@ use Rattle.std.proofs.Common.{◌∙◌, sym, ap, length, find, Ok, Err, Result,
 use Rattle.std.specs.Prelude.{nat_lt}
 use Rattle.std.proofs.lemmas.Bool.{ltb-true}
 use Rattle.seat_book.specs.Counts.{table_numbers}
-use Rattle.floor_events.specs.declared.event.Event.{Event}
+use Rattle.tournament_events.specs.declared.event.Event.{Event}
 use Rattle.tournament_rules.specs.Books.{BookState}
 use Rattle.tournament_rules.specs.Checks.{is_race_due}
 use Rattle.simulation_rules.specs.declared.step.SimStep.TheVariants.{Take}

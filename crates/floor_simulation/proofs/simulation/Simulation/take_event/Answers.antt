@@ -1,6 +1,6 @@
 use Rattle.std.proofs.Common.{◌≡◌, refl, ℕ, ◌+◌, Bool, false, cond, arith}
-use Rattle.floor_events.specs.declared.event.Event.{Event}
-use Rattle.floor_events.specs.declared.event.Event.TheVariants.{Settle}
+use Rattle.tournament_events.specs.declared.event.Event.{Event}
+use Rattle.tournament_events.specs.declared.event.Event.TheVariants.{Settle}
 use Rattle.simulation_rules.specs.Runs.{is_settle}
 use Rattle.floor_simulation.proofs.simulation.Simulation.take_event.Goals as goal
 

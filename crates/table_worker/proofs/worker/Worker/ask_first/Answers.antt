@@ -2,8 +2,8 @@ use Rattle.std.proofs.Common.{◌≡◌, ◌∙◌, ◌++◌, ◌∷◌, [], ℕ
 use Rattle.std.specs.Prelude.{◌&&◌, is_none, is_some, unwrap_or}
 use Rattle.history_lock.specs.Holds.{IsHold}
 use Rattle.history_lock.specs.Passes.{pass_number, seen}
-use Rattle.floor_events.specs.declared.event.Event.{Event}
-use Rattle.floor_events.specs.declared.event.Event.TheVariants as events
+use Rattle.tournament_events.specs.declared.event.Event.{Event}
+use Rattle.tournament_events.specs.declared.event.Event.TheVariants as events
 use Rattle.view_rules.specs.declared.entries.JournalEntry.{JournalEntry}
 use Rattle.view_rules.specs.declared.entries.TableEntry.TheVariants.{Closed}
 use Rattle.dock_rules.specs.Added.{only_if}

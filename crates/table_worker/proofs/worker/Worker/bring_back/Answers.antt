@@ -2,7 +2,7 @@ use Rattle.std.proofs.Common.{◌≡◌, ◌∙◌, ◌++◌, ◌∷◌, [], ℕ
 use Rattle.std.specs.Prelude.{is_some}
 use Rattle.history_lock.specs.Passes.{own, pass_number, seen}
 use Rattle.table_engine.specs.Hands.{HandTerms, is_over}
-use Rattle.floor_events.specs.declared.event.Event.TheVariants as events
+use Rattle.tournament_events.specs.declared.event.Event.TheVariants as events
 use Rattle.view_rules.specs.declared.entries.JournalEntry.{JournalEntry}
 use Rattle.view_rules.specs.declared.entries.TableEntry.{TableEntry}
 use Rattle.view_rules.specs.declared.entries.TableEntry.TheVariants.{Closed}

@@ -3,11 +3,11 @@ use Rattle.std.specs.Prelude.{ℕ, List, [], ◌∷◌, ◌++◌, map, Option, S
 use Rattle.std.specs.List.{flat_map}
 use Rattle.floor_text.specs.declared.refusal.Refusal.TheVariants.{Syntax}
 use Rattle.floor_text.specs.Lines.{lines_of_bytes}
-use Rattle.floor_events.specs.declared.answer.Answer.{Answer}
-use Rattle.floor_events.specs.declared.answer.Answer.TheVariants.{Ok, No}
-use Rattle.floor_events.specs.declared.event.Event.{Event as EventOfLine}
-use Rattle.floor_events.specs.declared.event.Item.{Item}
-use Rattle.floor_events.specs.declared.event.Item.TheVariants.{Event, Note}
+use Rattle.tournament_events.specs.declared.answer.Answer.{Answer}
+use Rattle.tournament_events.specs.declared.answer.Answer.TheVariants.{Ok, No}
+use Rattle.tournament_events.specs.declared.event.Event.{Event as EventOfLine}
+use Rattle.tournament_events.specs.declared.event.Item.{Item}
+use Rattle.tournament_events.specs.declared.event.Item.TheVariants.{Event, Note}
 use Rattle.floor_events.specs.Grammar.{item_of_bytes}
 use Rattle.floor_events.specs.Spelling.{event_text, answer_text, report_text}
 use Rattle.tournament_rules.specs.States.{State, first_state, answer_to, state_after, run}

@@ -1,6 +1,6 @@
 -- What is written of each event is its text, by computing.
 use Rattle.floor_events.specs.Spelling.{event_text}
-use Rattle.floor_events.proofs.event_writer.EventWriteText.push_text.Goals as goal
+use Rattle.floor_events.proofs.event_writer.push_event.Goals as goal
 
 pub returns-in-Plan-clause-ok : goal.returns-in-Plan-clause-ok
 returns-in-Plan-clause-ok c = rw c.in-Plan.is c.push_plan_line.ensures.ok

@@ -1,0 +1,9 @@
+use Rattle.line_words.proofs.Growth.{Extends-append, Extends-before}
+use Rattle.floor_events.proofs.report_writer.push_players.Goals as goal
+
+pub returns-in_err-push_report_line-clause-kept : goal.returns-in_err-push_report_line-clause-kept
+returns-in_err-push_report_line-clause-kept g c = Extends-before c.args.out.now.items c.loop-player.out.items _ _
+    c.loop-player.invariant c.in_err-push_report_line.ensures.kept
+
+pub returns-clause-kept : goal.returns-clause-kept
+returns-clause-kept g c = Extends-append c.args.out.now.items c.loop-player.out.items _ c.loop-player.invariant

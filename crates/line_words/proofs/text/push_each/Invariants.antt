@@ -1,6 +1,0 @@
-use Rattle.std.proofs.Common.{◌≡◌, ◌++◌, take}
-use Rattle.std.specs.List.{flat_map}
-use Rattle.line_words.proofs.text.push_each.Given as goal
-
-abbrev pub invariant-loop-item : goal.invariant-loop-item
-invariant-loop-item g l = l.out.items ≡ l.initial.out.items ++ flat_map g.T.WriteText.text (take l.item-index l.items)
