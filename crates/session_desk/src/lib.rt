@@ -20,10 +20,7 @@ mod work;
 
 pub use desk::{Asked, Desk};
 pub use laws::a_client_is_told_in_order;
-pub use links::{
-    Door, Hall, HallFault, Link, MemDoor, MemHall, MemLink, Say, StreamLink, Taken, Tape, TcpDoor,
-    TcpHall, TcpLink,
-};
+pub use links::{Door, Hall, HallFault, Link, StreamLink, Taken, TcpDoor, TcpHall, TcpLink};
 pub use session::{Session, SessionEnd, Step};
 pub use sessions::serve_session;
 pub use work::work_desk;

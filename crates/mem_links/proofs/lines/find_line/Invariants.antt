@@ -1,6 +1,6 @@
 use Rattle.std.proofs.Common.{◌-◌, length}
-use Rattle.links.specs.Lines.{IsSearched}
-use Rattle.links.proofs.lines.find_line.Given as goal
+use Rattle.mem_links.specs.Lines.{IsSearched}
+use Rattle.mem_links.proofs.lines.find_line.Given as goal
 
 -- what was searched so far holds no such line
 abbrev pub invariant-search : goal.invariant-search

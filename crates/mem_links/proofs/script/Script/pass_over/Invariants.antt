@@ -1,6 +1,6 @@
 use Rattle.std.proofs.Common.{◌≡◌, ◌-◌, drop, vec_len}
-use Rattle.links.specs.Scripts.{come_to, given_by, IsSearchedBy}
-use Rattle.links.proofs.script.Script.pass_over.Given as goal
+use Rattle.mem_links.specs.Scripts.{come_to, given_by, IsSearchedBy}
+use Rattle.mem_links.proofs.script.Script.pass_over.Given as goal
 
 -- the script comes to the same place, has given the same bytes, and has searched only what was put
 abbrev pub invariant-pass : goal.invariant-pass

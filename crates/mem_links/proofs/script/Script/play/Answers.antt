@@ -1,9 +1,9 @@
 use Rattle.std.proofs.Common.{◌≡◌, ℕ, List, ◌-◌, ◌<◌, ◌++◌, ◌∙◌, sym, ap, length, get_or, take, drop, min, arith}
 use Rattle.std.proofs.lemmas.Grind.{common_steps}
-use Rattle.links.specs.declared.say.Say.TheVariants.{Give}
-use Rattle.links.specs.Scripts.{place_of, given_by}
-use Rattle.links.proofs.PassedOver.{given_on, brings}
-use Rattle.links.proofs.script.Script.play.Goals as goal
+use Rattle.mem_links.specs.declared.say.Say.TheVariants.{Give}
+use Rattle.mem_links.specs.Scripts.{place_of, given_by}
+use Rattle.mem_links.proofs.PassedOver.{given_on, brings}
+use Rattle.mem_links.proofs.script.Script.play.Goals as goal
 
 pub returns-in-Some-Give-clause-given : goal.returns-in-Some-Give-clause-given
 returns-in-Some-Give-clause-given c =

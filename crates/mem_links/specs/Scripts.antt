@@ -5,10 +5,10 @@ use Rattle.std.specs.Option.{option_map_or}
 use Rattle.floor_text.specs.Memory.{count_up}
 use Rattle.links.specs.declared.link.Taken.{Taken}
 use Rattle.links.specs.declared.link.Taken.TheVariants.{Bytes, End, Idle}
-use Rattle.links.specs.declared.say.Say.{Say}
-use Rattle.links.specs.declared.say.Say.TheVariants.{Give, WaitFor, Finish}
-use Rattle.links.specs.declared.script.Script.{Script}
-use Rattle.links.specs.Lines.{has_line, IsSearched}
+use Rattle.mem_links.specs.declared.say.Say.{Say}
+use Rattle.mem_links.specs.declared.say.Say.TheVariants.{Give, WaitFor, Finish}
+use Rattle.mem_links.specs.declared.script.Script.{Script}
+use Rattle.mem_links.specs.Lines.{has_line, IsSearched}
 
 -- where a script is: what it has still to say, how many bytes of the first of that it has given, and how often it has
 -- answered Idle there

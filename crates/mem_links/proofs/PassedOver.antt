@@ -7,11 +7,11 @@ use Rattle.std.proofs.lemmas.Bool.{leb-true}
 use Rattle.std.proofs.lemmas.Grind.{flat_map-append}
 use Rattle.std.proofs.lemmas.List.{drop_more, take_more, take_all}
 use Rattle.std.proofs.lemmas.Option.{slice_get-get_or}
-use Rattle.links.specs.declared.say.Say.{Say}
-use Rattle.links.specs.declared.say.Say.TheVariants.{Give, WaitFor, Finish}
-use Rattle.links.specs.declared.script.Script.{Script}
-use Rattle.links.specs.Scripts.{Place, bytes_of, is_over, come_to, step_at, play, place_of, given_by, IsSearchedFor}
-use Rattle.links.proofs.SearchedLines.{searched_none}
+use Rattle.mem_links.specs.declared.say.Say.{Say}
+use Rattle.mem_links.specs.declared.say.Say.TheVariants.{Give, WaitFor, Finish}
+use Rattle.mem_links.specs.declared.script.Script.{Script}
+use Rattle.mem_links.specs.Scripts.{Place, bytes_of, is_over, come_to, step_at, play, place_of, given_by, IsSearchedFor}
+use Rattle.mem_links.proofs.SearchedLines.{searched_none}
 
 -- A script whose next say is over comes to where it comes to without it.
 pub passes : (put : List ℕ) (says : List Say) (at given waited : ℕ) (say : Say) → at < length says

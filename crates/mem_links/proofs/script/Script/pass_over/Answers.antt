@@ -1,8 +1,8 @@
 use Rattle.std.proofs.Common.{◌≡◌, ◌+◌, ◌<◌, ◌≤◌, ◌∙◌, sym, length, get_or}
 use Rattle.std.specs.List.{slice_get}
 use Rattle.std.proofs.lemmas.Option.{slice_get_past}
-use Rattle.links.proofs.PassedOver.{passes, given_past, next_searched}
-use Rattle.links.proofs.script.Script.pass_over.Goals as goal
+use Rattle.mem_links.proofs.PassedOver.{passes, given_past, next_searched}
+use Rattle.mem_links.proofs.script.Script.pass_over.Goals as goal
 
 pub pass-preserved : goal.pass-preserved
 pass-preserved c =

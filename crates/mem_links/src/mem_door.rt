@@ -5,9 +5,9 @@ ghost use Rattle.floor_text.specs.Memory.{count_up, next_fails};
 ghost use Rattle.floor_text.specs.Outside.{HasCause};
 ghost use Rattle.links.specs.Links.{IsLinkOut, after_knock, with_back};
 
-use crate::door::Door;
 use crate::mem_link::MemLink;
 use floor_text::{Calls, Failed};
+use links::Door;
 use std::alloc::{AllocError, Global};
 use std::marker::Model;
 use std::snapshot::Snapshot;
@@ -27,7 +27,7 @@ impl Model for MemDoor {
     ghost use Rattle.std.specs.Prelude.{map, vec_len, vec_capacity};
     ghost use Rattle.std.specs.Prelude.{reverse};
     ghost use Rattle.std.specs.declared.snapshot.Snapshot.{Snapshot};
-    ghost use Rattle.links.specs.Memory.{MemoryLink, MemoryDoor, IsMemoryDoor};
+    ghost use Rattle.mem_links.specs.Memory.{MemoryLink, MemoryDoor, IsMemoryDoor};
 
     ghost Value = { MemoryDoor };
 

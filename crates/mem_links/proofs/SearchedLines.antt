@@ -8,7 +8,7 @@ use Rattle.std.proofs.lemmas.List.Splits.{slice_split-cons_no, length-slice_spli
 use Rattle.floor_text.specs.HeldBytes.{IsFirstFeed}
 use Rattle.floor_text.specs.Lines.{is_line_feed, HasNoFeed, all_but_last}
 use Rattle.floor_text.proofs.HeldLists.{first_feed_found}
-use Rattle.links.specs.Lines.{begins_with, has_line, IsSearched}
+use Rattle.mem_links.specs.Lines.{begins_with, has_line, IsSearched}
 
 splits_at : (line rest : List ℕ) → HasNoFeed line
     → slice_split is_line_feed (line ++ 10 ∷ rest) ≡ line ∷ slice_split is_line_feed rest

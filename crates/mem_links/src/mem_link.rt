@@ -3,14 +3,14 @@ ghost use Rattle.std.specs.Prelude.{◌≡◌, ◌↔◌, ◌⊎◌, ◌+◌, �
 ghost use Rattle.floor_text.specs.Memory.{count_up, next_fails};
 ghost use Rattle.floor_text.specs.Outside.{HasCause};
 ghost use Rattle.links.specs.Links.{FitsBuffer, BringsNoByte, Puts, after_take, with_put};
-ghost use Rattle.links.specs.Memory.{step_of_link};
+ghost use Rattle.mem_links.specs.Memory.{step_of_link};
 ghost use Rattle.links.specs.Telling.{untouched};
 
-use crate::link::{Link, Taken};
 use crate::say::Say;
 use crate::script::Script;
 use crate::tape::Tape;
 use floor_text::{Calls, Failed};
+use links::{Link, Taken};
 use std::alloc::{AllocError, Global};
 use std::marker::Model;
 
@@ -29,8 +29,8 @@ pub struct MemLink {
 
 impl Model for MemLink {
     ghost use Rattle.std.specs.Prelude.{vec_capacity};
-    ghost use Rattle.links.specs.Memory.{MemoryLink, IsMemoryLink};
-    ghost use Rattle.links.specs.Scripts.{given_by, place_of};
+    ghost use Rattle.mem_links.specs.Memory.{MemoryLink, IsMemoryLink};
+    ghost use Rattle.mem_links.specs.Scripts.{given_by, place_of};
 
     ghost Value = { MemoryLink };
 

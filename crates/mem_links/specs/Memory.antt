@@ -1,8 +1,8 @@
 -- A link, a door and a hall in memory. This project's own.
 use Rattle.std.specs.Prelude.{ℕ, ◌+◌, ◌≤◌, ◌<◌, ◌≡◌, List, [], length, if◌then◌else◌}
 use Rattle.links.specs.declared.link.Taken.TheVariants.{End}
-use Rattle.links.specs.declared.script.Script.{Script}
-use Rattle.links.specs.Scripts.{Place, Step, play, IsSearchedBy}
+use Rattle.mem_links.specs.declared.script.Script.{Script}
+use Rattle.mem_links.specs.Scripts.{Place, Step, play, IsSearchedBy}
 use Rattle.links.specs.Telling.{Telling, DoorTelling, HallTelling}
 
 -- a link: what it tells, where its script is, how many bytes it has room for, the numbers of its calls that fail, and

@@ -1,7 +1,7 @@
 //! Looks for a line among bytes to which more come.
 ghost use Rattle.std.specs.Prelude.{◌≡◌, false, position};
 ghost use Rattle.floor_text.specs.Lines.{is_line_feed};
-ghost use Rattle.links.specs.Lines.{has_line, IsSearched};
+ghost use Rattle.mem_links.specs.Lines.{has_line, IsSearched};
 
 /// Answers whether a whole line that begins with `front` is among the bytes, of which the first were searched before.
 /// Where none is, moves `searched` behind the last whole line.

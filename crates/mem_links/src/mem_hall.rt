@@ -4,9 +4,9 @@ ghost use Rattle.floor_text.specs.Memory.{count_up, next_fails};
 ghost use Rattle.floor_text.specs.Outside.{Rose};
 ghost use Rattle.links.specs.Links.{AreDoorsOut, with_given, with_all_back};
 
-use crate::hall::{Hall, HallFault};
 use crate::mem_door::MemDoor;
 use floor_text::Calls;
+use links::{Hall, HallFault};
 use std::alloc::Global;
 use std::marker::Model;
 use std::mem;
@@ -24,7 +24,7 @@ pub struct MemHall {
 
 impl Model for MemHall {
     ghost use Rattle.std.specs.Prelude.{length, vec_len, vec_capacity};
-    ghost use Rattle.links.specs.Memory.{MemoryHall, IsMemoryHall};
+    ghost use Rattle.mem_links.specs.Memory.{MemoryHall, IsMemoryHall};
 
     ghost Value = { MemoryHall };
 

@@ -2,11 +2,11 @@
 ghost use Rattle.std.specs.Prelude.{◌≡◌, ◌++◌, IfSome, false, length, take};
 ghost use Rattle.std.specs.List.{slice_get};
 ghost use Rattle.links.specs.Links.{FitsBuffer};
-ghost use Rattle.links.specs.Scripts.{is_over, come_to, play, place_of, given_by, IsSearchedFor, IsSearchedBy};
+ghost use Rattle.mem_links.specs.Scripts.{is_over, come_to, play, place_of, given_by, IsSearchedFor, IsSearchedBy};
 
 use crate::lines::find_line;
-use crate::link::Taken;
 use crate::say::Say;
+use links::Taken;
 
 /// All that a link says, and where it is in that.
 #[derive(Drop)]

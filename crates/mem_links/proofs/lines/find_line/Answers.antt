@@ -1,7 +1,7 @@
 use Rattle.std.proofs.Common.{Some, None, sym, ap, ◌∙◌}
-use Rattle.links.specs.Lines.{begins_with}
-use Rattle.links.proofs.SearchedLines.{line_is, first_found, found_at, found_none, searched_on}
-use Rattle.links.proofs.lines.find_line.Goals as goal
+use Rattle.mem_links.specs.Lines.{begins_with}
+use Rattle.mem_links.proofs.SearchedLines.{line_is, first_found, found_at, found_none, searched_on}
+use Rattle.mem_links.proofs.lines.find_line.Goals as goal
 
 pub returns-then-starts_with-clause-found : goal.returns-then-starts_with-clause-found
 returns-then-starts_with-clause-found c =
