@@ -4,7 +4,8 @@ use Rattle.std.specs.Prelude.{IfSome, option_map}
 use Rattle.std.proofs.lemmas.List.{length-map}
 use Rattle.links.specs.Telling.{HallTelling}
 use Rattle.links.specs.Links.{with_all_back, with_given}
-use Rattle.floor_online.specs.Doors.{AreDoorsBack, AreRuns, DoorRun, IsEvenOn}
+use Rattle.floor_crew.specs.DoorRuns.{AreRuns, DoorRun}
+use Rattle.floor_online.specs.Doors.{AreDoorsBack, IsEvenOn}
 
 module _ {D : Type 0} where
   -- What is told is even with itself.

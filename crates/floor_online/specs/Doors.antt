@@ -1,24 +1,18 @@
--- The doors of a hall, as they were given and as they came back. This project's own.
-use Rattle.std.specs.Prelude.{◌≡◌, ◌<◌, ◌+◌, ℕ, Bool, true, List, [], ◌∷◌, ◌++◌, codes, length, map, if◌then◌else◌}
+-- The doors of a hall, and what is written of those that failed. This project's own.
+use Rattle.std.specs.Prelude.{◌≡◌, ◌+◌, ℕ, Bool, List, [], ◌∷◌, ◌++◌, codes, length, map, if◌then◌else◌}
 use Rattle.std.specs.Fmt.{decimal}
-use Rattle.floor_text.specs.Outside.{Rose}
 use Rattle.line_words.specs.Words.{line_of_words}
 use Rattle.links.specs.declared.hall.HallFault.{HallFault}
 use Rattle.links.specs.declared.hall.HallFault.TheVariants as halls
 use Rattle.links.specs.Telling.{HallTelling}
 use Rattle.command_lines.specs.declared.fault.Fault.{Fault}
 use Rattle.command_lines.specs.declared.fault.Fault.TheVariants as faults
+use Rattle.floor_crew.specs.DoorRuns.{DoorRun}
 
 -- why a hall gave no doors, as a fault of the run
 abbrev pub fault_of_hall : HallFault → Fault
 fault_of_hall halls.Failed = faults.Hall
 fault_of_hall halls.NoMemory = faults.NoMemory
-
--- A door: as the hall gave it, as it came back, and whether it is told to have failed.
-pub record DoorRun (D : Type 0) : Type 0 where
-  pub given : D
-  pub back : D
-  pub failed : Bool
 
 -- the line that tells that the door of a number failed
 abbrev pub failed_line : ℕ → List ℕ
@@ -34,21 +28,10 @@ failed_text number [] = []
 failed_text number (failed ∷ more) = line_where_failed number failed ++ failed_text (number + 1) more
 
 module _ {D : Type 0} where
-  -- Doors as they were given and as they came back, with whether each is told to have failed, in one order.
-  pub record AreRuns (doors : List (DoorRun D)) (given back : List D) (failed : List Bool) : Type 0 where
-    pub given_are : map (λ (door : DoorRun D). door.given) doors ≡ given
-    pub back_are : map (λ (door : DoorRun D). door.back) doors ≡ back
-    pub failed_are : map (λ (door : DoorRun D). door.failed) doors ≡ failed
-
   -- A hall gave these doors, and all of them are back.
   pub record AreDoorsBack (doors : List (DoorRun D)) (before after : HallTelling D) : Type 0 where
     pub given : after.given ≡ before.given ++ map (λ (door : DoorRun D). door.given) doors
     pub back : after.back ≡ before.back ++ map (λ (door : DoorRun D). door.back) doors
-
-  -- A door is told to have failed only where its count of faults rose, and wherever that is greater.
-  pub record IsFailure (faults : D → ℕ) (door : DoorRun D) : Type 0 where
-    pub rose : door.failed ≡ true → Rose (faults door.given) (faults door.back)
-    pub each : faults door.given < faults door.back → door.failed ≡ true
 
   -- A hall has as many doors back more as it gave more.
   pub record IsEvenOn (before after : HallTelling D) : Type 0 where

@@ -1,14 +1,3 @@
 pub mod Doors
-pub mod Asks
-pub mod Wishes
-pub mod FloorPart
-pub mod Tournaments
-pub mod Acted
-pub mod Sessions
 pub mod Served
-pub mod Working
-pub mod AtHand
-pub mod Closed
-pub mod Rows
-pub mod EnteredNames
 pub mod EntryText

@@ -1,18 +1,15 @@
 -- What a server has done that ended well, and what of it is written where it failed. This project's own.
-use Rattle.std.specs.Prelude.{◌≡◌, ◌⊎◌, ℕ, Bool, List, ◌++◌, All, length, map, take, Option, Some, IfSome, Ok}
+use Rattle.std.specs.Prelude.{◌≡◌, ◌⊎◌, ℕ, Bool, List, ◌++◌, length, map, take, Option, Some, IfSome, Ok}
 use Rattle.level_plan.specs.Plans.{PlanTerms}
 use Rattle.plan_files.specs.Words.{WordTerms, served_of_file}
 use Rattle.links.specs.Telling.{DoorTelling, HallTelling, Telling}
 use Rattle.view_rules.specs.declared.entries.JournalEntry.{JournalEntry}
-use Rattle.view_rules.specs.declared.entries.TableEntry.{TableEntry}
 use Rattle.replay_rules.specs.Replay.{tournament_text}
 use Rattle.dock_rules.specs.Journals.{expand}
-use Rattle.dock_rules.specs.Whole.{DoMatch}
-use Rattle.floor_online.specs.Asks.{asks_at}
-use Rattle.floor_online.specs.Doors.{AreDoorsBack, DoorRun, IsFailure, failed_text}
-use Rattle.floor_online.specs.Sessions.{WasAttended}
-use Rattle.floor_online.specs.Tournaments.{IsWholeJournal}
-use Rattle.floor_online.specs.Wishes.{WasAsked}
+use Rattle.floor_crew.specs.DoorRuns.{DoorRun}
+use Rattle.floor_crew.specs.Held.{HasHeld}
+use Rattle.floor_crew.specs.Tournaments.{IsWholeJournal}
+use Rattle.floor_online.specs.Doors.{AreDoorsBack, failed_text}
 
 -- The plan and the session words are those of the file that a source was, where it tells.
 abbrev pub IsFile : Option (List ℕ) → PlanTerms → WordTerms → Type 0
@@ -30,21 +27,6 @@ HasText journal before after = IfSome before (λ text. after ≡ Some (text ++ t
 
 module _ {D L : Type 0} (door_told : D → Option (DoorTelling L)) (door_faults : D → ℕ) (link_told : L → Option Telling)
     (link_faults : L → ℕ) where
-  -- A tournament was held at these doors, over a plan with these session words and this seed: it came to this journal.
-  pub record HasHeld (plan : PlanTerms) (words : WordTerms) (seed : List ℕ) (journal : List JournalEntry)
-      (doors : List (DoorRun D)) : Type 0 where
-    pub whole : IsWholeJournal plan seed journal
-    -- the histories of its tables, by number: the journal and they are legal, and match
-    pub histories : ℕ → List TableEntry
-    pub matched : DoMatch journal histories
-    -- the clients of each door were served in it
-    pub attended : All (WasAttended door_told link_told link_faults words plan.tables
-        (record { journal = journal; tables = histories })) doors
-    -- which doors failed
-    pub failed : All (IsFailure door_faults) doors
-    -- where the doors and their links tell, what the journal's events come of was asked for on them
-    pub asked : IfSome (asks_at door_told link_told words doors) (WasAsked journal)
-
   -- A tournament was held at the doors that a hall gave, one for each desk, and all of them are back; which of them
   -- failed.
   pub record HasHeldAt (plan : PlanTerms) (words : WordTerms) (seed : List ℕ) (desks : ℕ)

@@ -14,10 +14,10 @@ ghost use Rattle.floor_online.specs.Doors.{IsEvenOn};
 ghost use Rattle.floor_online.specs.Served.{HasServed, IsFile, MayHavePut};
 
 use crate::doors::{failed_lines, put_lines};
-use crate::floor::open_floor;
 use crate::holding::hold_at_doors;
 use crate::text::write_text;
 use command_lines::{Fault, PLAN_LIMIT, Service};
+use floor_crew::open_floor;
 use floor_text::{Sink, Source};
 use level_plan::Plan;
 use links::Hall;

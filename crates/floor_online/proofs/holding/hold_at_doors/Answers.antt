@@ -1,6 +1,6 @@
 use Rattle.std.proofs.Common.{◌∙◌, sym, subst}
 use Rattle.links.specs.Links.{AreDoorsOut}
-use Rattle.floor_online.specs.Working.{IsFloorOf}
+use Rattle.floor_crew.specs.Working.{IsFloorOf}
 use Rattle.floor_online.proofs.EvenDoors.{even-kept, even-round, runs-back, runs-even, runs-many}
 use Rattle.floor_online.proofs.holding.hold_at_doors.Goals as goal
 

@@ -1,0 +1,13 @@
+pub mod DoorRuns
+pub mod Asks
+pub mod Wishes
+pub mod FloorPart
+pub mod Tournaments
+pub mod Acted
+pub mod Sessions
+pub mod Held
+pub mod Working
+pub mod AtHand
+pub mod Closed
+pub mod Rows
+pub mod EnteredNames
