@@ -6,6 +6,8 @@ use Rattle.links.specs.Telling.{DoorTelling, HallTelling, Telling}
 use Rattle.view_rules.specs.declared.entries.JournalEntry.{JournalEntry}
 use Rattle.replay_rules.specs.Replay.{tournament_text}
 use Rattle.dock_rules.specs.Journals.{expand}
+use Rattle.command_lines.specs.declared.fault.Fault.{Fault}
+use Rattle.command_lines.specs.declared.fault.Fault.TheVariants as faults
 use Rattle.floor_crew.specs.DoorRuns.{DoorRun}
 use Rattle.floor_crew.specs.Held.{HasHeld}
 use Rattle.floor_crew.specs.Tournaments.{IsWholeJournal}
@@ -25,6 +27,21 @@ pub record Outside (D : Type 0) : Type 0 where
 abbrev pub HasText : List JournalEntry → Option (List ℕ) → Option (List ℕ) → Type 0
 HasText journal before after = IfSome before (λ text. after ≡ Some (text ++ tournament_text (expand journal)))
 
+-- out has a front of that text behind what it had
+abbrev pub HasFront : List JournalEntry → Option (List ℕ) → Option (List ℕ) → Type 0
+HasFront journal before after =
+    IfSome before (λ text. (size : ℕ) × (after ≡ Some (text ++ take size (tournament_text (expand journal)))))
+
+-- the faults of holding a tournament and writing its text: the hall or out failed, or memory ran out
+abbrev pub IsOfServing : Fault → Type 0
+IsOfServing faults.Usage = ⊥
+IsOfServing faults.Read = ⊥
+IsOfServing faults.Write = Unit {0}
+IsOfServing faults.NoMemory = Unit {0}
+IsOfServing (faults.Plan item) = ⊥
+IsOfServing faults.Hall = Unit {0}
+IsOfServing faults.InputTooLong = ⊥
+
 module _ {D L : Type 0} (door_told : D → Option (DoorTelling L)) (door_faults : D → ℕ) (link_told : L → Option Telling)
     (link_faults : L → ℕ) where
   -- A tournament was held at the doors that a hall gave, one for each desk, and all of them are back; which of them
@@ -32,7 +49,7 @@ module _ {D L : Type 0} (door_told : D → Option (DoorTelling L)) (door_faults 
   pub record HasHeldAt (plan : PlanTerms) (words : WordTerms) (seed : List ℕ) (desks : ℕ)
       (journal : List JournalEntry) (failed : List Bool) (before after : Option (HallTelling D)) : Type 0 where
     pub doors : List (DoorRun D)
-    pub held : HasHeld plan words seed journal doors
+    pub held : HasHeld door_told door_faults link_told link_faults plan words seed journal doors
     pub each_desk : length doors ≡ desks
     pub hall : IfSome before (λ t. (u : HallTelling D) × (after ≡ Some u) × AreDoorsBack doors t u)
     pub failed_are : map (λ (door : DoorRun D). door.failed) doors ≡ failed

@@ -1,23 +1,24 @@
 //! The top call.
 
-ghost use Rattle.std.specs.Prelude.{◌⊎◌, ◌≡◌, ◌≢◌, ◌↔◌, ◌≤◌, ◌∷◌, [], ℕ, List, map, string_bytes, length, Some, None, Ok, Err, IfErr, IfOk, IfSome, IsErrOf, IsTrue, OnOk, Contains, MatchResult};
+ghost use Rattle.std.specs.Prelude.{◌⊎◌, ◌≡◌, ◌≢◌, ◌↔◌, ◌<◌, ◌≤◌, ◌∷◌, [], ℕ, List, map, string_bytes, length, Option, Some, None, Ok, Err, IfErr, IfOk, IfSome, IsErrOf, IsTrue, OnErr, OnOk, Contains, MatchResult};
 ghost use Rattle.floor_text.specs.Outside.{Rose};
 ghost use Rattle.level_plan.specs.declared.line.PlanItem.{PlanItem};
 ghost use Rattle.level_plan.specs.Plans.{is_right};
 ghost use Rattle.plan_files.specs.Words.{served_of_file};
 ghost use Rattle.links.specs.Telling.{HallTelling};
+ghost use Rattle.book_dock.specs.Ends.{journal_of};
 ghost use Rattle.command_lines.specs.Commands.{service_of};
-ghost use Rattle.command_lines.specs.Endings.{LetsGo, PutsLine, fault_line, status_line};
-ghost use Rattle.command_lines.specs.Limits.{GivesMore, plan_limit};
+ghost use Rattle.command_lines.specs.Endings.{IsOfWriting, LetsGo, PutsLine, fault_line, status_line};
+ghost use Rattle.command_lines.specs.Limits.{GivesMore, most_desks, plan_limit};
 ghost use Rattle.command_lines.specs.declared.service.Service.{Service};
-ghost use Rattle.floor_online.specs.Doors.{IsEvenOn};
-ghost use Rattle.floor_online.specs.Served.{HasServed, IsFile, MayHavePut};
+ghost use Rattle.floor_online.specs.Doors.{IsEvenOn, failed_text};
+ghost use Rattle.floor_online.specs.Served.{HasFront, HasServed, HasText, IsFile, IsOfServing, MayHavePut};
 
 use crate::doors::{failed_lines, put_lines};
-use crate::holding::hold_at_doors;
+use crate::holding::hold_plan;
 use crate::text::write_text;
+use book_dock::BookEnd;
 use command_lines::{Fault, PLAN_LIMIT, Service};
-use floor_crew::open_floor;
 use floor_text::{Sink, Source};
 use level_plan::Plan;
 use links::Hall;
@@ -46,8 +47,65 @@ fn read_plan<I: Source>(alloc: Global, input: &mut I) -> Result<(Plan, Words), F
     Ok(served_from_toml(alloc, &bytes)?)
 }
 
-/// Reads the plan, opens the floor, holds the tournament at the doors of the hall, and writes the text. Gives the lines
-/// of the doors that failed.
+/// Writes the text of a tournament that was held, and gives the lines of the doors that failed.
+fn write_held<O: Sink>(
+    alloc: Global,
+    end: &BookEnd,
+    failed: &[bool],
+    out: &mut O,
+) -> Result<Vec<u8>, Fault>
+    ensures lines { IfOk result (λ lines. lines.items ≡ failed_text 1 failed.now) }
+    ensures put { OnOk result (HasText (journal_of end.now) (O.written out.old) (O.written out.new)) }
+    ensures front { OnErr result (HasFront (journal_of end.now) (O.written out.old) (O.written out.new)) }
+    ensures let_go { OnOk result (O.held out.new ≡ []) }
+    ensures faults_let_go { IfErr result (λ fault. fault ≢ Fault.Write → LetsGo O.held out.old out.new) }
+    ensures write { IsErrOf result Fault.Write → Rose (O.faults out.old) (O.faults out.new) }
+    ensures others { IfErr result IsOfWriting }
+{
+    let lines = failed_lines(alloc, failed)?;
+    write_text(alloc, end, out)?;
+    Ok(lines)
+}
+
+/// Holds a plan's tournament at the doors of the hall, and writes its text. Gives the lines of the doors that failed.
+fn serve_plan<R: Threads + Wait + Sync, O: Sink, H: Hall, G: Gate + Sync>(
+    rt: &R,
+    alloc: Global,
+    plan: Plan,
+    words: &Words,
+    out: &mut O,
+    hall: &mut H,
+    gate: &G,
+    seed: [u8; 32],
+    asked: Service,
+) -> Result<Vec<u8>, Fault>
+    requires right { IsTrue (is_right plan) }
+    requires desks { (0 < asked.desks) × (asked.desks ≤ most_desks) }
+    ensures served { (left : Option (List ℕ)) → IsFile left plan words.now → IfOk result (λ lines.
+        HasServed H.D.told H.D.faults H.D.L.told H.D.L.faults left seed asked.desks lines.items
+        (record { written = O.written out.old; hall = H.told hall.old })
+        (record { written = O.written out.new; hall = H.told hall.new })) }
+    ensures let_go { OnOk result (O.held out.new ≡ []) }
+    ensures faults_let_go { IfErr result (λ fault. fault ≢ Fault.Write → LetsGo O.held out.old out.new) }
+    ensures doors { IfSome (H.told hall.old)
+        (λ t. (u : HallTelling H.D) × (H.told hall.new ≡ Some u) × IsEvenOn t u) }
+
+    // A front of the tournament's text was put where out failed or memory ran out, and nothing at any other fault.
+    ensures front { (left : Option (List ℕ)) → IsFile left plan words.now
+        → OnErr result (MayHavePut left seed (O.written out.old) (O.written out.new)) }
+    ensures untouched { IfErr result (λ fault. (fault ≡ Fault.Write) ⊎ ((fault ≡ Fault.NoMemory)
+        ⊎ (out.new ≡ out.old))) }
+
+    ensures write { IsErrOf result Fault.Write → Rose (O.faults out.old) (O.faults out.new) }
+    ensures hall { IsErrOf result Fault.Hall → Rose (H.faults hall.old) (H.faults hall.new) }
+    ensures others { IfErr result IsOfServing }
+{
+    let (end, failed) = hold_plan(rt, alloc, plan, words, hall, gate, seed, asked)?;
+    write_held(alloc, &end, &failed, out)
+}
+
+/// Reads the command and the plan, holds the plan's tournament, and writes its text. Gives the lines of the doors that
+/// failed.
 fn run<R: Threads + Wait + Sync, I: Source, O: Sink, H: Hall, G: Gate + Sync>(
     rt: &R,
     alloc: Global,
@@ -89,11 +147,7 @@ fn run<R: Threads + Wait + Sync, I: Source, O: Sink, H: Hall, G: Gate + Sync>(
 {
     let asked = Service::read(words).ok_or(Fault::Usage)?;
     let (plan, words) = read_plan(alloc, input)?;
-    let (floor, crew, room) = open_floor(alloc, plan, seed, asked.desks)?;
-    let (end, failed) = hold_at_doors(rt, alloc, &words, gate, floor, crew, room, hall, asked)?;
-    let lines = failed_lines(alloc, &failed)?;
-    write_text(alloc, &end, out)?;
-    Ok(lines)
+    serve_plan(rt, alloc, plan, &words, out, hall, gate, seed, asked)
 }
 
 /// Serves a tournament over a source, two sinks and a hall, and answers the exit status.
