@@ -1,10 +1,13 @@
-use Rattle.std.proofs.Common.{◌∙◌, sym, ap}
+use Rattle.std.proofs.Common.{◌∙◌, sym, ap, arith}
 use Rattle.std.specs.Prelude.{Err}
 use Rattle.plan_files.specs.Words.{served_of_file}
 use Rattle.command_lines.specs.Limits.{plan_limit}
 use Rattle.command_lines.proofs.Ended.{ended_by, ended_well, plan_of_status}
 use Rattle.floor_online.proofs.Statuses.{file-right, line-told, status-told}
 use Rattle.floor_online.proofs.server.serve.Goals as goal
+
+pub returns-in-Ok-clause-read_fault : goal.returns-in-Ok-clause-read_fault
+returns-in-Ok-clause-read_fault g c = λ three. absurd (omega arith)
 
 pub returns-in-Ok-clause-complete : goal.returns-in-Ok-clause-complete
 returns-in-Ok-clause-complete g c = λ asked is no_read no_write no_hall.
