@@ -1,10 +1,10 @@
 -- What the status of a run tells of its fault and of its input.
-use Rattle.std.proofs.Common.{◌≡◌, ◌∙◌, ℕ, ◌≤◌, refl, sym, ap, inl, inr, List, [], length, arith}
-use Rattle.std.specs.Prelude.{◌⊎◌, ◌==◌, if◌then◌else◌, true, false, Option, Some, None, IfSome, Result, Ok, Err, IsOk, MatchResult}
+use Rattle.std.proofs.Common.{◌≡◌, ◌∙◌, ℕ, ◌≤◌, refl, sym, ap, subst, inl, inr, List, [], length, arith}
+use Rattle.std.specs.Prelude.{◌⊎◌, ◌==◌, if◌then◌else◌, true, false, Option, Some, None, IfErr, IfSome, OnOk, Result, Ok, Err, IsOk, MatchResult}
 use Rattle.level_plan.specs.declared.line.PlanItem.{PlanItem}
 use Rattle.command_lines.specs.declared.fault.Fault.{Fault}
 use Rattle.command_lines.specs.declared.fault.Fault.TheVariants as faults
-use Rattle.command_lines.specs.Endings.{fault_status}
+use Rattle.command_lines.specs.Endings.{fault_line, fault_status, run_status, status_line}
 use Rattle.command_lines.specs.Limits.{GivesMore}
 
 -- The fault of status 6 is an item of the plan.
@@ -39,6 +39,63 @@ pub same_fault : (fault other : Fault) → fault_status fault ≡ fault_status o
     → fault ≡ other
 same_fault fault other same no_plan =
     fault_of_status fault (λ six. no_plan (sym same ∙ six)) ∙ ap fault_at same ∙ sym (fault_of_status other no_plan)
+
+-- no fault has the status of a run that ended well
+no_zero : (fault : Fault) → fault_status fault ≡ 0 → ⊥
+no_zero faults.Usage is = omega arith
+no_zero faults.Read is = omega arith
+no_zero faults.Write is = omega arith
+no_zero faults.NoMemory is = omega arith
+no_zero (faults.Plan item) is = omega arith
+no_zero faults.Hall is = omega arith
+no_zero faults.InputTooLong is = omega arith
+
+line_of_fault : (fault : Fault) → (fault_status fault ≡ 6 → ⊥) → fault_line fault ≡ status_line (fault_status fault)
+line_of_fault faults.Usage other = refl
+line_of_fault faults.Read other = refl
+line_of_fault faults.Write other = refl
+line_of_fault faults.NoMemory other = refl
+line_of_fault (faults.Plan item) other = absurd (other refl)
+line_of_fault faults.Hall other = refl
+line_of_fault faults.InputTooLong other = refl
+
+ended_at_zero : (ran : Result (Unit {0}) Fault) → run_status ran ≡ 0 → {P : Type 0} → OnOk ran P → P
+ended_at_zero (Ok value) zero holds = holds
+ended_at_zero (Err fault) zero holds = absurd (no_zero fault zero)
+
+ended_at_fault : (ran : Result (Unit {0}) Fault) (fault : Fault) → run_status ran ≡ fault_status fault
+    → (fault_status fault ≡ 6 → ⊥) → ran ≡ Err fault
+ended_at_fault (Ok value) fault same no_plan = absurd (no_zero fault (sym same))
+ended_at_fault (Err other) fault same no_plan = ap Err (same_fault other fault same no_plan)
+
+ended_at_six : (ran : Result (Unit {0}) Fault) → run_status ran ≡ 6 → (item : PlanItem) × (ran ≡ Err (faults.Plan item))
+ended_at_six (Ok value) six = absurd (omega arith)
+ended_at_six (Err fault) six = let wrong = plan_of_status fault six in (wrong.0, ap Err wrong.1)
+
+line_at : (P : List ℕ → Type 0) (ran : Result (Unit {0}) Fault) → IfErr ran (λ fault. P (fault_line fault))
+    → (run_status ran ≡ 0 → ⊥) → (run_status ran ≡ 6 → ⊥) → P (status_line (run_status ran))
+line_at P (Ok value) told failed no_plan = absurd (failed refl)
+line_at P (Err fault) told failed no_plan = subst P (line_of_fault fault no_plan) told
+
+-- A run that ended with a status.
+module _ (ran : Result (Unit {0}) Fault) (status : ℕ) (is : status ≡ run_status ran) where
+  -- Where it is 0, it ended well.
+  pub at_zero : {P : Type 0} → OnOk ran P → status ≡ 0 → P
+  at_zero holds zero = ended_at_zero ran (sym is ∙ zero) holds
+
+  -- Where it is that of a fault, but of a wrong plan, it ended by that fault.
+  pub at_fault : (fault : Fault) → status ≡ fault_status fault → (fault_status fault ≡ 6 → ⊥) → ran ≡ Err fault
+  at_fault fault same no_plan = ended_at_fault ran fault (sym is ∙ same) no_plan
+
+  -- Where it is 6, it ended by an item of the plan.
+  pub at_six : status ≡ 6 → (item : PlanItem) × (ran ≡ Err (faults.Plan item))
+  at_six six = ended_at_six ran (sym is ∙ six)
+
+  -- Where it is neither, the line of its fault is that of the status.
+  pub at_line : (P : List ℕ → Type 0) → IfErr ran (λ fault. P (fault_line fault)) → (status ≡ 0 → ⊥)
+      → (status ≡ 6 → ⊥) → P (status_line status)
+  at_line P told failed no_plan = subst (λ now. P (status_line now)) (sym is)
+      (line_at P ran told (λ zero. failed (is ∙ zero)) (λ six. no_plan (is ∙ six)))
 
 -- A status tells what an input is read as: 0 that it is right, 6 that an item of its plan is wrong, and 5 nothing.
 abbrev pub Tells : {A : Type 0} → ℕ → Result A PlanItem → Type 0

@@ -1,5 +1,5 @@
 -- How a run ends. This project's own.
-use Rattle.std.specs.Prelude.{◌≡◌, ℕ, ◌==◌, ◌⊎◌, List, [], ◌∷◌, ◌++◌, take, codes, Option, Some, if◌then◌else◌}
+use Rattle.std.specs.Prelude.{◌≡◌, ℕ, ◌==◌, ◌⊎◌, List, [], ◌∷◌, ◌++◌, take, codes, Option, Some, Result, Ok, Err, if◌then◌else◌}
 use Rattle.floor_text.specs.Outside.{Rose}
 use Rattle.floor_events.specs.Spelling.{item_word}
 use Rattle.floor_text.specs.declared.line_reader.ReadEnd.{ReadEnd}
@@ -20,6 +20,11 @@ fault_status faults.NoMemory = 5
 fault_status (faults.Plan item) = 6
 fault_status faults.Hall = 7
 fault_status faults.InputTooLong = 8
+
+-- the exit status of a run
+abbrev pub run_status : Result (Unit {0}) Fault → ℕ
+run_status (Ok value) = 0
+run_status (Err fault) = fault_status fault
 
 -- the line that tells a fault
 abbrev pub fault_line : Fault → List ℕ
