@@ -72,6 +72,17 @@ ended_at_six : (ran : Result (Unit {0}) Fault) → run_status ran ≡ 6 → (ite
 ended_at_six (Ok value) six = absurd (omega arith)
 ended_at_six (Err fault) six = let wrong = plan_of_status fault six in (wrong.0, ap Err wrong.1)
 
+ended_otherwise : {P : Type 0} (ran : Result (Unit {0}) Fault)
+    → ((fault : Fault) → ran ≡ Err fault → (fault ≡ faults.Write → ⊥) → P) → (run_status ran ≡ 0 → ⊥)
+    → (run_status ran ≡ 4 → ⊥) → P
+ended_otherwise (Ok value) others failed no_write = absurd (failed refl)
+ended_otherwise (Err fault) others failed no_write = others fault refl (λ write. no_write (ap fault_status write))
+
+ended_let_go : {P : Type 0} (ran : Result (Unit {0}) Fault) → OnOk ran P
+    → ((fault : Fault) → ran ≡ Err fault → (fault ≡ faults.Write → ⊥) → P) → (run_status ran ≡ 4 → ⊥) → P
+ended_let_go (Ok value) well others no_write = well
+ended_let_go (Err fault) well others no_write = others fault refl (λ write. no_write (ap fault_status write))
+
 line_at : (P : List ℕ → Type 0) (ran : Result (Unit {0}) Fault) → IfErr ran (λ fault. P (fault_line fault))
     → (run_status ran ≡ 0 → ⊥) → (run_status ran ≡ 6 → ⊥) → P (status_line (run_status ran))
 line_at P (Ok value) told failed no_plan = absurd (failed refl)
@@ -91,7 +102,18 @@ module _ (ran : Result (Unit {0}) Fault) (status : ℕ) (is : status ≡ run_sta
   pub at_six : status ≡ 6 → (item : PlanItem) × (ran ≡ Err (faults.Plan item))
   at_six six = ended_at_six ran (sym is ∙ six)
 
-  -- Where it is neither, the line of its fault is that of the status.
+  -- Where it is neither 0 nor that of a write fault, it ended by another fault.
+  pub at_other : {P : Type 0} → ((fault : Fault) → ran ≡ Err fault → (fault ≡ faults.Write → ⊥) → P)
+      → (status ≡ 0 → ⊥) → (status ≡ 4 → ⊥) → P
+  at_other others failed no_write =
+      ended_otherwise ran others (λ zero. failed (is ∙ zero)) (λ four. no_write (is ∙ four))
+
+  -- Where it is not that of a write fault, it ended well or by another fault.
+  pub at_no_write : {P : Type 0} → OnOk ran P → ((fault : Fault) → ran ≡ Err fault → (fault ≡ faults.Write → ⊥) → P)
+      → (status ≡ 4 → ⊥) → P
+  at_no_write well others no_write = ended_let_go ran well others (λ four. no_write (is ∙ four))
+
+  -- Where it is neither 0 nor that of a wrong plan, the line of its fault is that of the status.
   pub at_line : (P : List ℕ → Type 0) → IfErr ran (λ fault. P (fault_line fault)) → (status ≡ 0 → ⊥)
       → (status ≡ 6 → ⊥) → P (status_line status)
   at_line P told failed no_plan = subst (λ now. P (status_line now)) (sym is)
@@ -148,3 +170,16 @@ module _ {A : Type 0} (limit : ℕ) (read_as : List ℕ → Result A PlanItem) w
   ended_by (faults.Plan item) left rest usage hall read write more plan = planned item left rest (plan item refl)
   ended_by faults.Hall left rest usage hall read write more plan = absurd (hall refl)
   ended_by faults.InputTooLong left rest usage hall read write more plan = too_long 8 left rest (more refl)
+
+  -- What the status of a run tells, whether it ended well or by a fault.
+  pub ended : (ran : Result (Unit {0}) Fault) (left rest : Option (List ℕ))
+      → OnOk ran (IfSome left (λ bytes. IsOk (read_as bytes)))
+      → (ran ≡ Err faults.Usage → ⊥) → (ran ≡ Err faults.Hall → ⊥) → (ran ≡ Err faults.Read → ⊥)
+      → (ran ≡ Err faults.Write → ⊥) → (ran ≡ Err faults.InputTooLong → GivesMore limit left rest)
+      → ((item : PlanItem) → ran ≡ Err (faults.Plan item)
+      → IfSome left (λ bytes. (read_as bytes ≡ Err item) × (rest ≡ Some [])))
+      → IfSome left (λ bytes. length bytes ≤ limit → Tells (run_status ran) (read_as bytes))
+  ended (Ok value) left rest right usage hall read write more plan = ended_well left right
+  ended (Err fault) left rest right usage hall read write more plan =
+      ended_by fault left rest (λ is. usage (ap Err is)) (λ is. hall (ap Err is)) (λ is. read (ap Err is))
+      (λ is. write (ap Err is)) (λ is. more (ap Err is)) (λ item is. plan item (ap Err is))
