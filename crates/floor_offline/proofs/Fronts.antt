@@ -5,10 +5,10 @@ use Rattle.command_lines.specs.declared.command.Command.{Command}
 use Rattle.command_lines.specs.declared.command.Command.TheVariants.{Replay, View, Simulate}
 use Rattle.command_lines.specs.declared.fault.Fault.TheVariants as faults
 use Rattle.floor_offline.specs.Commands.{telling_of, text_of}
-use Rattle.floor_offline.specs.Promise.{IsToldOf, TakesAndPuts}
-use Rattle.floor_offline.proofs.AnswersTold.{stream_answered}
-use Rattle.floor_offline.proofs.Running.{both_from}
-use Rattle.floor_offline.proofs.ViewTold.{stream_seen}
+use Rattle.line_tellers.specs.Promise.{IsToldOf, TakesAndPuts}
+use Rattle.line_tellers.proofs.AnswersTold.{stream_answered}
+use Rattle.line_tellers.proofs.Running.{both_from}
+use Rattle.line_tellers.proofs.ViewTold.{stream_seen}
 use Rattle.replay_rules.specs.Replay.{replay_text}
 use Rattle.view_rules.specs.Views.{view_text}
 

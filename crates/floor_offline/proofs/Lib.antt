@@ -1,7 +1,2 @@
-pub mod Promises
-pub mod Running
-pub mod Counted
-pub mod AnswersTold
-pub mod ViewTold
 pub mod Fronts
-pub mod AtErrors
+pub mod Statuses

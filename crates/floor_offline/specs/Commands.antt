@@ -8,8 +8,8 @@ use Rattle.view_rules.specs.Views.{view_text}
 use Rattle.command_lines.specs.declared.command.Command.{Command}
 use Rattle.command_lines.specs.declared.command.Command.TheVariants.{Replay, View, Simulate}
 use Rattle.command_lines.specs.Limits.{plan_limit}
-use Rattle.floor_offline.specs.Limits.{input_limit}
-use Rattle.floor_offline.specs.Told.{Telling, answers_told, lines_seen}
+use Rattle.line_tellers.specs.Limits.{input_limit}
+use Rattle.line_tellers.specs.Told.{Telling, answers_told, lines_seen}
 
 -- The most bytes that the input of a command may have.
 abbrev pub limit_of : Command → ℕ

@@ -1,6 +1,1 @@
-pub mod Limits
-pub mod Handed
-pub mod Told
-pub mod Promise
-pub mod Runs
 pub mod Commands

@@ -8,18 +8,16 @@ ghost use Rattle.floor_offline.specs.Commands.{IsPut, limit_of, telling_of, text
 ghost use Rattle.command_lines.specs.Commands.{command_of};
 ghost use Rattle.command_lines.specs.Endings.{LetsGo, PutsLine, fault_line, status_line};
 ghost use Rattle.command_lines.specs.Limits.{GivesMore};
-ghost use Rattle.floor_offline.specs.Limits.{input_limit};
-ghost use Rattle.floor_offline.specs.Promise.{TakesAndPuts, IsToldOf};
-ghost use Rattle.floor_offline.specs.Told.{ended_told, lines_told};
+ghost use Rattle.line_tellers.specs.Limits.{input_limit};
+ghost use Rattle.line_tellers.specs.Promise.{TakesAndPuts, IsToldOf};
+ghost use Rattle.line_tellers.specs.Told.{ended_told, lines_told};
 ghost use Rattle.command_lines.specs.declared.command.Command.{Command};
 ghost use Rattle.command_lines.specs.declared.command.Command.TheVariants.{Simulate};
 
-use crate::lines::close;
-use crate::replay::replay;
 use crate::simulate::simulate;
-use crate::view::view;
-use command_lines::{Command, Fault};
+use command_lines::{Command, Fault, finish};
 use floor_text::{Sink, Source};
+use line_tellers::{close, replay, view};
 use std::alloc::Global;
 
 /// Carries a command out.
@@ -174,8 +172,5 @@ pub fn run_offline<I: Source, O: Sink, E: Sink>(
     let Some(command) = Command::read(words) else {
         return Fault::Usage.tell(err);
     };
-    match carry_out(alloc, command, input, out) {
-        Ok(()) => 0,
-        Err(fault) => fault.tell(err),
-    }
+    finish(carry_out(alloc, command, input, out), err)
 }

@@ -1,4 +1,4 @@
-use Rattle.floor_offline.specs.Told.{answers_told, lines_seen}
+use Rattle.line_tellers.specs.Told.{answers_told, lines_seen}
 use Rattle.floor_offline.proofs.run.carry_out.Goals as goal
 
 pub returns-in-Replay-clause-told : goal.returns-in-Replay-clause-told

@@ -1,4 +1,4 @@
-use Rattle.floor_offline.proofs.AtErrors.{no_ok}
+use Rattle.line_tellers.proofs.AtErrors.{no_ok}
 use Rattle.floor_offline.proofs.simulate.simulate.Goals as goal
 
 pub returns-in_err-bytes-clause-end : goal.returns-in_err-bytes-clause-end
