@@ -73,7 +73,7 @@ fn next_line<I: Source>(reader: &mut LineReader, input: &mut I) -> Result<Next, 
 /// Tells of a line that was handed out, and hands out the next one. Where the input came to its end behind that line,
 /// it is asked no more. `out` may hold what is told back only where the next line is at hand: whoever sends lines has
 /// what is told of each before the program waits.
-#[tactic(auto, using(crate::proofs::Counted::counted_item, crate::proofs::Counted::valid_item))]
+#[tactic(auto, using(crate::proofs::Counted::counted_item))]
 fn tell_next<T: LineTeller, I: Source, O: Sink>(
     alloc: Global,
     reader: &mut LineReader,

@@ -1,4 +1,4 @@
-use Rattle.std.proofs.Common.{◌≡◌, ◌∙◌, sym, ap, subst, refl, []}
+use Rattle.std.proofs.Common.{◌≡◌, ◌∙◌, sym, ap, subst, refl, [], rules}
 use Rattle.std.specs.Prelude.{Ok}
 use Rattle.floor_text.specs.LineReader.{lines_of_next}
 use Rattle.floor_text.specs.Reading.{Reading}
@@ -7,8 +7,9 @@ use Rattle.line_tellers.specs.Handed.{item_of_next}
 use Rattle.line_tellers.specs.Promise.{IsTelling}
 use Rattle.replay_rules.specs.Replay.{state_after_item}
 use Rattle.line_tellers.proofs.AtErrors.{no_ok}
+use Rattle.line_tellers.proofs.Counted.{valid_item}
 use Rattle.line_tellers.proofs.Promises.{fail_line, hold_line, holds_a_line, tell_line, told_front}
-use Rattle.line_tellers.proofs.Running.{err_so}
+use Rattle.line_tellers.proofs.Running.{err_so, on_ok}
 use Rattle.line_tellers.proofs.lines.tell_next.Goals as goal
 
 pub returns-in_err-take-clause-told : goal.returns-in_err-take-clause-told
@@ -98,3 +99,19 @@ returns-in_err-put-clause-counted g c = no_ok c.from_residual-in_err-put.result 
 
 pub returns-in_err-put-clause-valid : goal.returns-in_err-put-clause-valid
 returns-in_err-put-clause-valid g c = no_ok c.from_residual-in_err-put.result _ _ c.from_residual-in_err-put.ensures.1
+
+pub returns-in-None-2-clause-asks : goal.returns-in-None-2-clause-asks
+returns-in-None-2-clause-asks g c = search rules
+
+pub returns-in-None-2-clause-let_go : goal.returns-in-None-2-clause-let_go
+returns-in-None-2-clause-let_go g c = search rules
+
+pub returns-in-Some-clause-valid : goal.returns-in-Some-clause-valid
+returns-in-Some-clause-valid g c = rw c.in_ok-take.ensures.state (valid_item c.args.tournament.now _ c.requires.valid)
+
+pub returns-in-None-clause-valid : goal.returns-in-None-clause-valid
+returns-in-None-clause-valid g c = rw c.in_ok-take.ensures.state (valid_item c.args.tournament.now _ c.requires.valid)
+
+pub returns-in-None-2-clause-valid : goal.returns-in-None-2-clause-valid
+returns-in-None-2-clause-valid g c = on_ok c.next_line.result
+    (rw c.in_ok-take.ensures.state (valid_item c.args.tournament.now _ c.requires.valid))
