@@ -18,7 +18,7 @@ use crate::doors::{failed_lines, put_lines};
 use crate::holding::hold_plan;
 use crate::text::write_text;
 use book_dock::BookEnd;
-use command_lines::{Fault, PLAN_LIMIT, Service};
+use command_lines::{Fault, PLAN_LIMIT, Service, finish};
 use floor_text::{Sink, Source};
 use level_plan::Plan;
 use links::Hall;
@@ -242,8 +242,8 @@ pub fn serve<R: Threads + Wait + Sync, I: Source, O: Sink, E: Sink, H: Hall, G: 
     match run(rt, alloc, words, input, out, hall, gate, seed) {
         Ok(lines) => {
             put_lines(&lines, err);
-            0
+            finish(Ok(()), err)
         }
-        Err(fault) => fault.tell(err),
+        Err(fault) => finish(Err(fault), err),
     }
 }
