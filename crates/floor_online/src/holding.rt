@@ -54,8 +54,8 @@ fn hold_at_doors<R: Threads + Wait + Sync, H: Hall, G: Gate + Sync>(
     Ok((end, failed))
 }
 
-/// Opens the floor of a plan's tournament, and holds the tournament at the doors of the hall. Gives the journal with its
-/// book, and of each door whether it failed.
+/// Opens the floor of a plan's tournament, and holds the tournament at the doors of the hall. Gives the journal with
+/// its book, and of each door whether it failed.
 pub(crate) fn hold_plan<R: Threads + Wait + Sync, H: Hall, G: Gate + Sync>(
     rt: &R,
     alloc: Global,

@@ -3,7 +3,8 @@
 //!
 //! It stands on command_lines, plan_files, links, floor_crew and what these stand on. `serve` is the whole server over
 //! any source, sinks and hall, and its contract says what the server promises: what it wrote is the text of one legal
-//! tournament, of which each client was told. The laws of floor_crew say more of that text and of what clients are told.
+//! tournament, of which each client was told. The laws of floor_crew say more of that text, and of what clients are
+//! told.
 //!
 //! | file | what is in it |
 //! |---|---|
