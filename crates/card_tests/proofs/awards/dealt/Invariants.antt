@@ -1,5 +1,0 @@
-use Rattle.showdown.specs.Hands.{AreDealtApart}
-use Rattle.card_tests.proofs.awards.dealt.Given as goal
-
-abbrev pub invariant-loop-seat : goal.invariant-loop-seat
-invariant-loop-seat g l = AreDealtApart l.game l.board l.live
