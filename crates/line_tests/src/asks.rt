@@ -1,10 +1,12 @@
+//! What the clients of a session say, and what they are replied.
+
+use super::events::{Told, told_act};
+use super::texts::is_same;
 use dock_rules::Ask;
 use floor_text::{Name, Refusal};
-use line_words::{Word, act_word, push_words, switch_word};
 use plan_files::{Words, served_from_toml};
 use session_lines::{LONGEST_REPLY, Meaning, Reply, ReplyText, Request, Speaker, read_line};
 use std::alloc::{AllocError, Global};
-use std::test::Fail;
 
 /// A plan file with the words of the floor, ann and Bob_2.
 const FILE: &str = "game = \"holdem\"
@@ -19,252 +21,243 @@ floor_word = \"tower7\"
 words = { ann = \"a1\", Bob_2 = \"B2\" }
 ";
 
-fn push_order(out: &mut Vec<u8>, ask: &Ask) -> Result<(), AllocError> {
+/// A line, and what it means: a word for that, numbers, and a name or nothing. An act is told by its place in the
+/// grammar and its amount or 0, and a switch by 1 or 0.
+type Line = (&'static [u8], &'static [u8], &'static [u64], &'static [u8]);
+
+/// Who speaks, his lines, and what a line of his that is too long means.
+struct Lines {
+    speaker: &'static [u8],
+    lines: &'static [Line],
+    too_long: &'static [u8],
+}
+
+static SPEAKERS: [Lines; 3] = [
+    // before a right hello
+    Lines {
+        speaker: b"",
+        lines: &[
+            (b"hello ann a1", b"player", &[], b"ann"),
+            (b"hello Bob_2 B2", b"player", &[], b"Bob_2"),
+            (b"hello floor tower7", b"floor", &[], b""),
+            (b"quit", b"quits", &[], b""),
+            // another's word, or nobody's
+            (b"hello ann B2", b"who", &[], b""),
+            (b"hello ann tower7", b"who", &[], b""),
+            (b"hello ann A1", b"who", &[], b""),
+            (b"hello ann a", b"who", &[], b""),
+            (b"hello ann a12", b"who", &[], b""),
+            (b"hello floor a1", b"who", &[], b""),
+            (b"hello floor B2", b"who", &[], b""),
+            (b"hello floor floor", b"who", &[], b""),
+            // a name without a word
+            (b"hello cat a1", b"who", &[], b""),
+            (b"hello Ann a1", b"who", &[], b""),
+            (b"hello bob_2 B2", b"who", &[], b""),
+            (b"hello Floor tower7", b"who", &[], b""),
+            // other words
+            (b"", b"who", &[], b""),
+            (b"hello", b"who", &[], b""),
+            (b"hello ann", b"who", &[], b""),
+            (b"hello  ann a1", b"who", &[], b""),
+            (b"hello ann  a1", b"who", &[], b""),
+            (b"hello ann a1 ", b"who", &[], b""),
+            (b" hello ann a1", b"who", &[], b""),
+            (b"hello ann a1\r", b"who", &[], b""),
+            (b"Hello ann a1", b"who", &[], b""),
+            (b"Quit", b"who", &[], b""),
+            (b"quit ", b"who", &[], b""),
+            (b"watch 1", b"who", &[], b""),
+            (b"* a note", b"who", &[], b""),
+        ],
+        too_long: b"who",
+    },
+    // the floor behind its hello
+    Lines {
+        speaker: b"floor",
+        lines: &[
+            (b"quit", b"quits", &[], b""),
+            (b"watch 1", b"watch", &[1], b""),
+            (b"watch 0", b"watch", &[0], b""),
+            (
+                b"watch 9007199254740991",
+                b"watch",
+                &[9_007_199_254_740_991],
+                b"",
+            ),
+            (b"time 2", b"time", &[2], b""),
+            (b"enter ann 1 4", b"enter", &[1, 4], b"ann"),
+            (b"enter cat 0 77", b"enter", &[0, 77], b"cat"),
+            (b"balance 1 2", b"balance", &[1, 2], b""),
+            (b"break 3", b"break", &[3], b""),
+            (b"level", b"level", &[], b""),
+            (b"race 2", b"race", &[2], b""),
+            (b"hands on", b"hands", &[1], b""),
+            (b"hands off", b"hands", &[0], b""),
+            (b"round", b"round", &[], b""),
+            (b"stop", b"stop", &[], b""),
+            (b"next", b"next", &[], b""),
+            // what a player asks for
+            (b"act 1 fold", b"-", &[], b""),
+            (b"act 1 ann fold", b"-", &[], b""),
+            // a second hello
+            (b"hello floor tower7", b"-", &[], b""),
+            (b"hello ann a1", b"-", &[], b""),
+            // what is filled in, or goes by itself
+            (b"break 3 1.2 cat", b"-", &[], b""),
+            (b"begin 1", b"-", &[], b""),
+            (b"settle 1", b"-", &[], b""),
+            (b"go", b"-", &[], b""),
+            (b"* a note", b"-", &[], b""),
+            // other words
+            (b"", b"-", &[], b""),
+            (b"watch", b"-", &[], b""),
+            (b"watch 1 2", b"-", &[], b""),
+            (b"watch 01", b"-", &[], b""),
+            (b"watch 9007199254740992", b"-", &[], b""),
+            (b"time", b"-", &[], b""),
+            (b"enter ann 1", b"-", &[], b""),
+            (b"enter floor 1 1", b"-", &[], b""),
+            (b"enter ann  1 1", b"-", &[], b""),
+            (b"enter ann 1 1\r", b"-", &[], b""),
+            (b"balance 1", b"-", &[], b""),
+            (b"level 2", b"-", &[], b""),
+            (b"hands On", b"-", &[], b""),
+            (b"stop ", b"-", &[], b""),
+            (b"next 1", b"-", &[], b""),
+            (b"next order", b"-", &[], b""),
+        ],
+        too_long: b"-",
+    },
+    // ann behind her hello
+    Lines {
+        speaker: b"ann",
+        lines: &[
+            (b"quit", b"quits", &[], b""),
+            (b"watch 3", b"watch", &[3], b""),
+            (b"watch 65", b"watch", &[65], b""),
+            (b"act 1 fold", b"act", &[1, 0, 0], b"ann"),
+            (b"act 2 check", b"act", &[2, 1, 0], b"ann"),
+            (b"act 3 call", b"act", &[3, 2, 0], b"ann"),
+            (b"act 64 allin", b"act", &[64, 3, 0], b"ann"),
+            (b"act 1 bet 200", b"act", &[1, 4, 200], b"ann"),
+            (b"act 0 raise 0", b"act", &[0, 5, 0], b"ann"),
+            // another's act, or her own with her name
+            (b"act 1 bob fold", b"-", &[], b""),
+            (b"act 1 ann fold", b"-", &[], b""),
+            // what the floor asks for
+            (b"enter ann 1 1", b"-", &[], b""),
+            (b"time 1", b"-", &[], b""),
+            (b"balance 1 2", b"-", &[], b""),
+            (b"break 3", b"-", &[], b""),
+            (b"level", b"-", &[], b""),
+            (b"race 1", b"-", &[], b""),
+            (b"hands on", b"-", &[], b""),
+            (b"hands off", b"-", &[], b""),
+            (b"round", b"-", &[], b""),
+            (b"stop", b"-", &[], b""),
+            (b"next", b"-", &[], b""),
+            // a second hello
+            (b"hello ann a1", b"-", &[], b""),
+            (b"hello floor tower7", b"-", &[], b""),
+            (b"hello ann B2", b"-", &[], b""),
+            // other words
+            (b"", b"-", &[], b""),
+            (b"* a note", b"-", &[], b""),
+            (b"watch one", b"-", &[], b""),
+            (b"act 1", b"-", &[], b""),
+            (b"act fold", b"-", &[], b""),
+            (b"act 1 bet", b"-", &[], b""),
+            (b"act 1 bet 0200", b"-", &[], b""),
+            (b"act 1 fold 1", b"-", &[], b""),
+            (b"act  1 fold", b"-", &[], b""),
+            (b"act 1 fold ", b"-", &[], b""),
+        ],
+        too_long: b"-",
+    },
+];
+
+/// Tells what the floor asks for.
+fn told_order(ask: &Ask) -> Told<'_> {
     match ask {
-        Ask::Enter { name, table, seat } => push_words(
-            out,
-            &[
-                Word::Text(b"enter"),
-                Word::Text(name.bytes()),
-                Word::Number(*table),
-                Word::Number(*seat),
-            ],
-        ),
-        Ask::Balance { from, to } => push_words(
-            out,
-            &[
-                Word::Text(b"balance"),
-                Word::Number(*from),
-                Word::Number(*to),
-            ],
-        ),
-        Ask::Break { table } => push_words(out, &[Word::Text(b"break"), Word::Number(*table)]),
-        Ask::Level => push_words(out, &[Word::Text(b"level")]),
-        Ask::Race { table } => push_words(out, &[Word::Text(b"race"), Word::Number(*table)]),
-        Ask::Hands(on) => push_words(out, &[Word::Text(b"hands"), Word::Text(switch_word(*on))]),
-        Ask::Round => push_words(out, &[Word::Text(b"round")]),
-        Ask::Stop => push_words(out, &[Word::Text(b"stop")]),
-        Ask::NextOrder => push_words(out, &[Word::Text(b"next")]),
+        Ask::Enter { name, table, seat } => (b"enter", [*table, *seat, 0, 0, 0], name.bytes()),
+        Ask::Balance { from, to } => (b"balance", [*from, *to, 0, 0, 0], b""),
+        Ask::Break { table } => (b"break", [*table, 0, 0, 0, 0], b""),
+        Ask::Level => (b"level", [0; 5], b""),
+        Ask::Race { table } => (b"race", [*table, 0, 0, 0, 0], b""),
+        Ask::Hands(on) => (b"hands", [u64::from(*on), 0, 0, 0, 0], b""),
+        Ask::Round => (b"round", [0; 5], b""),
+        Ask::Stop => (b"stop", [0; 5], b""),
+        Ask::NextOrder => (b"next", [0; 5], b""),
     }
 }
 
-fn push_request(out: &mut Vec<u8>, request: &Request) -> Result<(), AllocError> {
-    match request {
-        Request::Watch(table) => push_words(out, &[Word::Text(b"watch"), Word::Number(*table)]),
-        Request::Act { table, name, act } => {
-            let (word, amount) = act_word(*act);
-            push_words(
-                out,
-                &[
-                    Word::Text(b"act"),
-                    Word::Number(*table),
-                    Word::Text(name.bytes()),
-                    Word::Text(word),
-                    Word::Number(amount.unwrap_or(0)),
-                ],
-            )
-        }
-        Request::Time(table) => push_words(out, &[Word::Text(b"time"), Word::Number(*table)]),
-        Request::Order(ask) => push_order(out, ask),
-    }
-}
-
-/// Writes a meaning in words. An act without an amount has a 0.
-fn push_meaning(out: &mut Vec<u8>, meaning: &Meaning) -> Result<(), AllocError> {
+/// Tells what a line means.
+fn told(meaning: &Meaning) -> Told<'_> {
     match meaning {
-        Meaning::Quit => push_words(out, &[Word::Text(b"quits")]),
-        Meaning::Hello(Speaker::Floor) => push_words(out, &[Word::Text(b"floor")]),
-        Meaning::Hello(Speaker::Player(name)) => push_words(out, &[Word::Text(name.bytes())]),
-        Meaning::Stranger => push_words(out, &[Word::Text(b"who")]),
-        Meaning::Nonsense => push_words(out, &[Word::Text(b"-")]),
-        Meaning::Asks(request) => push_request(out, request),
+        Meaning::Quit => (b"quits", [0; 5], b""),
+        Meaning::Hello(Speaker::Floor) => (b"floor", [0; 5], b""),
+        Meaning::Hello(Speaker::Player(name)) => (b"player", [0; 5], name.bytes()),
+        Meaning::Stranger => (b"who", [0; 5], b""),
+        Meaning::Nonsense => (b"-", [0; 5], b""),
+        Meaning::Asks(Request::Watch(table)) => (b"watch", [*table, 0, 0, 0, 0], b""),
+        Meaning::Asks(Request::Act { table, name, act }) => {
+            let (kind, amount) = told_act(*act);
+            (b"act", [*table, kind, amount, 0, 0], name.bytes())
+        }
+        Meaning::Asks(Request::Time(table)) => (b"time", [*table, 0, 0, 0, 0], b""),
+        Meaning::Asks(Request::Order(ask)) => told_order(ask),
     }
 }
 
-/// What a line means, in words.
-fn told(
-    alloc: Global,
+/// Gives who speaks, by the word for him.
+fn speaker_of(word: &[u8]) -> Option<Speaker> {
+    match word {
+        b"floor" => Some(Speaker::Floor),
+        _ => Name::read(word).map(Speaker::Player),
+    }
+}
+
+/// Tells whether a line of a speaker means this.
+fn means(
     words: &Words,
-    speaker: Option<Speaker>,
+    speaker: &[u8],
     line: Option<&[u8]>,
-) -> Result<Vec<u8>, AllocError> {
-    let mut out = Vec::new(alloc);
-    push_meaning(&mut out, &read_line(words, speaker, line))?;
-    Ok(out)
+    right: (&[u8], &[u64], &[u8]),
+) -> bool {
+    let meaning = read_line(words, speaker_of(speaker), line);
+    let told = told(&meaning);
+    is_same(told.0, right.0) && told.1.starts_with(right.1) && is_same(told.2, right.2)
 }
 
-/// Lines before a right hello.
-static NOBODY: [(&[u8], &[u8]); 29] = [
-    (b"hello ann a1", b"ann"),
-    (b"hello Bob_2 B2", b"Bob_2"),
-    (b"hello floor tower7", b"floor"),
-    (b"quit", b"quits"),
-    // another's word, or nobody's
-    (b"hello ann B2", b"who"),
-    (b"hello ann tower7", b"who"),
-    (b"hello ann A1", b"who"),
-    (b"hello ann a", b"who"),
-    (b"hello ann a12", b"who"),
-    (b"hello floor a1", b"who"),
-    (b"hello floor B2", b"who"),
-    (b"hello floor floor", b"who"),
-    // a name without a word
-    (b"hello cat a1", b"who"),
-    (b"hello Ann a1", b"who"),
-    (b"hello bob_2 B2", b"who"),
-    (b"hello Floor tower7", b"who"),
-    // other words
-    (b"", b"who"),
-    (b"hello", b"who"),
-    (b"hello ann", b"who"),
-    (b"hello  ann a1", b"who"),
-    (b"hello ann  a1", b"who"),
-    (b"hello ann a1 ", b"who"),
-    (b" hello ann a1", b"who"),
-    (b"hello ann a1\r", b"who"),
-    (b"Hello ann a1", b"who"),
-    (b"Quit", b"who"),
-    (b"quit ", b"who"),
-    (b"watch 1", b"who"),
-    (b"* a note", b"who"),
-];
-
-/// Lines of the floor behind its hello.
-static FLOOR: [(&[u8], &[u8]); 41] = [
-    (b"quit", b"quits"),
-    (b"watch 1", b"watch 1"),
-    (b"watch 0", b"watch 0"),
-    (b"watch 9007199254740991", b"watch 9007199254740991"),
-    (b"time 2", b"time 2"),
-    (b"enter ann 1 4", b"enter ann 1 4"),
-    (b"enter cat 0 77", b"enter cat 0 77"),
-    (b"balance 1 2", b"balance 1 2"),
-    (b"break 3", b"break 3"),
-    (b"level", b"level"),
-    (b"race 2", b"race 2"),
-    (b"hands on", b"hands on"),
-    (b"hands off", b"hands off"),
-    (b"round", b"round"),
-    (b"stop", b"stop"),
-    (b"next", b"next"),
-    // what a player asks for
-    (b"act 1 fold", b"-"),
-    (b"act 1 ann fold", b"-"),
-    // a second hello
-    (b"hello floor tower7", b"-"),
-    (b"hello ann a1", b"-"),
-    // what is filled in, or goes by itself
-    (b"break 3 1.2 cat", b"-"),
-    (b"begin 1", b"-"),
-    (b"settle 1", b"-"),
-    (b"go", b"-"),
-    (b"* a note", b"-"),
-    // other words
-    (b"", b"-"),
-    (b"watch", b"-"),
-    (b"watch 1 2", b"-"),
-    (b"watch 01", b"-"),
-    (b"watch 9007199254740992", b"-"),
-    (b"time", b"-"),
-    (b"enter ann 1", b"-"),
-    (b"enter floor 1 1", b"-"),
-    (b"enter ann  1 1", b"-"),
-    (b"enter ann 1 1\r", b"-"),
-    (b"balance 1", b"-"),
-    (b"level 2", b"-"),
-    (b"hands On", b"-"),
-    (b"stop ", b"-"),
-    (b"next 1", b"-"),
-    (b"next order", b"-"),
-];
-
-/// Lines of ann behind her hello.
-static ANN: [(&[u8], &[u8]); 35] = [
-    (b"quit", b"quits"),
-    (b"watch 3", b"watch 3"),
-    (b"watch 65", b"watch 65"),
-    (b"act 1 fold", b"act 1 ann fold 0"),
-    (b"act 2 check", b"act 2 ann check 0"),
-    (b"act 3 call", b"act 3 ann call 0"),
-    (b"act 64 allin", b"act 64 ann allin 0"),
-    (b"act 1 bet 200", b"act 1 ann bet 200"),
-    (b"act 0 raise 0", b"act 0 ann raise 0"),
-    // another's act, or her own with her name
-    (b"act 1 bob fold", b"-"),
-    (b"act 1 ann fold", b"-"),
-    // what the floor asks for
-    (b"enter ann 1 1", b"-"),
-    (b"time 1", b"-"),
-    (b"balance 1 2", b"-"),
-    (b"break 3", b"-"),
-    (b"level", b"-"),
-    (b"race 1", b"-"),
-    (b"hands on", b"-"),
-    (b"hands off", b"-"),
-    (b"round", b"-"),
-    (b"stop", b"-"),
-    (b"next", b"-"),
-    // a second hello
-    (b"hello ann a1", b"-"),
-    (b"hello floor tower7", b"-"),
-    (b"hello ann B2", b"-"),
-    // other words
-    (b"", b"-"),
-    (b"* a note", b"-"),
-    (b"watch one", b"-"),
-    (b"act 1", b"-"),
-    (b"act fold", b"-"),
-    (b"act 1 bet", b"-"),
-    (b"act 1 bet 0200", b"-"),
-    (b"act 1 fold 1", b"-"),
-    (b"act  1 fold", b"-"),
-    (b"act 1 fold ", b"-"),
-];
-
-#[test]
-fn lines_before_a_right_hello_are_told(rt: HostRuntime) -> Result<(), Fail> {
-    let (_, words) = served_from_toml(rt.alloc(), FILE.as_bytes())?;
-    for (line, meaning) in &NOBODY {
-        let told = told(rt.alloc(), &words, None, Some(line))?;
-        assert!(rt; told.as_slice() == *meaning, "{line:?}");
+/// Gives the first line that does not mean what it is to, or the word for who speaks where that is the one that is too
+/// long.
+fn first_wrong(words: &Words, lines: &Lines) -> Option<&'static [u8]> {
+    for line in lines.lines {
+        if !means(words, lines.speaker, Some(line.0), (line.1, line.2, line.3)) {
+            return Some(line.0);
+        }
     }
-    Ok(())
-}
-
-#[test]
-fn lines_of_the_floor_are_told(rt: HostRuntime) -> Result<(), Fail> {
-    let (_, words) = served_from_toml(rt.alloc(), FILE.as_bytes())?;
-    for (line, meaning) in &FLOOR {
-        let told = told(rt.alloc(), &words, Some(Speaker::Floor), Some(line))?;
-        assert!(rt; told.as_slice() == *meaning, "{line:?}");
+    if means(words, lines.speaker, None, (lines.too_long, &[], b"")) {
+        return None;
     }
-    Ok(())
+    Some(lines.speaker)
 }
 
-#[test]
-fn lines_of_a_player_are_told(rt: HostRuntime) -> Result<(), Fail> {
-    let (_, words) = served_from_toml(rt.alloc(), FILE.as_bytes())?;
-    let ann = Speaker::Player(Name::read(b"ann").ok_or("a name")?);
-    for (line, meaning) in &ANN {
-        let told = told(rt.alloc(), &words, Some(ann), Some(line))?;
-        assert!(rt; told.as_slice() == *meaning, "{line:?}");
+/// Reads the words of the file, and gives the first line that does not mean what it is to.
+fn wrong_of(alloc: Global, lines: &Lines) -> Option<&'static [u8]> {
+    match served_from_toml(alloc, FILE.as_bytes()) {
+        Ok((_, words)) => first_wrong(&words, lines),
+        Err(_) => Some(b"the file"),
     }
-    Ok(())
 }
 
 #[test]
-fn lines_that_are_too_long_are_told(rt: HostRuntime) -> Result<(), Fail> {
-    let (_, words) = served_from_toml(rt.alloc(), FILE.as_bytes())?;
-    let ann = Speaker::Player(Name::read(b"ann").ok_or("a name")?);
-    assert!(rt; matches!(read_line(&words, None, None), Meaning::Stranger));
-    assert!(rt;
-        matches!(
-            read_line(&words, Some(Speaker::Floor), None),
-            Meaning::Nonsense
-        )
-    );
-    assert!(rt; matches!(read_line(&words, Some(ann), None), Meaning::Nonsense));
-    Ok(())
+fn lines_are_told_by_who_speaks(rt: HostRuntime) {
+    for lines in &SPEAKERS {
+        let wrong = wrong_of(rt.alloc(), lines);
+        assert!(rt; wrong.is_none(), "{wrong:?}");
+    }
 }
 
 /// Replies, whether their news is behind, and their text.
@@ -291,14 +284,27 @@ static REPLIES: [(Reply, bool, &[u8]); 12] = [
     (Reply::NoMemory, true, b"= memory\n"),
 ];
 
-#[test]
-fn replies_are_written(rt: HostRuntime) -> Result<(), Fail> {
-    let mut text = ReplyText::new(rt.alloc())?;
-    assert!(rt; text.bytes().is_empty());
-    for (reply, behind, line) in &REPLIES {
-        text.write(*reply, *behind);
-        assert!(rt; text.bytes() == *line, "{line:?}");
-        assert!(rt; line.len() <= LONGEST_REPLY);
+/// Tells whether a reply has a text, over a text that was written before.
+fn is_reply(text: &mut ReplyText, row: &(Reply, bool, &[u8])) -> bool {
+    text.write(row.0, row.1);
+    is_same(text.bytes(), row.2) && row.2.len() <= LONGEST_REPLY
+}
+
+/// Tells whether replies are written one after another.
+fn are_written(alloc: Global) -> Result<bool, AllocError> {
+    let mut text = ReplyText::new(alloc)?;
+    if !text.bytes().is_empty() {
+        return Ok(false);
     }
-    Ok(())
+    for row in &REPLIES {
+        if !is_reply(&mut text, row) {
+            return Ok(false);
+        }
+    }
+    Ok(true)
+}
+
+#[test]
+fn replies_are_written(rt: HostRuntime) {
+    assert!(rt; are_written(rt.alloc()).unwrap_or(false));
 }

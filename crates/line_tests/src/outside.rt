@@ -1,10 +1,9 @@
 //! A source and a sink of somebody's own, which tell nothing.
 
-use super::runs::words_of;
+use super::texts::{is_same, words_of};
 use floor_offline::run_offline;
 use floor_text::{Failed, MemSource, Sink, Source};
-use std::alloc::Global;
-use std::test::Fail;
+use std::alloc::{AllocError, Global};
 
 /// The most bytes that the source gives at once.
 const DROP: usize = 7;
@@ -89,27 +88,36 @@ impl Sink for OwnSink {
 const ANSWERED: &str =
     "no 2 NoPlan\n|ok\n|no 1 Syntax\n|* report\n* level 0\n* sold 0\n* removed 0\n* added 0\n* rest 0\n* play 0\n* end\n|";
 
+/// Which take fails, and then the status and what is put on out and on err.
+static TAKES: [(u64, u8, &str, &str); 4] = [
+    (0, 0, ANSWERED, ""),
+    (1, 3, "", "read fault\n|"),
+    (2, 3, "no 2 NoPlan\n|ok\n|", "read fault\n|"),
+    (3, 0, ANSWERED, ""),
+];
+
+/// Tells whether three lines over sinks of somebody's own are answered as a row says.
+fn is_answered(alloc: Global, row: &(u64, u8, &str, &str)) -> Result<bool, AllocError> {
+    let words = words_of(alloc, &["replay"])?;
+    let input = b"stop\ngame holdem\nstop ".to_vec(alloc)?;
+    let mut source = MemSource::new(input, vec![in alloc; row.0]?);
+    let mut out = OwnSink::new(alloc);
+    let mut err = OwnSink::new(alloc);
+    let status = run_offline(alloc, &words, &mut source, &mut out, &mut err);
+    Ok(
+        status == row.1
+            && is_same(&out.text, row.2.as_bytes())
+            && is_same(&err.text, row.3.as_bytes()),
+    )
+}
+
 #[test]
-fn an_own_sink_gets_each_answer_by_one_put(rt: HostRuntime) -> Result<(), Fail> {
-    let alloc = rt.alloc();
-    for (taken, status, written, told) in [
-        (0, 0, ANSWERED, ""),
-        (1, 3, "", "read fault\n|"),
-        (2, 3, "no 2 NoPlan\n|ok\n|", "read fault\n|"),
-        (3, 0, ANSWERED, ""),
-    ] {
-        let words = words_of(alloc, "replay")?;
-        let input = b"stop\ngame holdem\nstop ".to_vec(alloc)?;
-        let mut source = MemSource::new(input, vec![in alloc; taken]?);
-        let mut out = OwnSink::new(alloc);
-        let mut err = OwnSink::new(alloc);
-        let ended = run_offline(alloc, &words, &mut source, &mut out, &mut err);
+fn an_own_sink_gets_each_answer_by_one_put(rt: HostRuntime) {
+    for row in &TAKES {
         assert!(rt;
-            ended == status
-                && out.text.as_slice() == written.as_bytes()
-                && err.text.as_slice() == told.as_bytes(),
-            "take {taken}"
+            is_answered(rt.alloc(), row).unwrap_or(false),
+            "take {}",
+            row.0
         );
     }
-    Ok(())
 }

@@ -1,12 +1,10 @@
 //! Runs in which a call fails, one call after another until no call is left to fail.
 
 use super::outside::Drops;
-use super::plans::{ALL_IN, ALL_IN_TOLD, PLAN, PLANNED, THREE_OF_NINE, TWO};
+use super::plans::{ALL_IN, ALL_IN_TOLD, PLAN, PLANNED, SEVENTH, THREE_OF_NINE, TWO};
 use super::runs::{Failing, NOTHING, Ran, input_of, run, run_over};
-use super::simulations::SEVENTH;
+use super::texts::is_same;
 use std::alloc::{AllocError, Global};
-use std::process::Abort;
-use std::test::Fail;
 
 /// The calls of which one fails.
 #[derive(Clone, Copy)]
@@ -29,81 +27,81 @@ enum Out {
 }
 
 /// A command over an input of which one call fails: the first, the second and so on. A run with a fault ends with this
-/// status, with this on err, and with a front of these lines on out.
+/// status, with this on err, and with some lines from the front of these on out. The run without one puts them all.
 #[derive(Clone, Copy)]
 struct Case {
-    words: &'static str,
+    words: &'static [&'static str],
     input: &'static [&'static str],
     calls: Calls,
     status: u8,
     err: &'static str,
-    lines: &'static str,
+    whole: &'static str,
     out: Out,
 }
 
-const CASES: &[Case] = &[
+static CASES: [Case; 7] = [
     Case {
-        words: "replay",
+        words: &["replay"],
         input: &[PLAN],
         calls: Calls::Puts,
         status: 4,
         err: "write fault\n",
-        lines: PLANNED,
+        whole: PLANNED,
         out: Out::Lines(&[0, 1, 2, 3, 4, 5, 6, 7, 8, 9]),
     },
     Case {
-        words: "replay",
+        words: &["replay"],
         input: &[PLAN],
         calls: Calls::Takes,
         status: 3,
         err: "read fault\n",
-        lines: PLANNED,
+        whole: PLANNED,
         out: Out::Lines(&[0, 9]),
     },
     // The lines of the plan end behind 12, 21, 29, 40, 50, 57, 76, 91 and 94 bytes.
     Case {
-        words: "replay",
+        words: &["replay"],
         input: &[PLAN],
         calls: Calls::TakesOfSeven,
         status: 3,
         err: "read fault\n",
-        lines: PLANNED,
+        whole: PLANNED,
         out: Out::Lines(&[0, 0, 1, 2, 2, 3, 4, 4, 5, 6, 6, 7, 7, 8, 9]),
     },
     Case {
-        words: "view ann",
+        words: &["view", "ann"],
         input: &[PLAN, TWO, ALL_IN],
         calls: Calls::Puts,
         status: 4,
         err: "write fault\n",
-        lines: ALL_IN_TOLD,
+        whole: ALL_IN_TOLD,
         out: Out::Front,
     },
     Case {
-        words: "view ann",
+        words: &["view", "ann"],
         input: &[PLAN, TWO, ALL_IN],
         calls: Calls::Takes,
         status: 3,
         err: "read fault\n",
-        lines: ALL_IN_TOLD,
+        whole: ALL_IN_TOLD,
         out: Out::Lines(&[0, 29]),
     },
     Case {
-        words: "simulate 7",
+        words: &["simulate", "7"],
         input: &[THREE_OF_NINE],
         calls: Calls::Puts,
         status: 4,
         err: "write fault\n",
-        lines: SEVENTH,
+        whole: SEVENTH,
         out: Out::Front,
     },
     Case {
-        words: "simulate 7",
+        words: &["simulate", "7"],
         input: &[THREE_OF_NINE],
         calls: Calls::Takes,
         status: 3,
         err: "read fault\n",
-        lines: "",
+        whole: SEVENTH,
         out: Out::Lines(&[0, 0]),
     },
 ];
@@ -138,17 +136,17 @@ fn run_case(alloc: Global, case: &Case, call: u64, err_put: u64) -> Result<Ran, 
     }
 }
 
-/// Whether what stands on out is what a case says, where this many calls came before the one that failed.
+/// Tells whether what stands on out is what a case says, where this many calls came before the one that failed.
 fn is_told(case: &Case, before: usize, out: &[u8]) -> bool {
     let lines = out.iter().filter(|byte| **byte == b'\n').count();
     let counted = match case.out {
         Out::Lines(counts) => counts.get(before) == Some(&lines),
         Out::Front => true,
     };
-    counted && case.lines.as_bytes().starts_with(out) && (out.is_empty() || out.ends_with(b"\n"))
+    counted && case.whole.as_bytes().starts_with(out) && (out.is_empty() || out.ends_with(b"\n"))
 }
 
-/// Whether there are as many calls as a case says.
+/// Tells whether there are as many calls as a case says.
 fn is_all(case: &Case, calls: usize) -> bool {
     match case.out {
         Out::Lines(counts) => counts.len() == calls,
@@ -156,57 +154,48 @@ fn is_all(case: &Case, calls: usize) -> bool {
     }
 }
 
-/// Runs a case in which a call fails behind this many others, and says whether there was a fault. Where there was one,
-/// the run ended as the case says, and so it does where err fails too.
-fn fails_behind(
-    rt: &impl Abort,
-    alloc: Global,
-    case: &Case,
-    before: usize,
-) -> Result<bool, AllocError> {
+/// Tells whether a run in which a call fails behind this many others ends as a case says, also where err fails too.
+fn is_fault(alloc: Global, case: &Case, before: usize) -> Result<bool, AllocError> {
     let call = (before as u64).saturating_add(1);
     let ran = run_case(alloc, case, call, 0)?;
-    if ran.status == 0 {
-        return Ok(false);
-    }
-    assert!(rt;
-        ran.status == case.status
-            && ran.err.bytes() == case.err.as_bytes()
-            && is_told(case, before, ran.out.bytes()),
-        "{}, call {call}",
-        case.words
-    );
     let untold = run_case(alloc, case, call, 1)?;
-    assert!(rt;
-        untold.status == case.status
-            && untold.err.bytes().is_empty()
-            && untold.out.bytes() == ran.out.bytes(),
-        "{}, call {call}, and err",
-        case.words
-    );
-    Ok(true)
+    Ok(
+        ran.status == case.status
+            && is_same(ran.err.bytes(), case.err.as_bytes())
+            && is_told(case, before, ran.out.bytes())
+            && untold.is(case.status, ran.out.bytes(), b""),
+    )
 }
 
-/// Has the calls of a case fail, one after another, until none is left.
-fn fail_all(rt: &impl Abort, alloc: Global, case: &Case) -> Result<(), AllocError> {
+/// Tells whether a run in which no call fails behind this many ends well, and puts all.
+fn is_whole(alloc: Global, case: &Case, calls: usize) -> Result<bool, AllocError> {
+    let ran = run_case(alloc, case, (calls as u64).saturating_add(1), 0)?;
+    Ok(ran.is(0, case.whole.as_bytes(), b""))
+}
+
+/// Counts the calls of a case, each of which fails in a run of its own.
+fn count_faults(alloc: Global, case: &Case) -> Result<usize, AllocError> {
     for before in 0..1000 {
-        if !fails_behind(rt, alloc, case, before)? {
-            assert!(rt;
-                is_all(case, before),
-                "{}: {before} calls failed",
-                case.words
-            );
-            return Ok(());
+        if !is_fault(alloc, case, before)? {
+            return Ok(before);
         }
     }
-    assert!(rt; false, "{}: there were more calls", case.words);
-    Ok(())
+    Ok(1000)
+}
+
+/// Tells whether the calls of a case fail as it says, one after another, until none is left.
+fn fails_so(alloc: Global, case: &Case) -> Result<bool, AllocError> {
+    let calls = count_faults(alloc, case)?;
+    Ok(is_all(case, calls) && is_whole(alloc, case, calls)?)
 }
 
 #[test]
-fn a_run_ends_where_a_call_fails(rt: HostRuntime) -> Result<(), Fail> {
-    for case in CASES {
-        fail_all(&rt, rt.alloc(), case)?;
+fn a_run_ends_where_a_call_fails(rt: HostRuntime) {
+    for case in &CASES {
+        assert!(rt;
+            fails_so(rt.alloc(), case).unwrap_or(false),
+            "{:?}",
+            case.words
+        );
     }
-    Ok(())
 }
