@@ -1,7 +1,7 @@
 use Rattle.std.proofs.Common.{◌≡◌, ◌∙◌, ◌≤◌, ◌++◌, List, ap, length, length-append, arith}
 use Rattle.history_lock.specs.Passes.{seen}
 use Rattle.view_rules.specs.declared.entries.JournalEntry.{JournalEntry}
-use Rattle.dock_tests.proofs.book.ask_one.Goals as goal
+use Rattle.dock_tests.proofs.script.ask_one.Goals as goal
 
 -- What is seen after a hold is no shorter than what was seen before.
 longer : (before at after more added : List JournalEntry) → at ≡ before ++ more → after ≡ at ++ added
