@@ -1,5 +1,5 @@
-//! A value that grows, as small as can be: a list of notes. It shows what a caller of `leave` owes, and the tests
-//! use it.
+//! A value that grows, as small as can be: a list of notes. It shows what a caller of `leave` owes, and wrong
+//! bodies of such a caller are tried on it.
 ghost use Rattle.std.specs.Prelude.{◌≡◌, ◌∷◌, [], if◌then◌else◌};
 ghost use Rattle.history_lock.specs.Holds.{Stands};
 ghost use Rattle.history_lock.specs.Passes.{lock_id, lock_of, pass_number};
