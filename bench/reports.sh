@@ -10,7 +10,7 @@ cd "$(dirname "$0")/.."
 
 scratch reports floor_text card_set card_choices hand_rank low_rank rulebook level_plan button_blinds pot_layers \
     showdown betting_round deal_order seat_book balance_rule break_draw hand_rounds chip_race entry_list place_list \
-    table_engine line_words floor_events tournament_rules floor_core < /dev/null
+    table_engine line_words tournament_events floor_events tournament_rules floor_book floor_core < /dev/null
 PYTHONPATH=bench python3 - "$work" <<'LISTS'
 import random, sys
 from rules.break_down import break_down
