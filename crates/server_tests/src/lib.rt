@@ -1,19 +1,18 @@
-//! The tests of the server: workers and desks at their locks, and whole runs over memory. What is played is replayed
-//! offline.
+//! The tests of the server: sessions at desks and workers at their locks, on one thread, and whole runs over memory, in
+//! threads. What is served is replayed offline.
 //!
-//! They are a crate of their own, since a crate with tests is proved twice, and stand on table_worker, floor_online and
-//! floor_offline.
+//! They are a crate of their own, since a crate with tests is proved twice.
 //!
 //! | file | what is in it |
 //! |---|---|
-//! | `workers.rt` | the worker of a table: its turns, beside a player, and two of them beside eight players |
-//! | `serving.rt` | the server over memory: a hand, a table while another is held, and what breaks around it |
-//! | `shared.rt` | the seed of all draws, a gate, and the replay of what was played |
+//! | `client.rt` | clients in memory, and the transcripts of what they say and what is put to them |
+//! | `sessions.rt` | scenes: sessions, orders, acts and doors, and the turns of workers between them |
+//! | `serving.rt` | the server over memory: whole tournaments, what breaks around it, and many at once |
 #![tactic(auto)]
 
 #[cfg(test)]
+mod client;
+#[cfg(test)]
 mod serving;
 #[cfg(test)]
-mod shared;
-#[cfg(test)]
-mod workers;
+mod sessions;

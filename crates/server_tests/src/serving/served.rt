@@ -1,163 +1,177 @@
-//! Whole runs of the server over memory: a hand is served.
+//! A hand is served, at two doors or at one, and what follows where a link fails.
 
-use super::support::{
-    Does, NONE, PLAN, Ran, TURNS, UNPLAYED, begin_line, check_text, lines_with, link_of, one,
-    put_on, run_over, text_begun, two,
-};
-use crate::shared::{Open, SEED, check_replay};
-use floor_director::deck_of;
-use links::{MemDoor, MemHall, Tape};
-use std::alloc::{AllocError, Global};
+use super::run::{NONE, Said, hall_of, replays, run};
+use super::texts::{ENTERED, PLAN, UNPLAYED, begin_line};
+use crate::sessions::Open;
+use std::alloc::Global;
 use std::process::Abort;
 use std::sync::Wait;
-use std::test::Fail;
 use std::thread::Threads;
 
-/// What the floor does: both players enter, and once their first hand is settled the tournament is stopped.
-const FLOOR: [Does<'static>; 6] = [
-    Does::Says("hello floor f"),
-    Does::Says("begin 1"),
-    Does::Says("enter ann 1 1"),
-    Does::Says("enter bob 1 2"),
-    Does::Awaits("# settle 1"),
-    Does::Says("stop"),
+/// The floor lets both players enter, and once their first hand is settled stops the tournament.
+const FLOOR: &str = "> hello floor f
+= ok
+> begin 1
+= no 1 Syntax
+> enter ann 1 1
+= ok
+> enter bob 1 2
+= ok
+? # settle 1
+> stop
+= ok
+";
+
+/// The same, where the hand may not be settled.
+const FLOOR_IN_VAIN: &str = "> hello floor f
+= ok
+> begin 1
+= no 1 Syntax
+> enter ann 1 1
+= ok
+> enter bob 1 2
+= ok
+& # settle 1
+> stop
+= ok
+";
+
+/// Somebody who says `quit` alone.
+const QUIT: &str = "> quit\n= ok\n";
+
+/// ann folds her first hand.
+const ANN: &str = "> act 1 fold
+= who
+> hello ann a
+= ok
+> watch 1
+= ok
+? 1: hand 1
+> act 1 fold
+= ok
+> quit
+= ok
+";
+
+/// ann's first two lines are taken and replied: the third take of her link is its fifth call.
+const ANN_IN_VAIN: &str = "> act 1 fold
+= who
+> hello ann a
+= ok
+";
+
+/// The same hand at one door, where one comes after another: ann is early, and no order is owed once the hand is settled.
+const EARLY: &str = "> hello ann a
+= ok
+> act 1 fold
+= no 14 NotPlaying
+> quit
+= ok
+";
+
+const ENTERS: &str = "> hello floor f
+= ok
+> enter ann 1 1
+= ok
+> enter bob 1 2
+= ok
+> quit
+= ok
+";
+
+const STOPS: &str = "> hello floor f
+= ok
+? # settle 1
+> next
+= none
+> stop
+= ok
+";
+
+/// A run, and whether the hand is played in it.
+#[derive(Clone, Copy)]
+struct Case {
+    shows: &'static str,
+    command: &'static str,
+    doors: &'static [&'static [Said]],
+    played: bool,
+}
+
+const CASES: &[Case] = &[
+    Case {
+        shows: "a hand is served",
+        command: "serve 7000 2",
+        doors: &[&[(FLOOR, 0)], &[(QUIT, 0), (ANN, 0)]],
+        played: true,
+    },
+    Case {
+        shows: "a hand is served at one desk",
+        command: "serve 7000 1",
+        doors: &[&[(EARLY, 0), (ENTERS, 0), (ANN, 0), (STOPS, 0)]],
+        played: true,
+    },
 ];
 
-/// What ann does: she folds her first hand.
-const ANN: [Does<'static>; 6] = [
-    Does::Says("act 1 fold"),
-    Does::Says("hello ann a"),
-    Does::Says("watch 1"),
-    Does::Awaits("1: hand 1"),
-    Does::Says("act 1 fold"),
-    Does::Says("quit"),
-];
+/// A run in which ann's link fails.
+const IN_VAIN: Case = Case {
+    shows: "a link that fails ends its session alone",
+    command: "serve 7000 2",
+    doors: &[&[(FLOOR_IN_VAIN, 0)], &[(QUIT, 0), (ANN_IN_VAIN, 5)]],
+    played: false,
+};
 
-/// The report once ann has folded.
-const FOLDED: &str =
-    "* report\n* level 1\n* sold 2000\n* removed 0\n* added 0\n* rest 2000\n* play 0\n\
+/// What stands behind the begin of the hand that ann folds, and the stop with the report once she has.
+const FOLD: &[u8] = b"act 1 ann fold\nsettle 1\n";
+
+const FOLDED: &[u8] =
+    b"stop\n* report\n* level 1\n* sold 2000\n* removed 0\n* added 0\n* rest 2000\n* play 0\n\
     * seat 1 1 ann 900\n* seat 1 2 bob 1100\n* end\n";
 
-/// Makes the door of the floor, with what was put on its link.
-fn floor_door(alloc: Global, turns: u64) -> Result<(MemDoor, Tape), AllocError> {
-    let (floor, put) = link_of(alloc, &FLOOR, turns, Vec::new(alloc))?;
-    let door = MemDoor::new(alloc, one(alloc, floor)?, Vec::new(alloc))?;
-    Ok((door, put))
+/// Gives what stands in a text behind the fold in the first hand.
+fn behind_fold<'a>(rt: &impl Abort, alloc: Global, text: &'a [u8]) -> Option<&'a [u8]> {
+    let begun = text.strip_prefix(ENTERED)?;
+    let begin = begin_line(rt, alloc, 11);
+    begun.strip_prefix(begin.as_slice())?.strip_prefix(FOLD)
 }
 
-/// Makes the door of ann, before whom somebody comes who says `quit` alone; with what was put on both links.
-fn players_door(
-    alloc: Global,
-    turns: u64,
-    failing: Vec<u64>,
-) -> Result<(MemDoor, Tape, Tape), AllocError> {
-    let (quit, of_quit) = link_of(alloc, &[Does::Says("quit")], turns, Vec::new(alloc))?;
-    let (ann, of_ann) = link_of(alloc, &ANN, turns, failing)?;
-    let door = MemDoor::new(alloc, two(alloc, quit, ann)?, Vec::new(alloc))?;
-    Ok((door, of_quit, of_ann))
-}
-
-/// What a run over these doors came to, and what was put on the links.
-#[derive(Drop)]
-struct Served {
-    ran: Ran,
-    floor: Tape,
-    quit: Tape,
-    ann: Tape,
-}
-
-/// Serves at both doors. The calls of these numbers fail on ann's link.
-fn serve_at_doors<R: Threads + Wait + Sync>(
-    rt: &R,
-    alloc: Global,
-    turns: u64,
-    failing: Vec<u64>,
-) -> Result<Served, AllocError> {
-    let (first, floor) = floor_door(alloc, turns)?;
-    let (second, quit, ann) = players_door(alloc, turns, failing)?;
-    let mut hall = MemHall::new(two(alloc, first, second)?, Vec::new(alloc));
-    let ran = run_over(rt, alloc, "serve 7000 2", PLAN, NONE, &mut hall, &Open)?;
-    Ok(Served {
-        ran,
-        floor,
-        quit,
-        ann,
-    })
-}
-
-/// Compares the replies on a link with those wanted.
-fn check_replies(
-    rt: &impl Abort,
-    alloc: Global,
-    tape: &Tape,
-    wanted: &str,
-) -> Result<(), AllocError> {
-    let put = put_on(alloc, tape)?;
-    check_text(rt, &lines_with(alloc, &put, b"= ")?, wanted);
-    Ok(())
-}
-
-/// Gives the text of the one hand, up to its settle.
-fn text_played(alloc: Global) -> Result<Vec<u8>, AllocError> {
-    let mut text = text_begun(alloc)?;
-    text.extend_from_slice(b"act 1 ann fold\nsettle 1\n")?;
-    Ok(text)
-}
-
-/// Gives the text behind the stop, which is in it.
-fn text_stopped(alloc: Global) -> Result<Vec<u8>, AllocError> {
-    let mut text = b"stop\n".to_vec(alloc)?;
-    text.extend_from_slice(FOLDED.as_bytes())?;
-    Ok(text)
-}
-
-/// Tells whether a text is this one, between whose parts a second begin may stand.
-fn is_served(out: &[u8], played: &[u8], second: &[u8], stopped: &[u8]) -> bool {
-    match out.strip_prefix(played) {
-        Some(rest) => rest.strip_prefix(second).unwrap_or(rest) == stopped,
+/// Tells whether a text is that of the one hand. A second one may have begun before the stop.
+fn is_played(rt: &impl Abort, alloc: Global, text: &[u8]) -> bool {
+    match behind_fold(rt, alloc, text) {
+        Some(rest) => {
+            let second = begin_line(rt, alloc, 13);
+            rest.strip_prefix(second.as_slice()).unwrap_or(rest) == FOLDED
+        }
         None => false,
     }
 }
 
-/// Compares the text that was served with that of the one hand: perhaps a second one has begun before the stop.
-fn check_served(rt: &impl Abort, alloc: Global, out: &[u8]) -> Result<(), AllocError> {
-    let played = text_played(alloc)?;
-    let second = begin_line(alloc, "1", &deck_of(SEED, 13))?;
-    let stopped = text_stopped(alloc)?;
-    assert!(rt;
-        is_served(out, &played, &second, &stopped),
-        "{:?}",
-        str::from_utf8(out)
-    );
-    Ok(())
+/// Tells whether a run is served: each client is replied so, nothing stands on err, and what stands in out is played or
+/// not, and replays.
+fn is_served<R: Threads + Wait + Abort + Sync>(rt: &R, alloc: Global, case: &Case) -> bool {
+    let (mut hall, puts) = hall_of(rt, alloc, case.doors, NONE);
+    let ran = run(rt, alloc, case.command, PLAN, NONE, &mut hall, &Open);
+    for put in &puts {
+        if !put.has_replies(rt, alloc) {
+            return false;
+        }
+    }
+    let out = ran.out.bytes();
+    let told = if case.played {
+        is_played(rt, alloc, out)
+    } else {
+        out.ends_with(UNPLAYED)
+    };
+    ran.status == 0 && ran.err.bytes().is_empty() && told && replays(rt, alloc, out)
 }
 
 #[test]
-fn a_hand_is_served_and_replays(rt: HostRuntime) -> Result<(), Fail> {
-    let alloc = rt.alloc();
-    let served = serve_at_doors(&rt, alloc, TURNS, Vec::new(alloc))?;
-    assert!(rt; served.ran.status == 0);
-    check_text(&rt, served.ran.err.bytes(), "");
-    let replies = "= ok\n= no 1 Syntax\n= ok\n= ok\n= ok\n";
-    check_replies(&rt, alloc, &served.floor, replies)?;
-    check_replies(&rt, alloc, &served.quit, "= ok\n")?;
-    check_replies(&rt, alloc, &served.ann, "= who\n= ok\n= ok\n= ok\n= ok\n")?;
-    let out = served.ran.out.bytes();
-    check_served(&rt, alloc, out)?;
-    check_replay(&rt, alloc, out, FOLDED.as_bytes())?;
-    Ok(())
+fn a_link_that_fails_ends_its_session_alone(rt: HostRuntime) {
+    assert!(rt; is_served(&rt, rt.alloc(), &IN_VAIN));
 }
 
 #[test]
-fn a_link_that_fails_ends_its_session_alone(rt: HostRuntime) -> Result<(), Fail> {
-    let alloc = rt.alloc();
-    // The third take of ann's link is its fifth call: her first two lines were each taken and replied.
-    let served = serve_at_doors(&rt, alloc, 100_000, one(alloc, 5)?)?;
-    assert!(rt; served.ran.status == 0);
-    check_text(&rt, served.ran.err.bytes(), "");
-    check_replies(&rt, alloc, &served.ann, "= who\n= ok\n")?;
-    let out = served.ran.out.bytes();
-    assert!(rt; out.ends_with(UNPLAYED.as_bytes()));
-    check_replay(&rt, alloc, out, UNPLAYED.as_bytes())?;
-    Ok(())
+fn a_hand_is_served_and_replays(rt: HostRuntime) {
+    for case in CASES {
+        assert!(rt; is_served(&rt, rt.alloc(), case), "{}", case.shows);
+    }
 }
