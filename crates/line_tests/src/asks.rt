@@ -1,6 +1,6 @@
 //! What the clients of a session say, and what they are replied.
 
-use super::events::{Told, told_act};
+use super::events::{Telling, is_told, said, said_of, told_act};
 use super::texts::is_same;
 use dock_rules::Ask;
 use floor_text::{Name, Refusal};
@@ -21,191 +21,180 @@ floor_word = \"tower7\"
 words = { ann = \"a1\", Bob_2 = \"B2\" }
 ";
 
-/// A line, and what it means: a word for that, numbers, and a name or nothing. An act is told by its place in the
-/// grammar and its amount or 0, and a switch by 1 or 0.
-type Line = (&'static [u8], &'static [u8], &'static [u64], &'static [u8]);
-
-/// Who speaks, his lines, and what a line of his that is too long means.
+/// Who speaks, his lines with what they mean, and what a line of his that is too long means. A meaning is a word, a
+/// name, and numbers: an act is told by its place in the grammar and its amount, and a switch by 1 or 0.
 struct Lines {
     speaker: &'static [u8],
-    lines: &'static [Line],
-    too_long: &'static [u8],
+    lines: &'static str,
+    too_long: &'static str,
 }
 
 static SPEAKERS: [Lines; 3] = [
     // before a right hello
     Lines {
         speaker: b"",
-        lines: &[
-            (b"hello ann a1", b"player", &[], b"ann"),
-            (b"hello Bob_2 B2", b"player", &[], b"Bob_2"),
-            (b"hello floor tower7", b"floor", &[], b""),
-            (b"quit", b"quits", &[], b""),
-            // another's word, or nobody's
-            (b"hello ann B2", b"who", &[], b""),
-            (b"hello ann tower7", b"who", &[], b""),
-            (b"hello ann A1", b"who", &[], b""),
-            (b"hello ann a", b"who", &[], b""),
-            (b"hello ann a12", b"who", &[], b""),
-            (b"hello floor a1", b"who", &[], b""),
-            (b"hello floor B2", b"who", &[], b""),
-            (b"hello floor floor", b"who", &[], b""),
-            // a name without a word
-            (b"hello cat a1", b"who", &[], b""),
-            (b"hello Ann a1", b"who", &[], b""),
-            (b"hello bob_2 B2", b"who", &[], b""),
-            (b"hello Floor tower7", b"who", &[], b""),
-            // other words
-            (b"", b"who", &[], b""),
-            (b"hello", b"who", &[], b""),
-            (b"hello ann", b"who", &[], b""),
-            (b"hello  ann a1", b"who", &[], b""),
-            (b"hello ann  a1", b"who", &[], b""),
-            (b"hello ann a1 ", b"who", &[], b""),
-            (b" hello ann a1", b"who", &[], b""),
-            (b"hello ann a1\r", b"who", &[], b""),
-            (b"Hello ann a1", b"who", &[], b""),
-            (b"Quit", b"who", &[], b""),
-            (b"quit ", b"who", &[], b""),
-            (b"watch 1", b"who", &[], b""),
-            (b"* a note", b"who", &[], b""),
-        ],
-        too_long: b"who",
+        lines: NOBODY,
+        too_long: "who",
     },
     // the floor behind its hello
     Lines {
         speaker: b"floor",
-        lines: &[
-            (b"quit", b"quits", &[], b""),
-            (b"watch 1", b"watch", &[1], b""),
-            (b"watch 0", b"watch", &[0], b""),
-            (
-                b"watch 9007199254740991",
-                b"watch",
-                &[9_007_199_254_740_991],
-                b"",
-            ),
-            (b"time 2", b"time", &[2], b""),
-            (b"enter ann 1 4", b"enter", &[1, 4], b"ann"),
-            (b"enter cat 0 77", b"enter", &[0, 77], b"cat"),
-            (b"balance 1 2", b"balance", &[1, 2], b""),
-            (b"break 3", b"break", &[3], b""),
-            (b"level", b"level", &[], b""),
-            (b"race 2", b"race", &[2], b""),
-            (b"hands on", b"hands", &[1], b""),
-            (b"hands off", b"hands", &[0], b""),
-            (b"round", b"round", &[], b""),
-            (b"stop", b"stop", &[], b""),
-            (b"next", b"next", &[], b""),
-            // what a player asks for
-            (b"act 1 fold", b"-", &[], b""),
-            (b"act 1 ann fold", b"-", &[], b""),
-            // a second hello
-            (b"hello floor tower7", b"-", &[], b""),
-            (b"hello ann a1", b"-", &[], b""),
-            // what is filled in, or goes by itself
-            (b"break 3 1.2 cat", b"-", &[], b""),
-            (b"begin 1", b"-", &[], b""),
-            (b"settle 1", b"-", &[], b""),
-            (b"go", b"-", &[], b""),
-            (b"* a note", b"-", &[], b""),
-            // other words
-            (b"", b"-", &[], b""),
-            (b"watch", b"-", &[], b""),
-            (b"watch 1 2", b"-", &[], b""),
-            (b"watch 01", b"-", &[], b""),
-            (b"watch 9007199254740992", b"-", &[], b""),
-            (b"time", b"-", &[], b""),
-            (b"enter ann 1", b"-", &[], b""),
-            (b"enter floor 1 1", b"-", &[], b""),
-            (b"enter ann  1 1", b"-", &[], b""),
-            (b"enter ann 1 1\r", b"-", &[], b""),
-            (b"balance 1", b"-", &[], b""),
-            (b"level 2", b"-", &[], b""),
-            (b"hands On", b"-", &[], b""),
-            (b"stop ", b"-", &[], b""),
-            (b"next 1", b"-", &[], b""),
-            (b"next order", b"-", &[], b""),
-        ],
-        too_long: b"-",
+        lines: FLOOR,
+        too_long: "-",
     },
     // ann behind her hello
     Lines {
         speaker: b"ann",
-        lines: &[
-            (b"quit", b"quits", &[], b""),
-            (b"watch 3", b"watch", &[3], b""),
-            (b"watch 65", b"watch", &[65], b""),
-            (b"act 1 fold", b"act", &[1, 0, 0], b"ann"),
-            (b"act 2 check", b"act", &[2, 1, 0], b"ann"),
-            (b"act 3 call", b"act", &[3, 2, 0], b"ann"),
-            (b"act 64 allin", b"act", &[64, 3, 0], b"ann"),
-            (b"act 1 bet 200", b"act", &[1, 4, 200], b"ann"),
-            (b"act 0 raise 0", b"act", &[0, 5, 0], b"ann"),
-            // another's act, or her own with her name
-            (b"act 1 bob fold", b"-", &[], b""),
-            (b"act 1 ann fold", b"-", &[], b""),
-            // what the floor asks for
-            (b"enter ann 1 1", b"-", &[], b""),
-            (b"time 1", b"-", &[], b""),
-            (b"balance 1 2", b"-", &[], b""),
-            (b"break 3", b"-", &[], b""),
-            (b"level", b"-", &[], b""),
-            (b"race 1", b"-", &[], b""),
-            (b"hands on", b"-", &[], b""),
-            (b"hands off", b"-", &[], b""),
-            (b"round", b"-", &[], b""),
-            (b"stop", b"-", &[], b""),
-            (b"next", b"-", &[], b""),
-            // a second hello
-            (b"hello ann a1", b"-", &[], b""),
-            (b"hello floor tower7", b"-", &[], b""),
-            (b"hello ann B2", b"-", &[], b""),
-            // other words
-            (b"", b"-", &[], b""),
-            (b"* a note", b"-", &[], b""),
-            (b"watch one", b"-", &[], b""),
-            (b"act 1", b"-", &[], b""),
-            (b"act fold", b"-", &[], b""),
-            (b"act 1 bet", b"-", &[], b""),
-            (b"act 1 bet 0200", b"-", &[], b""),
-            (b"act 1 fold 1", b"-", &[], b""),
-            (b"act  1 fold", b"-", &[], b""),
-            (b"act 1 fold ", b"-", &[], b""),
-        ],
-        too_long: b"-",
+        lines: ANN,
+        too_long: "-",
     },
 ];
 
+/// Lines before a right hello: right ones, those with another's word or nobody's, with a name that has no word, and
+/// other words.
+const NOBODY: &str = "hello ann a1 : player ann
+hello Bob_2 B2 : player Bob_2
+hello floor tower7 : floor
+quit : quits
+hello ann B2 : who
+hello ann tower7 : who
+hello ann A1 : who
+hello ann a : who
+hello ann a12 : who
+hello floor a1 : who
+hello floor B2 : who
+hello floor floor : who
+hello cat a1 : who
+hello Ann a1 : who
+hello bob_2 B2 : who
+hello Floor tower7 : who
+ : who
+hello : who
+hello ann : who
+hello  ann a1 : who
+hello ann  a1 : who
+hello ann a1  : who
+ hello ann a1 : who
+hello ann a1\r : who
+Hello ann a1 : who
+Quit : who
+quit  : who
+watch 1 : who
+* a note : who
+";
+
+/// Lines of the floor behind its hello: what it asks for, what a player asks for, a second hello, what is filled in or
+/// goes by itself, and other words.
+const FLOOR: &str = "quit : quits
+watch 1 : watch 1
+watch 0 : watch 0
+watch 9007199254740991 : watch 9007199254740991
+time 2 : time 2
+enter ann 1 4 : enter ann 1 4
+enter cat 0 77 : enter cat 0 77
+balance 1 2 : balance 1 2
+break 3 : break 3
+level : level
+race 2 : race 2
+hands on : hands 1
+hands off : hands 0
+round : round
+stop : stop
+next : next
+act 1 fold : -
+act 1 ann fold : -
+hello floor tower7 : -
+hello ann a1 : -
+break 3 1.2 cat : -
+begin 1 : -
+settle 1 : -
+go : -
+* a note : -
+ : -
+watch : -
+watch 1 2 : -
+watch 01 : -
+watch 9007199254740992 : -
+time : -
+enter ann 1 : -
+enter floor 1 1 : -
+enter ann  1 1 : -
+enter ann 1 1\r : -
+balance 1 : -
+level 2 : -
+hands On : -
+stop  : -
+next 1 : -
+next order : -
+";
+
+/// Lines of ann behind her hello: what she asks for, another's act or her own with her name, what the floor asks for, a
+/// second hello, and other words.
+const ANN: &str = "quit : quits
+watch 3 : watch 3
+watch 65 : watch 65
+act 1 fold : act ann 1 0 0
+act 2 check : act ann 2 1 0
+act 3 call : act ann 3 2 0
+act 64 allin : act ann 64 3 0
+act 1 bet 200 : act ann 1 4 200
+act 0 raise 0 : act ann 0 5 0
+act 1 bob fold : -
+act 1 ann fold : -
+enter ann 1 1 : -
+time 1 : -
+balance 1 2 : -
+break 3 : -
+level : -
+race 1 : -
+hands on : -
+hands off : -
+round : -
+stop : -
+next : -
+hello ann a1 : -
+hello floor tower7 : -
+hello ann B2 : -
+ : -
+* a note : -
+watch one : -
+act 1 : -
+act fold : -
+act 1 bet : -
+act 1 bet 0200 : -
+act 1 fold 1 : -
+act  1 fold : -
+act 1 fold  : -
+";
+
 /// Tells what the floor asks for.
-fn told_order(ask: &Ask) -> Told<'_> {
+fn told_order(ask: &Ask) -> Telling<'_> {
     match ask {
-        Ask::Enter { name, table, seat } => (b"enter", [*table, *seat, 0, 0, 0], name.bytes()),
-        Ask::Balance { from, to } => (b"balance", [*from, *to, 0, 0, 0], b""),
-        Ask::Break { table } => (b"break", [*table, 0, 0, 0, 0], b""),
-        Ask::Level => (b"level", [0; 5], b""),
-        Ask::Race { table } => (b"race", [*table, 0, 0, 0, 0], b""),
-        Ask::Hands(on) => (b"hands", [u64::from(*on), 0, 0, 0, 0], b""),
-        Ask::Round => (b"round", [0; 5], b""),
-        Ask::Stop => (b"stop", [0; 5], b""),
-        Ask::NextOrder => (b"next", [0; 5], b""),
+        Ask::Enter { name, table, seat } => said_of("enter", name, [*table, *seat, 0, 0, 0]),
+        Ask::Balance { from, to } => said("balance", [*from, *to, 0, 0, 0]),
+        Ask::Break { table } => said("break", [*table, 0, 0, 0, 0]),
+        Ask::Level => said("level", [0; 5]),
+        Ask::Race { table } => said("race", [*table, 0, 0, 0, 0]),
+        Ask::Hands(on) => said("hands", [u64::from(*on), 0, 0, 0, 0]),
+        Ask::Round => said("round", [0; 5]),
+        Ask::Stop => said("stop", [0; 5]),
+        Ask::NextOrder => said("next", [0; 5]),
     }
 }
 
 /// Tells what a line means.
-fn told(meaning: &Meaning) -> Told<'_> {
+fn told(meaning: &Meaning) -> Telling<'_> {
     match meaning {
-        Meaning::Quit => (b"quits", [0; 5], b""),
-        Meaning::Hello(Speaker::Floor) => (b"floor", [0; 5], b""),
-        Meaning::Hello(Speaker::Player(name)) => (b"player", [0; 5], name.bytes()),
-        Meaning::Stranger => (b"who", [0; 5], b""),
-        Meaning::Nonsense => (b"-", [0; 5], b""),
-        Meaning::Asks(Request::Watch(table)) => (b"watch", [*table, 0, 0, 0, 0], b""),
+        Meaning::Quit => said("quits", [0; 5]),
+        Meaning::Hello(Speaker::Floor) => said("floor", [0; 5]),
+        Meaning::Hello(Speaker::Player(name)) => said_of("player", name, [0; 5]),
+        Meaning::Stranger => said("who", [0; 5]),
+        Meaning::Nonsense => said("-", [0; 5]),
+        Meaning::Asks(Request::Watch(table)) => said("watch", [*table, 0, 0, 0, 0]),
         Meaning::Asks(Request::Act { table, name, act }) => {
-            let (kind, amount) = told_act(*act);
-            (b"act", [*table, kind, amount, 0, 0], name.bytes())
+            said_of("act", name, told_act(*table, *act))
         }
-        Meaning::Asks(Request::Time(table)) => (b"time", [*table, 0, 0, 0, 0], b""),
+        Meaning::Asks(Request::Time(table)) => said("time", [*table, 0, 0, 0, 0]),
         Meaning::Asks(Request::Order(ask)) => told_order(ask),
     }
 }
@@ -218,37 +207,32 @@ fn speaker_of(word: &[u8]) -> Option<Speaker> {
     }
 }
 
-/// Tells whether a line of a speaker means this.
-fn means(
-    words: &Words,
-    speaker: &[u8],
-    line: Option<&[u8]>,
-    right: (&[u8], &[u64], &[u8]),
-) -> bool {
+/// Tells whether a line of a speaker means what a text has.
+fn means(words: &Words, speaker: &[u8], line: Option<&[u8]>, text: &str) -> bool {
     let meaning = read_line(words, speaker_of(speaker), line);
-    let told = told(&meaning);
-    is_same(told.0, right.0) && told.1.starts_with(right.1) && is_same(told.2, right.2)
+    is_told(&told(&meaning), text)
 }
 
-/// Gives the first line that does not mean what it is to, or the word for who speaks where that is the one that is too
-/// long.
-fn first_wrong(words: &Words, lines: &Lines) -> Option<&'static [u8]> {
-    for line in lines.lines {
-        if !means(words, lines.speaker, Some(line.0), (line.1, line.2, line.3)) {
-            return Some(line.0);
+/// Gives the first row whose line does not mean what stands behind it, or what a line that is too long is to mean where
+/// it does not.
+fn first_wrong(words: &Words, lines: &Lines) -> Option<&'static str> {
+    for row in lines.lines.lines() {
+        let (line, text) = row.split_once(" : ").unwrap_or((row, ""));
+        if !means(words, lines.speaker, Some(line.as_bytes()), text) {
+            return Some(row);
         }
     }
-    if means(words, lines.speaker, None, (lines.too_long, &[], b"")) {
+    if means(words, lines.speaker, None, lines.too_long) {
         return None;
     }
-    Some(lines.speaker)
+    Some(lines.too_long)
 }
 
-/// Reads the words of the file, and gives the first line that does not mean what it is to.
-fn wrong_of(alloc: Global, lines: &Lines) -> Option<&'static [u8]> {
+/// Reads the words of the file, and gives the first row that is wrong.
+fn wrong_of(alloc: Global, lines: &Lines) -> Option<&'static str> {
     match served_from_toml(alloc, FILE.as_bytes()) {
         Ok((_, words)) => first_wrong(&words, lines),
-        Err(_) => Some(b"the file"),
+        Err(_) => Some("the file"),
     }
 }
 

@@ -1,6 +1,6 @@
 //! Scripts that are played twice, by a book with hands outside of it and by a tournament. A line is answered by what
-//! stands behind ` : `, and else `ok`. The rows are the sorted deck, and the sorted deck in which the cards at the places
-//! 1 and 50 are exchanged, and those at the places 3 and 51.
+//! stands behind ` : `, and else `ok`. The rows are the sorted deck, and the sorted deck in which the cards at the
+//! places 1 and 50 are exchanged, and those at the places 3 and 51.
 
 use super::plans::{PLAN, THREE, THREE_LEVELS, TWO_TWICE};
 
@@ -41,17 +41,20 @@ enter cat 1 7 : no 9 NoSeat
 enter cat 2 1 : no 8 NoTable
 enter cat 1 6
 ",
-            "begin 1 2c2d2h2s3c3d3h3s4c4d4h4s5c5d5h5s6c6d6h6s7c7d7h7s8c8d8h8s9c9d9h9sTcTdThTsJcJdJhJsQcQdQhQsKcKdKhKsAcAdAhAs
+            "\
+begin 1 2c2d2h2s3c3d3h3s4c4d4h4s5c5d5h5s6c6d6h6s7c7d7h7s8c8d8h8s9c9d9h9sTcTdThTsJcJdJhJsQcQdQhQsKcKdKhKsAcAdAhAs
 act 1 ann fold
 act 1 bob fold
 settle 1
 ",
-            "begin 1 2c2d2h2s3c3d3h3s4c4d4h4s5c5d5h5s6c6d6h6s7c7d7h7s8c8d8h8s9c9d9h9sTcTdThTsJcJdJhJsQcQdQhQsKcKdKhKsAcAdAhAs
+            "\
+begin 1 2c2d2h2s3c3d3h3s4c4d4h4s5c5d5h5s6c6d6h6s7c7d7h7s8c8d8h8s9c9d9h9sTcTdThTsJcJdJhJsQcQdQhQsKcKdKhKsAcAdAhAs
 act 1 bob fold
 act 1 cat fold
 settle 1
 ",
-            "begin 1 2c2d2h2s3c3d3h3s4c4d4h4s5c5d5h5s6c6d6h6s7c7d7h7s8c8d8h8s9c9d9h9sTcTdThTsJcJdJhJsQcQdQhQsKcKdKhKsAcAdAhAs
+            "\
+begin 1 2c2d2h2s3c3d3h3s4c4d4h4s5c5d5h5s6c6d6h6s7c7d7h7s8c8d8h8s9c9d9h9sTcTdThTsJcJdJhJsQcQdQhQsKcKdKhKsAcAdAhAs
 act 1 cat call
 stop
 ",
@@ -76,14 +79,16 @@ stop
         parts: &[
             THREE,
             // The board is 3s 4c 4d 4s 5d; bob has 2c 2s, cat 2d 3c and ann 2h 3d. bob is out, and the others share.
-            "begin 1 2c2d2h2s3c3d3h3s4c4d4h4s5c5d5h5s6c6d6h6s7c7d7h7s8c8d8h8s9c9d9h9sTcTdThTsJcJdJhJsQcQdQhQsKcKdKhKsAcAdAhAs
+            "\
+begin 1 2c2d2h2s3c3d3h3s4c4d4h4s5c5d5h5s6c6d6h6s7c7d7h7s8c8d8h8s9c9d9h9sTcTdThTsJcJdJhJsQcQdQhQsKcKdKhKsAcAdAhAs
 act 1 ann allin
 act 1 bob call
 act 1 cat call
 settle 1
 ",
             // The board is 3d 3h 3s 4d 4s; cat has Ah As and ann 2c 2h. cat is the last one in.
-            "begin 1 2cAh2hAs3c3d3h3s4c4d4h4s5c5d5h5s6c6d6h6s7c7d7h7s8c8d8h8s9c9d9h9sTcTdThTsJcJdJhJsQcQdQhQsKcKdKhKsAcAd2d2s
+            "\
+begin 1 2cAh2hAs3c3d3h3s4c4d4h4s5c5d5h5s6c6d6h6s7c7d7h7s8c8d8h8s9c9d9h9sTcTdThTsJcJdJhJsQcQdQhQsKcKdKhKsAcAd2d2s
 act 1 cat allin
 act 1 ann call
 settle 1
@@ -155,13 +160,15 @@ enter fay 3 4
             TWO_TWICE,
             "hands on
 ",
-            "begin 1 2c2d2h2s3c3d3h3s4c4d4h4s5c5d5h5s6c6d6h6s7c7d7h7s8c8d8h8s9c9d9h9sTcTdThTsJcJdJhJsQcQdQhQsKcKdKhKsAcAdAhAs
+            "\
+begin 1 2c2d2h2s3c3d3h3s4c4d4h4s5c5d5h5s6c6d6h6s7c7d7h7s8c8d8h8s9c9d9h9sTcTdThTsJcJdJhJsQcQdQhQsKcKdKhKsAcAdAhAs
 act 1 ann fold
 settle 1
 ",
             "round : no 40 RoundOpen
 ",
-            "begin 2 2c2d2h2s3c3d3h3s4c4d4h4s5c5d5h5s6c6d6h6s7c7d7h7s8c8d8h8s9c9d9h9sTcTdThTsJcJdJhJsQcQdQhQsKcKdKhKsAcAdAhAs
+            "\
+begin 2 2c2d2h2s3c3d3h3s4c4d4h4s5c5d5h5s6c6d6h6s7c7d7h7s8c8d8h8s9c9d9h9sTcTdThTsJcJdJhJsQcQdQhQsKcKdKhKsAcAdAhAs
 act 2 bob fold
 settle 2
 ",
@@ -171,12 +178,14 @@ level
 level : no 17 RaceDue
 ",
             // Of 900 ann has 2c, and of 1100 cat has 2d: the chip of 200 is cat's. So it is with bob and dan.
-            "race 1 2c2d2h2s3c3d3h3s4c4d4h4s5c5d5h5s6c6d6h6s7c7d7h7s8c8d8h8s9c9d9h9sTcTdThTsJcJdJhJsQcQdQhQsKcKdKhKsAcAdAhAs
+            "\
+race 1 2c2d2h2s3c3d3h3s4c4d4h4s5c5d5h5s6c6d6h6s7c7d7h7s8c8d8h8s9c9d9h9sTcTdThTsJcJdJhJsQcQdQhQsKcKdKhKsAcAdAhAs
 race 1 2c2d2h2s3c3d3h3s4c4d4h4s5c5d5h5s6c6d6h6s7c7d7h7s8c8d8h8s9c9d9h9sTcTdThTsJcJdJhJsQcQdQhQsKcKdKhKsAcAdAhAs : no 42 NoRace
 race 2 2c2d2h2s3c3d3h3s4c4d4h4s5c5d5h5s6c6d6h6s7c7d7h7s8c8d8h8s9c9d9h9sTcTdThTsJcJdJhJsQcQdQhQsKcKdKhKsAcAdAhAs
 ",
             // The blinds are cat's 200 and ann's 400.
-            "begin 1 2c2d2h2s3c3d3h3s4c4d4h4s5c5d5h5s6c6d6h6s7c7d7h7s8c8d8h8s9c9d9h9sTcTdThTsJcJdJhJsQcQdQhQsKcKdKhKsAcAdAhAs
+            "\
+begin 1 2c2d2h2s3c3d3h3s4c4d4h4s5c5d5h5s6c6d6h6s7c7d7h7s8c8d8h8s9c9d9h9sTcTdThTsJcJdJhJsQcQdQhQsKcKdKhKsAcAdAhAs
 act 1 cat fold
 settle 1
 ",

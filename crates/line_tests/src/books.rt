@@ -1,5 +1,5 @@
-//! Plays a book by hand beside a tournament: the hands are played outside of the book, and both tell the same. What goes
-//! wrong is told by `None`.
+//! Plays a book by hand beside a tournament: the hands are played outside of the book, and both tell the same. What
+//! goes wrong is told by `None`.
 
 ghost use Rattle.std.specs.Prelude.{◌≡◌, Some, IfSome};
 ghost use Rattle.tournament_rules.specs.Books.{start_at};
@@ -205,14 +205,36 @@ fn go_on(alloc: Global, both: &mut Beside, part: &str) -> Option<()> {
     Some(())
 }
 
+/// Plays parts on both sides.
+fn go_on_all(alloc: Global, both: &mut Beside, parts: &[&str]) -> Option<()> {
+    for part in parts {
+        go_on(alloc, both, part)?;
+    }
+    Some(())
+}
+
+/// Tells whether the tournament is over as is told, and the report has this text.
+fn ends_so(alloc: Global, both: &Beside, over: bool, text: &str) -> Option<bool> {
+    let told = report(alloc, both)?;
+    Some(both.book.over() == over && is_same(&told, text.as_bytes()))
+}
+
+/// Plays parts on both sides, and tells whether they end so.
+fn play_on(
+    alloc: Global,
+    both: &mut Beside,
+    parts: &[&str],
+    over: bool,
+    text: &str,
+) -> Option<bool> {
+    go_on_all(alloc, both, parts)?;
+    ends_so(alloc, both, over, text)
+}
+
 /// Plays a script on both sides, and tells whether it ends as the script says.
 fn play(alloc: Global, script: &BookScript) -> Option<bool> {
     let mut both = both(alloc, script.plan)?;
-    for part in script.parts {
-        go_on(alloc, &mut both, part)?;
-    }
-    let told = report(alloc, &both)?;
-    Some(both.book.over() == script.over && is_same(&told, script.report.as_bytes()))
+    play_on(alloc, &mut both, script.parts, script.over, script.report)
 }
 
 #[test]

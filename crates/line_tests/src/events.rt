@@ -4,7 +4,7 @@ use super::texts::{is_made, is_same, text_of};
 use betting_round::Act;
 use card_set::{Card, Game};
 use floor_events::{read_act, read_item, write_answer, write_event, write_report};
-use floor_text::{List, Name, Refusal};
+use floor_text::{List, Name, Refusal, read_number};
 use level_plan::{PlanItem, PlanLine};
 use seat_book::Place;
 use std::alloc::{AllocError, Global};
@@ -159,110 +159,128 @@ fn lines_outside_the_grammar_hold_no_item(rt: HostRuntime) {
     assert!(rt; are_outside && matches!(found, Ok(None)), "{found:?}");
 }
 
-/// Notes and lines of events in their one spelling, with the numbers that they say, and a name or nothing. A game and
+/// Notes and lines of events in their one spelling, and what they say: the first word, a name, and numbers. A game and
 /// an act are told by their places in the grammar, a switch by 1 or 0, a list by how long it is, and a row by the ranks
-/// and suits of its first and its last card.
-static ITEMS: [(&[u8], &[u64], &[u8]); 46] = [
-    (b"*", &[], b""),
-    (b"* go", &[], b""),
-    (b"**", &[], b""),
-    (b"*\r", &[], b""),
-    (b"* \xff\0", &[], b""),
-    (b"* out 1 ann 140", &[], b""),
-    (b"game holdem", &[0], b""),
-    (b"game omaha", &[1], b""),
-    (b"game hilo", &[2], b""),
-    (b"tables 0", &[0], b""),
-    (b"tables 64", &[64], b""),
-    (b"seats 10", &[10], b""),
-    (b"stack 9007199254740991", &[9_007_199_254_740_991], b""),
-    (b"buyin 0", &[0], b""),
-    (b"buyin 1000", &[1000], b""),
-    (b"late 3", &[3], b""),
-    (b"blinds 50 100 25", &[50, 100, 25], b""),
-    (b"shares 500 300 200", &[3], b""),
-    (b"go", &[], b""),
-    (b"enter Ann_01 0 64", &[0, 64], b"Ann_01"),
-    (
-        b"begin 1 2c2d2h2s3c3d3h3s4c4d4h4s5c5d5h5s6c6d6h6s7c7d7h7s8c8d8h8s9c9d9h9sTcTdThTsJcJdJhJsQcQdQhQsKcKdKhKsAcAdAhAs",
-        &[1, 2, 0, 14, 3],
-        b"",
-    ),
-    (
-        b"begin 1 As2d2h2s3c3d3h3s4c4d4h4s5c5d5h5s6c6d6h6s7c7d7h7s8c8d8h8s9c9d9h9sTcTdThTsJcJdJhJsQcQdQhQsKcKdKhKsAcAdAhAs",
-        &[1, 14, 3, 14, 3],
-        b"",
-    ),
-    (b"act 12 ann fold", &[12, 0], b"ann"),
-    (b"act 12 ann check", &[12, 1], b"ann"),
-    (b"act 12 ann call", &[12, 2], b"ann"),
-    (b"act 12 ann allin", &[12, 3], b"ann"),
-    (b"act 12 ann bet 0", &[12, 4, 0], b"ann"),
-    (b"act 12 ann bet 400", &[12, 4, 400], b"ann"),
-    (b"act 12 ann raise 600", &[12, 5, 600], b"ann"),
-    (
-        b"act 12 ann raise 9007199254740991",
-        &[12, 5, 9_007_199_254_740_991],
-        b"ann",
-    ),
-    (b"time 5", &[5], b""),
-    (b"settle 3", &[3], b""),
-    (b"balance 1 64", &[1, 64], b""),
-    (
-        b"balance 0 9007199254740991",
-        &[0, 9_007_199_254_740_991],
-        b"",
-    ),
-    (b"break 2 64.10,1.6 bob,Ann_01", &[2, 2, 2], b""),
-    (b"break 3 1.1 a", &[3, 1, 1], b""),
-    (b"break 2 1.5 ann", &[2, 1, 1], b""),
-    (b"break 0 1.1,64.10 Floor", &[0, 2, 1], b""),
-    (b"break 7 2.1 a,b,a", &[7, 1, 3], b""),
-    (
-        b"break 3 1.1,1.2,1.3,1.4,1.5,1.6,1.7,1.8,1.9,1.10 a,b,c,d,e,f,g,h,i,j",
-        &[3, 10, 10],
-        b"",
-    ),
-    (b"level", &[], b""),
-    (
-        b"race 64 2c2c2c2c2c2c2c2c2c2c2c2c2c2c2c2c2c2c2c2c2c2c2c2c2c2c2c2c2c2c2c2c2c2c2c2c2c2c2c2c2c2c2c2c2c2c2c2c2c2c2c2c",
-        &[64, 2, 0, 2, 0],
-        b"",
-    ),
-    (b"hands on", &[1], b""),
-    (b"hands off", &[0], b""),
-    (b"round", &[], b""),
-    (b"stop", &[], b""),
-];
+/// and suits of its first and its last card. Numbers that are left out are 0.
+const ITEMS: &str = "* : *
+* go : *
+** : *
+*\r : *
+* out 1 ann 140 : *
+game holdem : game 0
+game omaha : game 1
+game hilo : game 2
+tables 0 : tables 0
+tables 64 : tables 64
+seats 10 : seats 10
+stack 9007199254740991 : stack 9007199254740991
+buyin 0 : buyin 0
+buyin 1000 : buyin 1000
+late 3 : late 3
+blinds 50 100 25 : blinds 50 100 25
+shares 500 300 200 : shares 3
+go : go
+enter Ann_01 0 64 : enter Ann_01 0 64
+begin 1 2c2d2h2s3c3d3h3s4c4d4h4s5c5d5h5s6c6d6h6s7c7d7h7s8c8d8h8s9c9d9h9sTcTdThTsJcJdJhJsQcQdQhQsKcKdKhKsAcAdAhAs : begin 1 2 0 14 3
+begin 1 As2d2h2s3c3d3h3s4c4d4h4s5c5d5h5s6c6d6h6s7c7d7h7s8c8d8h8s9c9d9h9sTcTdThTsJcJdJhJsQcQdQhQsKcKdKhKsAcAdAhAs : begin 1 14 3 14 3
+act 12 ann fold : act ann 12 0
+act 12 ann check : act ann 12 1
+act 12 ann call : act ann 12 2
+act 12 ann allin : act ann 12 3
+act 12 ann bet 0 : act ann 12 4 0
+act 12 ann bet 400 : act ann 12 4 400
+act 12 ann raise 600 : act ann 12 5 600
+act 12 ann raise 9007199254740991 : act ann 12 5 9007199254740991
+time 5 : time 5
+settle 3 : settle 3
+balance 1 64 : balance 1 64
+balance 0 9007199254740991 : balance 0 9007199254740991
+break 2 64.10,1.6 bob,Ann_01 : break 2 2 2
+break 3 1.1 a : break 3 1 1
+break 2 1.5 ann : break 2 1 1
+break 0 1.1,64.10 Floor : break 0 2 1
+break 7 2.1 a,b,a : break 7 1 3
+break 3 1.1,1.2,1.3,1.4,1.5,1.6,1.7,1.8,1.9,1.10 a,b,c,d,e,f,g,h,i,j : break 3 10 10
+level : level
+race 64 2c2c2c2c2c2c2c2c2c2c2c2c2c2c2c2c2c2c2c2c2c2c2c2c2c2c2c2c2c2c2c2c2c2c2c2c2c2c2c2c2c2c2c2c2c2c2c2c2c2c2c2c : race 64 2 0 2 0
+hands on : hands 1
+hands off : hands 0
+round : round
+stop : stop
+";
 
-/// What an event says: the first word of its line, numbers, and a name or nothing.
-pub type Told<'a> = (&'static [u8], [u64; 5], &'a [u8]);
+/// What is said: a word, a name or nothing, and numbers.
+#[derive(Clone, Copy)]
+pub struct Telling<'a> {
+    pub word: &'a [u8],
+    pub name: &'a [u8],
+    pub numbers: [u64; 5],
+}
 
-/// Tells a line of a plan.
-fn told_plan(line: &PlanLine) -> Told<'static> {
-    match line {
-        PlanLine::Game(Game::Holdem) => (b"game", [0, 0, 0, 0, 0], b""),
-        PlanLine::Game(Game::Omaha) => (b"game", [1, 0, 0, 0, 0], b""),
-        PlanLine::Game(Game::Hilo) => (b"game", [2, 0, 0, 0, 0], b""),
-        PlanLine::Tables(number) => (b"tables", [*number, 0, 0, 0, 0], b""),
-        PlanLine::Seats(number) => (b"seats", [*number, 0, 0, 0, 0], b""),
-        PlanLine::Stack(number) => (b"stack", [*number, 0, 0, 0, 0], b""),
-        PlanLine::Buyin(number) => (b"buyin", [*number, 0, 0, 0, 0], b""),
-        PlanLine::Late(number) => (b"late", [*number, 0, 0, 0, 0], b""),
-        PlanLine::Blinds(blind) => (b"blinds", [blind.small, blind.big, blind.unit, 0, 0], b""),
-        PlanLine::Shares(shares) => (b"shares", [shares.items().len() as u64, 0, 0, 0, 0], b""),
+/// Makes what is said of a word and numbers.
+pub fn said(word: &'static str, numbers: [u64; 5]) -> Telling<'static> {
+    Telling {
+        word: word.as_bytes(),
+        name: b"",
+        numbers,
     }
 }
 
-/// Tells an act by its place in the grammar, and its amount or 0.
-pub fn told_act(act: Act) -> (u64, u64) {
+/// Makes what is said of a word, a name and numbers.
+pub fn said_of<'a>(word: &'static str, name: &'a Name, numbers: [u64; 5]) -> Telling<'a> {
+    Telling {
+        word: word.as_bytes(),
+        name: name.bytes(),
+        numbers,
+    }
+}
+
+/// Tells whether what is said is what a text has: the word, then the name if there is one, and the numbers.
+pub fn is_told(told: &Telling<'_>, text: &str) -> bool {
+    let mut words = text.split(' ');
+    let mut numbers = [0; 5];
+    let mut name = b"".as_slice();
+    let mut count: usize = 0;
+    let word = words.next().unwrap_or("");
+    for word in words {
+        match read_number(word.as_bytes()) {
+            Some(number) => {
+                if let Some(place) = numbers.get_mut(count) {
+                    *place = number;
+                }
+                count = count.saturating_add(1);
+            }
+            None => name = word.as_bytes(),
+        }
+    }
+    is_same(told.word, word.as_bytes()) && is_same(told.name, name) && told.numbers == numbers
+}
+
+/// Tells a line of a plan.
+fn told_plan(line: &PlanLine) -> Telling<'static> {
+    match line {
+        PlanLine::Game(Game::Holdem) => said("game", [0; 5]),
+        PlanLine::Game(Game::Omaha) => said("game", [1, 0, 0, 0, 0]),
+        PlanLine::Game(Game::Hilo) => said("game", [2, 0, 0, 0, 0]),
+        PlanLine::Tables(number) => said("tables", [*number, 0, 0, 0, 0]),
+        PlanLine::Seats(number) => said("seats", [*number, 0, 0, 0, 0]),
+        PlanLine::Stack(number) => said("stack", [*number, 0, 0, 0, 0]),
+        PlanLine::Buyin(number) => said("buyin", [*number, 0, 0, 0, 0]),
+        PlanLine::Late(number) => said("late", [*number, 0, 0, 0, 0]),
+        PlanLine::Blinds(blind) => said("blinds", [blind.small, blind.big, blind.unit, 0, 0]),
+        PlanLine::Shares(shares) => said("shares", [shares.items().len() as u64, 0, 0, 0, 0]),
+    }
+}
+
+/// Tells an act at a table by its place in the grammar, and its amount or 0.
+pub fn told_act(table: u64, act: Act) -> [u64; 5] {
     match act {
-        Act::Fold => (0, 0),
-        Act::Check => (1, 0),
-        Act::Call => (2, 0),
-        Act::AllIn => (3, 0),
-        Act::Bet(amount) => (4, amount),
-        Act::Raise(amount) => (5, amount),
+        Act::Fold => [table, 0, 0, 0, 0],
+        Act::Check => [table, 1, 0, 0, 0],
+        Act::Call => [table, 2, 0, 0, 0],
+        Act::AllIn => [table, 3, 0, 0, 0],
+        Act::Bet(amount) => [table, 4, amount, 0, 0],
+        Act::Raise(amount) => [table, 5, amount, 0, 0],
     }
 }
 
@@ -278,55 +296,42 @@ fn told_row(table: u64, first: Card, last: Card) -> [u64; 5] {
 }
 
 /// Tells an event.
-fn told(event: &Event) -> Told<'_> {
+fn told(event: &Event) -> Telling<'_> {
     match event {
         Event::Plan(line) => told_plan(line),
-        Event::Go => (b"go", [0; 5], b""),
-        Event::Enter { name, table, seat } => (b"enter", [*table, *seat, 0, 0, 0], name.bytes()),
-        Event::Begin { table, row } => (
-            b"begin",
-            told_row(*table, row.cards[0], row.cards[51]),
-            b"",
-        ),
-        Event::Act { table, name, act } => {
-            let (kind, amount) = told_act(*act);
-            (b"act", [*table, kind, amount, 0, 0], name.bytes())
+        Event::Go => said("go", [0; 5]),
+        Event::Enter { name, table, seat } => said_of("enter", name, [*table, *seat, 0, 0, 0]),
+        Event::Begin { table, row } => {
+            said("begin", told_row(*table, row.cards[0], row.cards[51]))
         }
-        Event::Time { table } => (b"time", [*table, 0, 0, 0, 0], b""),
-        Event::Settle { table } => (b"settle", [*table, 0, 0, 0, 0], b""),
-        Event::Balance { from, to } => (b"balance", [*from, *to, 0, 0, 0], b""),
+        Event::Act { table, name, act } => said_of("act", name, told_act(*table, *act)),
+        Event::Time { table } => said("time", [*table, 0, 0, 0, 0]),
+        Event::Settle { table } => said("settle", [*table, 0, 0, 0, 0]),
+        Event::Balance { from, to } => said("balance", [*from, *to, 0, 0, 0]),
         Event::Break {
             table,
             seats,
             names,
         } => {
-            let counts = (seats.items().len() as u64, names.items().len() as u64);
-            (b"break", [*table, counts.0, counts.1, 0, 0], b"")
+            let places = seats.items().len() as u64;
+            said("break", [*table, places, names.items().len() as u64, 0, 0])
         }
-        Event::Level => (b"level", [0; 5], b""),
-        Event::Race { table, row } => (b"race", told_row(*table, row.cards[0], row.cards[51]), b""),
-        Event::Hands(on) => (b"hands", [u64::from(*on), 0, 0, 0, 0], b""),
-        Event::Round => (b"round", [0; 5], b""),
-        Event::Stop => (b"stop", [0; 5], b""),
+        Event::Level => said("level", [0; 5]),
+        Event::Race { table, row } => said("race", told_row(*table, row.cards[0], row.cards[51])),
+        Event::Hands(on) => said("hands", [u64::from(*on), 0, 0, 0, 0]),
+        Event::Round => said("round", [0; 5]),
+        Event::Stop => said("stop", [0; 5]),
     }
 }
 
-/// Tells whether what is told is what a row says. No first word begins with another one.
-fn is_told(told: Told<'_>, row: &(&[u8], &[u64], &[u8])) -> bool {
-    row.0.starts_with(told.0) && told.1.starts_with(row.1) && is_same(told.2, row.2)
-}
-
-/// Tells whether a line is read apart as the act that a row says, or as none where the row says none.
-fn is_act(row: &(&[u8], &[u64], &[u8])) -> bool {
-    match read_act(row.0) {
-        Some(read) => {
-            let (kind, amount) = told_act(read.act);
-            is_told(
-                (b"act", [read.table, kind, amount, 0, 0], read.name.bytes()),
-                row,
-            )
-        }
-        None => !row.0.starts_with(b"act"),
+/// Tells whether a line is read apart as the act that it says, or as none where it says none.
+fn is_act(line: &str, text: &str) -> bool {
+    match read_act(line.as_bytes()) {
+        Some(read) => is_told(
+            &said_of("act", &read.name, told_act(read.table, read.act)),
+            text,
+        ),
+        None => !line.starts_with("act"),
     }
 }
 
@@ -337,31 +342,46 @@ fn written(alloc: Global, event: &Event) -> Result<Vec<u8>, AllocError> {
     Ok(out)
 }
 
-/// Tells whether an event is what a row says, and is written as its line.
-fn is_event(
-    alloc: Global,
-    event: &Event,
-    row: &(&[u8], &[u64], &[u8]),
-) -> Result<bool, AllocError> {
-    let line = text_of(alloc, b"ok ", row.0, 1, b"")?;
-    Ok(is_told(told(event), row) && is_made(written(alloc, event), &line))
+/// Tells whether an event says what a text has, and is written as its line.
+fn is_event(alloc: Global, event: &Event, line: &str, text: &str) -> Result<bool, AllocError> {
+    let right = text_of(alloc, b"ok ", line.as_bytes(), 1, b"")?;
+    Ok(is_told(&told(event), text) && is_made(written(alloc, event), &right))
 }
 
-/// Tells whether a line is read as a row says.
-fn is_read(alloc: Global, row: &(&[u8], &[u64], &[u8])) -> Result<bool, AllocError> {
-    match &read_item(alloc, row.0)? {
-        Some(Item::Event(event)) => is_event(alloc, event, row),
-        Some(Item::Note) => Ok(row.0.starts_with(b"*")),
+/// Tells whether a line is read as the item that says what a text has.
+fn is_item(alloc: Global, line: &str, text: &str) -> Result<bool, AllocError> {
+    match &read_item(alloc, line.as_bytes())? {
+        Some(Item::Event(event)) => is_event(alloc, event, line, text),
+        Some(Item::Note) => Ok(text == "*"),
         None => Ok(false),
     }
 }
 
+/// Gives the first row whose line is not read as what stands behind it.
+fn first_misread(alloc: Global) -> Result<Option<&'static str>, AllocError> {
+    for row in ITEMS.lines() {
+        let (line, text) = row.split_once(" : ").unwrap_or((row, ""));
+        if !(is_act(line, text) && is_item(alloc, line, text)?) {
+            return Ok(Some(row));
+        }
+    }
+    Ok(None)
+}
+
 #[test]
 fn items_are_read_and_events_are_written_again(rt: HostRuntime) {
-    for row in &ITEMS {
-        let is_so = is_act(row) && is_read(rt.alloc(), row).unwrap_or(false);
-        assert!(rt; is_so, "{row:?}");
-    }
+    let misread = first_misread(rt.alloc());
+    assert!(rt; matches!(misread, Ok(None)), "{misread:?}");
+}
+
+/// Tells whether a note may hold any bytes.
+fn is_note(alloc: Global) -> Result<bool, AllocError> {
+    Ok(matches!(read_item(alloc, b"* \xff\0")?, Some(Item::Note)))
+}
+
+#[test]
+fn a_note_holds_any_bytes(rt: HostRuntime) {
+    assert!(rt; is_note(rt.alloc()).unwrap_or(false));
 }
 
 /// Tells whether a break takes two to these places in turn.

@@ -47,324 +47,209 @@ fn fault_of(alloc: Global, has_words: bool, file: &[u8]) -> Option<PlanFault> {
     }
 }
 
-/// Tells whether this item is wrong in a file with another line for a key, or none.
+/// Keys of plan files, their lines, and the item that is wrong then. In a line, `|` stands for a line feed.
+const PLANS: &str = "none :  -> right
+game : \"game\" = 'omaha' -> right
+tables : tables = 0x40 -> right
+buyin : buyin = 0 -> right
+late : late = 4 -> right
+late : late = 6 -> right
+shares : shares = [ 1000, ] -> right
+tables : tables = 3|title = \"Friday\"|host.name = 'Ann' -> right
+tables : tables = 3 # of the side room -> right
+floor_word : floor_word = 7 -> right
+words : [words]|floor = 1 -> right
+game :  -> game
+game : game = 7 -> game
+game : game = \"\" -> game
+game : game = \"Holdem\" -> game
+game : game = [\"holdem\"] -> game
+game : game.name = \"holdem\" -> game
+tables :  -> tables
+tables : tables = \"3\" -> tables
+tables : tables = 3.0 -> tables
+tables : tables = { count = 3 } -> tables
+tables : tables = 0 -> tables
+tables : tables = 65 -> tables
+tables : tables = -3 -> tables
+seats :  -> seats
+seats : seats = true -> seats
+seats : seats = 1 -> seats
+seats : seats = 11 -> seats
+seats : seats = -9 -> seats
+stack :  -> stack
+stack : stack = [10000] -> stack
+stack : stack = 0 -> stack
+stack : stack = 1_000_000_001 -> stack
+stack : stack = -9223372036854775808 -> stack
+buyin :  -> buyin
+buyin : buyin = 2026-11-28 -> buyin
+buyin : buyin = 1_000_000_001 -> buyin
+buyin : buyin = -1 -> buyin
+late :  -> late
+late : late = inf -> late
+late : late = 0 -> late
+late : late = 41 -> late
+late : late = -2 -> late
+blinds :  -> blinds
+blinds : blinds = [] -> blinds
+blinds : blinds = 25 -> blinds
+blinds : blinds = [25, 50, 25] -> blinds
+blinds : blinds = [[]] -> blinds
+blinds : blinds = [[25, 50]] -> blinds
+blinds : blinds = [[25, 50, 25, 0]] -> blinds
+blinds : blinds = [[25, 50, \"25\"]] -> blinds
+blinds : blinds = [[25, 50, 25], 100] -> blinds
+blinds : blinds = [[25, -50, 25]] -> blinds
+blinds : blinds = [[25, 50, 20]] -> blinds
+blinds : blinds = [[25, 50, 25], [10, 20, 10]] -> blinds
+shares :  -> shares
+shares : shares = [] -> shares
+shares : shares = 1000 -> shares
+shares : shares = [500, \"500\"] -> shares
+shares : shares = [500, 501] -> shares
+shares : shares = [-1000] -> shares
+shares : shares = [1001] -> shares
+late : late = 7 -> late
+stack : stack = 10010 -> stack
+late : late = -> toml
+late : late = 2 2 -> toml
+late : tables = 3 -> toml
+late : late = 2|late = 2 -> toml
+late : late = 2|late.level = 2 -> toml
+late : late = 9223372036854775808 -> toml
+game : tables = 0 -> toml
+game : x = 1|late = 0 -> toml
+late : x = 1 -> late
+all :  -> game
+all : shares = []|blinds = 3 -> game
+all : game = 'hilo'|shares = [] -> tables
+all : game = 'hilo'|seats = 1|tables = 1 -> seats
+";
+
+/// Keys of plan files with words, their lines, and the item that is wrong then.
+const SERVED: &str = "none :  -> right
+floor_word :  -> floor_word
+floor_word : floor_word = 7 -> floor_word
+floor_word : floor_word = \"\" -> floor_word
+floor_word : floor_word = \"a b\" -> floor_word
+floor_word : floor_word = \"töwer\" -> floor_word
+floor_word : floor_word = \"abcdefghijklmnopqrstuvwxyz012345\" -> right
+floor_word : floor_word = \"abcdefghijklmnopqrstuvwxyz0123456\" -> floor_word
+words :  -> words
+words : words = [] -> words
+words : words = \"ann\" -> words
+words : words = {} -> right
+words : [words]|ann = \"a1\"|Bob_2 = \"b\" -> right
+words : words.ann = \"a1\" -> right
+words : words = { ann = 7 } -> words
+words : words = { ann = \"\" } -> words
+words : words = { ann = \"a1\", bob = \"b-2\" } -> words
+words : words = { floor = \"a1\" } -> words
+words : words = { 1ann = \"a1\" } -> words
+words : words = { \"ann b\" = \"a1\" } -> words
+words : words = { abcdefghijklmnopq = \"a1\" } -> words
+stack : stack = 10010 -> stack
+";
+
+/// Names what is wrong in a file.
+fn named(fault: Option<PlanFault>) -> &'static str {
+    match fault {
+        None => "right",
+        Some(PlanFault::NoMemory) => "memory",
+        Some(PlanFault::Wrong(item)) => match item {
+            PlanItem::Toml => "toml",
+            PlanItem::Game => "game",
+            PlanItem::Tables => "tables",
+            PlanItem::Seats => "seats",
+            PlanItem::Stack => "stack",
+            PlanItem::Buyin => "buyin",
+            PlanItem::Late => "late",
+            PlanItem::Blinds => "blinds",
+            PlanItem::Shares => "shares",
+            PlanItem::FloorWord => "floor_word",
+            PlanItem::Words => "words",
+        },
+    }
+}
+
+/// Tells whether a file with another line for a key has this wrong.
 fn is_wrong(
     alloc: Global,
     has_words: bool,
     key: &str,
     line: &[u8],
-    item: Option<PlanItem>,
+    item: &str,
 ) -> Result<bool, AllocError> {
     let file = file_with(alloc, key, line)?;
-    Ok(fault_of(alloc, has_words, &file) == item.map(PlanFault::Wrong))
+    Ok(named(fault_of(alloc, has_words, &file)) == item)
 }
 
-/// Whether a file is read for its words too, the line of a key, and the item that is wrong then.
-static FILES: [(bool, &str, &[u8], Option<PlanItem>); 101] = [
-    // what is right
-    (false, "none", b"", None),
-    (false, "game", b"\"game\" = 'omaha'", None),
-    (false, "tables", b"tables = 0x40", None),
-    (false, "buyin", b"buyin = 0", None),
-    (false, "late", b"late = 4", None),
-    (false, "late", b"late = 6", None),
-    (false, "shares", b"shares = [ 1000, ]", None),
-    // other keys are ignored
-    (
-        false,
-        "tables",
-        b"tables = 3\ntitle = \"Friday\"\nhost.name = 'Ann'",
-        None,
-    ),
-    (false, "tables", b"tables = 3 # of the side room", None),
-    // words are for a server
-    (false, "floor_word", b"floor_word = 7", None),
-    (false, "words", b"[words]\nfloor = 1", None),
-    // each item where it is wrong
-    (false, "game", b"", Some(PlanItem::Game)),
-    (false, "game", b"game = 7", Some(PlanItem::Game)),
-    (false, "game", b"game = \"\"", Some(PlanItem::Game)),
-    (false, "game", b"game = \"Holdem\"", Some(PlanItem::Game)),
-    (false, "game", b"game = [\"holdem\"]", Some(PlanItem::Game)),
-    (
-        false,
-        "game",
-        b"game.name = \"holdem\"",
-        Some(PlanItem::Game),
-    ),
-    (false, "tables", b"", Some(PlanItem::Tables)),
-    (false, "tables", b"tables = \"3\"", Some(PlanItem::Tables)),
-    (false, "tables", b"tables = 3.0", Some(PlanItem::Tables)),
-    (
-        false,
-        "tables",
-        b"tables = { count = 3 }",
-        Some(PlanItem::Tables),
-    ),
-    (false, "tables", b"tables = 0", Some(PlanItem::Tables)),
-    (false, "tables", b"tables = 65", Some(PlanItem::Tables)),
-    (false, "tables", b"tables = -3", Some(PlanItem::Tables)),
-    (false, "seats", b"", Some(PlanItem::Seats)),
-    (false, "seats", b"seats = true", Some(PlanItem::Seats)),
-    (false, "seats", b"seats = 1", Some(PlanItem::Seats)),
-    (false, "seats", b"seats = 11", Some(PlanItem::Seats)),
-    (false, "seats", b"seats = -9", Some(PlanItem::Seats)),
-    (false, "stack", b"", Some(PlanItem::Stack)),
-    (false, "stack", b"stack = [10000]", Some(PlanItem::Stack)),
-    (false, "stack", b"stack = 0", Some(PlanItem::Stack)),
-    (
-        false,
-        "stack",
-        b"stack = 1_000_000_001",
-        Some(PlanItem::Stack),
-    ),
-    (
-        false,
-        "stack",
-        b"stack = -9223372036854775808",
-        Some(PlanItem::Stack),
-    ),
-    (false, "buyin", b"", Some(PlanItem::Buyin)),
-    (false, "buyin", b"buyin = 2026-11-28", Some(PlanItem::Buyin)),
-    (
-        false,
-        "buyin",
-        b"buyin = 1_000_000_001",
-        Some(PlanItem::Buyin),
-    ),
-    (false, "buyin", b"buyin = -1", Some(PlanItem::Buyin)),
-    (false, "late", b"", Some(PlanItem::Late)),
-    (false, "late", b"late = inf", Some(PlanItem::Late)),
-    (false, "late", b"late = 0", Some(PlanItem::Late)),
-    (false, "late", b"late = 41", Some(PlanItem::Late)),
-    (false, "late", b"late = -2", Some(PlanItem::Late)),
-    (false, "blinds", b"", Some(PlanItem::Blinds)),
-    (false, "blinds", b"blinds = []", Some(PlanItem::Blinds)),
-    (false, "blinds", b"blinds = 25", Some(PlanItem::Blinds)),
-    (
-        false,
-        "blinds",
-        b"blinds = [25, 50, 25]",
-        Some(PlanItem::Blinds),
-    ),
-    (false, "blinds", b"blinds = [[]]", Some(PlanItem::Blinds)),
-    (
-        false,
-        "blinds",
-        b"blinds = [[25, 50]]",
-        Some(PlanItem::Blinds),
-    ),
-    (
-        false,
-        "blinds",
-        b"blinds = [[25, 50, 25, 0]]",
-        Some(PlanItem::Blinds),
-    ),
-    (
-        false,
-        "blinds",
-        b"blinds = [[25, 50, \"25\"]]",
-        Some(PlanItem::Blinds),
-    ),
-    (
-        false,
-        "blinds",
-        b"blinds = [[25, 50, 25], 100]",
-        Some(PlanItem::Blinds),
-    ),
-    (
-        false,
-        "blinds",
-        b"blinds = [[25, -50, 25]]",
-        Some(PlanItem::Blinds),
-    ),
-    (
-        false,
-        "blinds",
-        b"blinds = [[25, 50, 20]]",
-        Some(PlanItem::Blinds),
-    ),
-    (
-        false,
-        "blinds",
-        b"blinds = [[25, 50, 25], [10, 20, 10]]",
-        Some(PlanItem::Blinds),
-    ),
-    (false, "shares", b"", Some(PlanItem::Shares)),
-    (false, "shares", b"shares = []", Some(PlanItem::Shares)),
-    (false, "shares", b"shares = 1000", Some(PlanItem::Shares)),
-    (
-        false,
-        "shares",
-        b"shares = [500, \"500\"]",
-        Some(PlanItem::Shares),
-    ),
-    (
-        false,
-        "shares",
-        b"shares = [500, 501]",
-        Some(PlanItem::Shares),
-    ),
-    (false, "shares", b"shares = [-1000]", Some(PlanItem::Shares)),
-    (false, "shares", b"shares = [1001]", Some(PlanItem::Shares)),
-    // by the end of the plan
-    (false, "late", b"late = 7", Some(PlanItem::Late)),
-    (false, "stack", b"stack = 10010", Some(PlanItem::Stack)),
-    // no TOML
-    (false, "late", b"late =", Some(PlanItem::Toml)),
-    (false, "late", b"late = 2 2", Some(PlanItem::Toml)),
-    (false, "late", b"tables = 3", Some(PlanItem::Toml)),
-    (false, "late", b"late = 2\nlate = 2", Some(PlanItem::Toml)),
-    (
-        false,
-        "late",
-        b"late = 2\nlate.level = 2",
-        Some(PlanItem::Toml),
-    ),
-    (
-        false,
-        "late",
-        b"late = 9223372036854775808",
-        Some(PlanItem::Toml),
-    ),
-    // the first item that is wrong
-    (false, "game", b"tables = 0", Some(PlanItem::Toml)),
-    (false, "game", b"x = 1\nlate = 0", Some(PlanItem::Toml)),
-    (false, "late", b"x = 1", Some(PlanItem::Late)),
-    (false, "all", b"", Some(PlanItem::Game)),
-    (
-        false,
-        "all",
-        b"shares = []\nblinds = 3",
-        Some(PlanItem::Game),
-    ),
-    (
-        false,
-        "all",
-        b"game = 'hilo'\nshares = []",
-        Some(PlanItem::Tables),
-    ),
-    (
-        false,
-        "all",
-        b"game = 'hilo'\nseats = 1\ntables = 1",
-        Some(PlanItem::Seats),
-    ),
-    (false, "all", b"game = 'hilo'\xff", Some(PlanItem::Toml)),
-    (false, "all", b"# \xff\n", Some(PlanItem::Toml)),
-    // the words of a server, which are checked behind the plan
-    (true, "none", b"", None),
-    (true, "floor_word", b"", Some(PlanItem::FloorWord)),
-    (
-        true,
-        "floor_word",
-        b"floor_word = 7",
-        Some(PlanItem::FloorWord),
-    ),
-    (
-        true,
-        "floor_word",
-        b"floor_word = \"\"",
-        Some(PlanItem::FloorWord),
-    ),
-    (
-        true,
-        "floor_word",
-        b"floor_word = \"a b\"",
-        Some(PlanItem::FloorWord),
-    ),
-    (
-        true,
-        "floor_word",
-        b"floor_word = \"t\xc3\xb6wer\"",
-        Some(PlanItem::FloorWord),
-    ),
-    (
-        true,
-        "floor_word",
-        b"floor_word = \"abcdefghijklmnopqrstuvwxyz012345\"",
-        None,
-    ),
-    (
-        true,
-        "floor_word",
-        b"floor_word = \"abcdefghijklmnopqrstuvwxyz0123456\"",
-        Some(PlanItem::FloorWord),
-    ),
-    (true, "words", b"", Some(PlanItem::Words)),
-    (true, "words", b"words = []", Some(PlanItem::Words)),
-    (true, "words", b"words = \"ann\"", Some(PlanItem::Words)),
-    (true, "words", b"words = {}", None),
-    (true, "words", b"[words]\nann = \"a1\"\nBob_2 = \"b\"", None),
-    (true, "words", b"words.ann = \"a1\"", None),
-    (true, "words", b"words = { ann = 7 }", Some(PlanItem::Words)),
-    (
-        true,
-        "words",
-        b"words = { ann = \"\" }",
-        Some(PlanItem::Words),
-    ),
-    (
-        true,
-        "words",
-        b"words = { ann = \"a1\", bob = \"b-2\" }",
-        Some(PlanItem::Words),
-    ),
-    (
-        true,
-        "words",
-        b"words = { floor = \"a1\" }",
-        Some(PlanItem::Words),
-    ),
-    (
-        true,
-        "words",
-        b"words = { 1ann = \"a1\" }",
-        Some(PlanItem::Words),
-    ),
-    (
-        true,
-        "words",
-        b"words = { \"ann b\" = \"a1\" }",
-        Some(PlanItem::Words),
-    ),
-    (
-        true,
-        "words",
-        b"words = { abcdefghijklmnopq = \"a1\" }",
-        Some(PlanItem::Words),
-    ),
-    // the plan comes first
-    (true, "stack", b"stack = 10010", Some(PlanItem::Stack)),
-];
+/// Gives the lines of a row.
+fn lines_of(alloc: Global, row: &str) -> Result<Vec<u8>, AllocError> {
+    let mut lines = Vec::new(alloc);
+    for byte in row.as_bytes() {
+        lines.push(if *byte == b'|' { b'\n' } else { *byte })?;
+    }
+    Ok(lines)
+}
+
+/// Tells whether a row is right.
+fn is_row(alloc: Global, has_words: bool, row: &str) -> Result<bool, AllocError> {
+    let (key, rest) = row.split_once(" : ").unwrap_or((row, ""));
+    let (line, item) = rest.split_once(" -> ").unwrap_or((rest, ""));
+    is_wrong(alloc, has_words, key, &lines_of(alloc, line)?, item)
+}
+
+/// Gives the first row that is not right.
+fn first_wrong(
+    alloc: Global,
+    has_words: bool,
+    rows: &'static str,
+) -> Result<Option<&'static str>, AllocError> {
+    for row in rows.lines() {
+        if !is_row(alloc, has_words, row)? {
+            return Ok(Some(row));
+        }
+    }
+    Ok(None)
+}
 
 #[test]
-fn the_first_wrong_item_is_named(rt: HostRuntime) {
-    for row in &FILES {
-        let is_so = is_wrong(rt.alloc(), row.0, row.1, row.2, row.3);
-        assert!(rt; is_so.unwrap_or(false), "{} {:?}", row.1, row.2);
-    }
+fn the_first_wrong_item_of_a_plan_is_named(rt: HostRuntime) {
+    let wrong = first_wrong(rt.alloc(), false, PLANS);
+    assert!(rt; matches!(wrong, Ok(None)), "{wrong:?}");
 }
 
-/// A key, how its line begins, what follows so many times, and the item that is wrong then.
-static LISTS: [(&str, &[u8], &[u8], usize, Option<PlanItem>); 4] = [
-    ("blinds", b"blinds = [", b"[1, 2, 1], ", 40, None),
-    (
-        "blinds",
-        b"blinds = [",
-        b"[1, 2, 1], ",
-        41,
-        Some(PlanItem::Blinds),
-    ),
-    ("shares", b"shares = [", b"15, ", 64, None),
-    ("shares", b"shares = [", b"15, ", 65, Some(PlanItem::Shares)),
+#[test]
+fn words_are_checked_behind_the_plan(rt: HostRuntime) {
+    let wrong = first_wrong(rt.alloc(), true, SERVED);
+    assert!(rt; matches!(wrong, Ok(None)), "{wrong:?}");
+}
+
+/// Tells whether files that are no text are no TOML.
+fn are_no_toml(alloc: Global) -> Result<bool, AllocError> {
+    Ok(
+        is_wrong(alloc, false, "all", b"game = 'hilo'\xff", "toml")?
+            && is_wrong(alloc, false, "all", b"# \xff\n", "toml")?,
+    )
+}
+
+#[test]
+fn a_file_that_is_no_text_is_no_toml(rt: HostRuntime) {
+    assert!(rt; are_no_toml(rt.alloc()).unwrap_or(false));
+}
+
+/// A key, how its line begins, what follows so many times, and what is wrong then.
+static LISTS: [(&str, &[u8], &[u8], usize, &str); 4] = [
+    ("blinds", b"blinds = [", b"[1, 2, 1], ", 40, "right"),
+    ("blinds", b"blinds = [", b"[1, 2, 1], ", 41, "blinds"),
+    ("shares", b"shares = [", b"15, ", 64, "right"),
+    ("shares", b"shares = [", b"15, ", 65, "shares"),
 ];
 
 /// Tells whether a list is read, or not, as a row says.
-fn is_bound(
-    alloc: Global,
-    row: &(&str, &[u8], &[u8], usize, Option<PlanItem>),
-) -> Result<bool, AllocError> {
+fn is_bound(alloc: Global, row: &(&str, &[u8], &[u8], usize, &str)) -> Result<bool, AllocError> {
     let line = text_of(alloc, row.1, row.2, row.3, b"]")?;
     is_wrong(alloc, false, row.0, &line, row.4)
 }
@@ -390,8 +275,8 @@ fn words_for(alloc: Global, count: u64) -> Result<String, AllocError> {
     Ok(lines)
 }
 
-/// Tells whether this item is wrong where so many players have words.
-fn is_wrong_for(alloc: Global, count: u64, item: Option<PlanItem>) -> Result<bool, AllocError> {
+/// Tells whether this is wrong where so many players have words.
+fn is_wrong_for(alloc: Global, count: u64, item: &str) -> Result<bool, AllocError> {
     let lines = words_for(alloc, count)?;
     is_wrong(alloc, true, "words", lines.as_bytes(), item)
 }
@@ -399,8 +284,8 @@ fn is_wrong_for(alloc: Global, count: u64, item: Option<PlanItem>) -> Result<boo
 #[test]
 fn at_most_640_players_have_words(rt: HostRuntime) {
     assert!(rt;
-        is_wrong_for(rt.alloc(), 640, None).unwrap_or(false)
-            && is_wrong_for(rt.alloc(), 641, Some(PlanItem::Words)).unwrap_or(false)
+        is_wrong_for(rt.alloc(), 640, "right").unwrap_or(false)
+            && is_wrong_for(rt.alloc(), 641, "words").unwrap_or(false)
     );
 }
 
@@ -442,19 +327,31 @@ fn again(alloc: Global, plan: &Plan) -> Result<Plan, PlanFault> {
 /// The units of the right file.
 static UNITS: [u64; 6] = [25, 25, 100, 100, 500, 500];
 
-/// Tells whether the right file gives its plan and its words, and the lines of its plan the same plan again.
-fn is_read(alloc: Global) -> Result<bool, PlanFault> {
-    let file = file_with(alloc, "", b"")?;
-    let (plan, words) = served_from_toml(alloc, &file)?;
-    let plan_alone = plan_from_toml(alloc, &file)?;
-    let again = again(alloc, &plan)?;
+/// Tells whether the lines of the right file's plan make it again.
+fn is_again(alloc: Global, plan: &Plan) -> Result<bool, PlanFault> {
+    let again = again(alloc, plan)?;
+    Ok(is_plan(&again, Game::Holdem, &UNITS) && again.blinds.items() == plan.blinds.items())
+}
+
+/// Tells whether the right file, read for its words too, gives them and its plan.
+fn is_served(alloc: Global, file: &[u8]) -> Result<bool, PlanFault> {
+    let (plan, words) = served_from_toml(alloc, file)?;
     Ok(
         are_right(&words)
             && is_plan(&plan, Game::Holdem, &UNITS)
-            && is_plan(&plan_alone, Game::Holdem, &UNITS)
-            && is_plan(&again, Game::Holdem, &UNITS)
-            && again.blinds.items() == plan.blinds.items(),
+            && is_again(alloc, &plan).unwrap_or(false),
     )
+}
+
+/// Tells whether the right file gives its plan.
+fn is_planned(alloc: Global, file: &[u8]) -> Result<bool, PlanFault> {
+    Ok(is_plan(&plan_from_toml(alloc, file)?, Game::Holdem, &UNITS))
+}
+
+/// Tells whether the right file is read.
+fn is_read(alloc: Global) -> Result<bool, AllocError> {
+    let file = file_with(alloc, "", b"")?;
+    Ok(is_served(alloc, &file).unwrap_or(false) && is_planned(alloc, &file).unwrap_or(false))
 }
 
 #[test]
