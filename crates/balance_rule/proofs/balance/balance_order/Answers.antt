@@ -1,4 +1,4 @@
-use Rattle.std.proofs.Common.{◌≡◌, ◌∙◌, refl, sym, ap, ◌≤◌, arith}
+use Rattle.std.proofs.Common.{rules, ◌≡◌, ◌∙◌, refl, sym, ap, ◌≤◌, arith}
 use Rattle.std.specs.Prelude.{true}
 use Rattle.button_blinds.specs.SeatSets.{has_seat}
 use Rattle.seat_book.specs.Players.{player_at, taken_seats}
@@ -62,3 +62,6 @@ returns-clause-sits c =
     c.unwrap-player.ensures mover.1 in
     rw number (sits-there c.args.book.now (record { table = c.args.from; seat = big }) mover.0
     c.seat_count-seats.ensures.lawful mover.1)
+
+pub returns-then-here-fullest-clause-checked : goal.returns-then-here-fullest-clause-checked
+returns-then-here-fullest-clause-checked c = search rules

@@ -1,4 +1,5 @@
-use Rattle.std.proofs.Common.{◌∙◌}
+use Rattle.std.proofs.Common.{arith, ◌∙◌}
+use Rattle.std.proofs.lemmas.Grind.{common_steps}
 use Rattle.line_words.proofs.Growth.{Extends-append}
 use Rattle.book_dock.proofs.lines.push_entries.Goals as goal
 
@@ -9,3 +10,9 @@ returns-in_err-floor_lines-clause-kept c =
 
 pub returns-clause-kept : goal.returns-clause-kept
 returns-clause-kept c = Extends-append c.args.out.now.items c.loop-entry.out.items _ c.loop-entry.invariant
+
+pub loop-entry-preserved : goal.loop-entry-preserved
+loop-entry-preserved c = grind (arith, common_steps)
+
+pub returns-clause-ok : goal.returns-clause-ok
+returns-clause-ok c = grind (arith, common_steps)

@@ -8,3 +8,6 @@ pub returns-clause-right : goal.returns-clause-right
 returns-clause-right c =
     λ seating table names_are. draw-right seating table c.args.fill.now.items _ c.args.names.now.items _
     names_are (search (rules, IsPermutation-refl)) (search (rules, IsPermutation-refl))
+
+pub returns-clause-names : goal.returns-clause-names
+returns-clause-names c = search rules

@@ -1,4 +1,4 @@
-use Rattle.std.proofs.Common.{◌∙◌, ◌+◌, ◌<◌, ap, subst, List, length, get_or, length-set, arith}
+use Rattle.std.proofs.Common.{rules, ◌∙◌, ◌+◌, ◌<◌, ap, subst, List, length, get_or, length-set, arith}
 use Rattle.seat_book.specs.declared.place.Place.{Place}
 use Rattle.balance_rule.specs.Filling.{count_with}
 use Rattle.break_draw.proofs.Room.{filled-length, filled-more}
@@ -86,3 +86,6 @@ loop-chosen-preserved c =
       size = length-set c.loop-chosen.counts c.from-in-loop-chosen.result
           (get_or c.loop-chosen.counts c.from-in-loop-chosen.result 0 + 1) ∙ c.loop-chosen.invariant.size;
     }
+
+pub returns-then-empty_elsewhere-from-clause-no_room : goal.returns-then-empty_elsewhere-from-clause-no_room
+returns-then-empty_elsewhere-from-clause-no_room c = search rules

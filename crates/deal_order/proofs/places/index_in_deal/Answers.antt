@@ -1,4 +1,4 @@
-use Rattle.std.proofs.Common.{◌≡◌, ◌∙◌, true, false, ap, sym, arith}
+use Rattle.std.proofs.Common.{rules, ◌≡◌, ◌∙◌, true, false, ap, sym, arith}
 use Rattle.std.specs.Prelude.{◌==◌}
 use Rattle.std.proofs.lemmas.Bool.Decides.{nat_tests}
 use Rattle.rulebook.specs.Seats.{seat_after}
@@ -30,3 +30,6 @@ loop-step-preserved c =
           c.loop-step-test.true nobody in
           (rw w.before-is (omega arith), rw (w.before-is, next) (omega (arith, passed, left)))
     ]
+
+pub loop-step-init : goal.loop-step-init
+loop-step-init c = search rules

@@ -1,4 +1,5 @@
 use Rattle.std.proofs.Common.{◌∙◌, ap, arith}
+use Rattle.std.proofs.lemmas.Grind.{common_steps}
 use Rattle.level_plan.specs.Plans.{PlanTerms}
 use Rattle.seat_book.specs.Seatings.{Seating}
 use Rattle.floor_book.proofs.Opened.{opened_next, opened_last}
@@ -19,3 +20,9 @@ returns c =
     ∙ ap (λ (seats : Seating). seats.table_count) c.in_ok-seats.ensures.empty
     ∙ ap (λ (plan : PlanTerms). plan.tables) c.plan.view_is in
     opened_last c.args.plan.now c.loop-below.seats c.loop-below.below c.loop-below.invariant (omega (arith, tables))
+
+pub new-requires-clause-most_seats : goal.new-requires-clause-most_seats
+new-requires-clause-most_seats c = grind (arith, common_steps)
+
+pub new-requires-clause-some_seats : goal.new-requires-clause-some_seats
+new-requires-clause-some_seats c = grind (arith, common_steps)

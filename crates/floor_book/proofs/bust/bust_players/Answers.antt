@@ -50,3 +50,9 @@ loop-index-preserved c =
           c.args.seats.now c.loop-index.seats c.args.busts.now c.loop-index.busts c.loop-index.index player
           c.loop-index.invariant within here (is_something _ _ his w.if-stacks-index-eq0.false))
     ]
+
+pub returns-clause-busts : goal.returns-clause-busts
+returns-clause-busts c = grind (arith, common_steps)
+
+pub returns-clause-seats : goal.returns-clause-seats
+returns-clause-seats c = grind (arith, common_steps)

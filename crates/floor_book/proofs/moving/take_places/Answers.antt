@@ -1,4 +1,5 @@
 use Rattle.std.proofs.Common.{◌≡◌, ◌∙◌, ◌<◌, ◌+◌, ap, sym, subst, length, get_or, drop, ◌∷◌, arith}
+use Rattle.std.proofs.lemmas.Grind.{common_steps}
 use Rattle.std.proofs.lemmas.List.{drop_more}
 use Rattle.seat_book.specs.declared.place.Place.{Place}
 use Rattle.seat_book.specs.Seatings.{Seating}
@@ -38,3 +39,9 @@ pub returns-clause-taken : goal.returns-clause-taken
 returns-clause-taken c =
     sym (taking-over c.args.table c.args.names.now c.args.places.now c.loop-index.index c.loop-index.seats
     (omega (arith, c.loop-index-test.false, c.min-index-end.ensures))) ∙ c.loop-index.invariant.all
+
+pub take_place-requires-clause-free : goal.take_place-requires-clause-free
+take_place-requires-clause-free c = grind (arith, common_steps)
+
+pub take_place-requires-clause-within : goal.take_place-requires-clause-within
+take_place-requires-clause-within c = grind (arith, common_steps)

@@ -1,4 +1,4 @@
-use Rattle.std.proofs.Common.{◌≡◌, refl, subst, if◌then◌else◌, Bool, true, false, Some, None}
+use Rattle.std.proofs.Common.{rules, ◌≡◌, refl, subst, if◌then◌else◌, Bool, true, false, Some, None}
 use Rattle.level_plan.specs.declared.line.PlanItem.{PlanItem}
 use Rattle.level_plan.specs.declared.line.PlanFault.{PlanFault}
 use Rattle.level_plan.specs.Drafts.{IsFault, is_wrong_line, item_of_line, line_fault}
@@ -29,3 +29,6 @@ returns-in-Err-Wrong-clause-state c =
     c.in-Err-Wrong.field-0-is c.in-Err-Wrong.ensures.fault in
     rw (wrong_answer (is_wrong_line draft line) (item_of_line line) c.in-Err-Wrong.item found)
     c.in-Err-Wrong.ensures.kept
+
+pub returns-in-Ok-clause-answer : goal.returns-in-Ok-clause-answer
+returns-in-Ok-clause-answer c = search rules

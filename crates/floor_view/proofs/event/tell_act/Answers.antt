@@ -1,4 +1,5 @@
-use Rattle.std.proofs.Common.{◌∙◌, refl, sym}
+use Rattle.std.proofs.Common.{arith, ◌∙◌, refl, sym}
+use Rattle.std.proofs.lemmas.Grind.{common_steps}
 use Rattle.std.proofs.lemmas.Result.{on_ok_weaker}
 use Rattle.tournament_events.specs.declared.event.Event.TheVariants.{Act}
 use Rattle.floor_view.specs.Turns.{act_made}
@@ -51,3 +52,12 @@ returns-in-None-clause-told c =
     absurd (some-turn c.args.tournament.now c.args.table (Act c.args.table c.args.name c.args.act)
     c.turn_of_act-turn.result c.requires.valid refl (sym c.in_ok-take_act.ensures.accepted ∙ c.if-not-branch.false)
     c.turn_of_act-turn.ensures c.in-None.is)
+
+pub returns-in-None-clause-kept : goal.returns-in-None-clause-kept
+returns-in-None-clause-kept c = grind (arith, common_steps)
+
+pub returns-in_err-take_act-clause-kept : goal.returns-in_err-take_act-clause-kept
+returns-in_err-take_act-clause-kept c = grind (arith, common_steps)
+
+pub returns-then-not-branch-clause-kept : goal.returns-then-not-branch-clause-kept
+returns-then-not-branch-clause-kept c = grind (arith, common_steps)

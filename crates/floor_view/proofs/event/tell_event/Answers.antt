@@ -1,4 +1,5 @@
-use Rattle.std.proofs.Common.{◌∙◌, sym}
+use Rattle.std.proofs.Common.{arith, ◌∙◌, sym}
+use Rattle.std.proofs.lemmas.Grind.{common_steps}
 use Rattle.std.proofs.lemmas.Result.{on_ok_weaker}
 use Rattle.floor_view.specs.Turns.{act_made}
 use Rattle.floor_view.proofs.Acted.{written-told}
@@ -90,3 +91,12 @@ returns-clause-told c =
     (sym c.in_ok-take_event.ensures.accepted ∙ c.if-not-branch.false) c.in_ok-take_event.ensures.state
     (written state)))
     c.push_after.ensures.told
+
+pub returns-in_err-before-clause-kept : goal.returns-in_err-before-clause-kept
+returns-in_err-before-clause-kept c = grind (arith, common_steps)
+
+pub returns-in_err-take_event-clause-kept : goal.returns-in_err-take_event-clause-kept
+returns-in_err-take_event-clause-kept c = grind (arith, common_steps)
+
+pub returns-then-not-branch-clause-kept : goal.returns-then-not-branch-clause-kept
+returns-then-not-branch-clause-kept c = grind (arith, common_steps)

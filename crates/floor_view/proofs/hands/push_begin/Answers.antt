@@ -1,4 +1,5 @@
-use Rattle.std.proofs.Common.{sym}
+use Rattle.std.proofs.Common.{arith, sym}
+use Rattle.std.proofs.lemmas.Grind.{common_steps}
 use Rattle.std.proofs.lemmas.Result.{on_ok_weaker}
 use Rattle.floor_view.proofs.Begun.{written-nothing, written-opened}
 use Rattle.floor_view.proofs.hands.push_begin.Goals as goal
@@ -18,3 +19,6 @@ returns-in-None-clause-told c =
     (λ then before. written-nothing c.args.who before c.args.tournament.now c.args.table c.args.event.now
     c.args.text.now.items c.push_floor_lines-in-None.new.out.items c.requires (sym c.in-None.ensures.hand) then)
     c.push_floor_lines-in-None.ensures.ok
+
+pub returns-in_ok-push_floor_lines-in-Some-clause-kept : goal.returns-in_ok-push_floor_lines-in-Some-clause-kept
+returns-in_ok-push_floor_lines-in-Some-clause-kept c = grind (arith, common_steps)

@@ -1,4 +1,5 @@
-use Rattle.std.proofs.Common.{◌∙◌, []}
+use Rattle.std.proofs.Common.{arith, ◌∙◌, []}
+use Rattle.std.proofs.lemmas.Grind.{common_steps}
 use Rattle.command_lines.specs.Endings.{fault_of_read_end}
 use Rattle.line_tellers.proofs.Promises.{next_failed, next_handed}
 use Rattle.line_tellers.proofs.Running.{err_so}
@@ -21,3 +22,9 @@ returns-clause-told g c = λ telling bytes before state written on.
     next_handed telling bytes before state (g.I.Source.left c.args.input.now)
     (g.I.Source.left c.next_line.new.source) written _ c.args.reader.now c.next_line.new.self c.requires.going
     handed.reads handed.goes_on handed.ended handed.source_end on
+
+pub returns-clause-counts : goal.returns-clause-counts
+returns-clause-counts g c = grind (arith, common_steps)
+
+pub returns-in_err-next_line-clause-counts : goal.returns-in_err-next_line-clause-counts
+returns-in_err-next_line-clause-counts g c = grind (arith, common_steps)

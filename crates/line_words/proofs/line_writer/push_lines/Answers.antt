@@ -1,3 +1,5 @@
+use Rattle.std.proofs.Common.{arith}
+use Rattle.std.proofs.lemmas.Grind.{common_steps}
 use Rattle.line_words.proofs.Growth.{Extends-append, Extends-before}
 use Rattle.line_words.proofs.line_writer.push_lines.Goals as goal
 
@@ -7,3 +9,9 @@ returns-in_err-push_line-clause-kept c =
 
 pub returns-clause-kept : goal.returns-clause-kept
 returns-clause-kept c = Extends-append c.args.out.now.items c.loop-line.out.items _ c.loop-line.invariant
+
+pub loop-line-preserved : goal.loop-line-preserved
+loop-line-preserved c = grind (arith, common_steps)
+
+pub returns-clause-ok : goal.returns-clause-ok
+returns-clause-ok c = grind (arith, common_steps)

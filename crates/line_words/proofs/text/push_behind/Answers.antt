@@ -1,4 +1,5 @@
-use Rattle.std.proofs.Common.{[], ◌∷◌}
+use Rattle.std.proofs.Common.{arith, [], ◌∷◌}
+use Rattle.std.proofs.lemmas.Grind.{common_steps}
 use Rattle.line_words.proofs.Growth.{Extends-same, Extends-append, Extends-before}
 use Rattle.line_words.proofs.text.push_behind.Goals as goal
 
@@ -13,3 +14,9 @@ returns-in_err-push_text-clause-kept g c = Extends-before c.args.out.now.items c
 
 pub returns-clause-kept : goal.returns-clause-kept
 returns-clause-kept g c = Extends-append c.args.out.now.items c.loop-item.out.items _ c.loop-item.invariant
+
+pub loop-item-preserved : goal.loop-item-preserved
+loop-item-preserved g c = grind (arith, common_steps)
+
+pub returns-clause-ok : goal.returns-clause-ok
+returns-clause-ok g c = grind (arith, common_steps)

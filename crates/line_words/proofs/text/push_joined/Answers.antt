@@ -1,4 +1,5 @@
-use Rattle.std.proofs.Common.{◌∙◌, ◌++◌, ap}
+use Rattle.std.proofs.Common.{arith, ◌∙◌, ◌++◌, ap}
+use Rattle.std.proofs.lemmas.Grind.{common_steps}
 use Rattle.std.proofs.lemmas.Result.{on_ok_weaker}
 use Rattle.line_words.proofs.Growth.{Extends-before, joined}
 use Rattle.line_words.proofs.text.push_joined.Goals as goal
@@ -14,3 +15,9 @@ returns-clause-ok g c =
 pub returns-clause-kept : goal.returns-clause-kept
 returns-clause-kept g c = Extends-before c.args.out.now.items c.push_text.new.out.items _ _
     c.in_ok-push_text.ensures.ok c.push_behind.ensures.kept
+
+pub returns-in_default-clause-kept : goal.returns-in_default-clause-kept
+returns-in_default-clause-kept g c = grind (arith, common_steps)
+
+pub returns-in_default-clause-ok : goal.returns-in_default-clause-ok
+returns-in_default-clause-ok g c = grind (arith, common_steps)

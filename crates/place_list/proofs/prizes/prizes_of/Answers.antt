@@ -1,4 +1,5 @@
 use Rattle.std.proofs.Common.{◌≡◌, ◌∙◌, ◌≤◌, ap, sym, ℕ, ◌-◌, ◌*◌, [], ◌∷◌, ◌++◌, take, arith, rules}
+use Rattle.std.proofs.lemmas.Grind.{common_steps}
 use Rattle.std.specs.Prelude.{sum, map}
 use Rattle.std.proofs.lemmas.List.Sums.{sum_by-take-le, sum_by-append}
 use Rattle.std.proofs.lemmas.List.{take_all}
@@ -54,3 +55,9 @@ returns-clause-prizes c =
     c.first_gets.ensures ∙ ap (λ n. first_gets n c.loop-share.prizes.items) left
     ∙ ap (first_gets (pool_of c.args.entries c.args.buyin - sum
     (parts c.args.entries (pool_of c.args.entries c.args.buyin) c.args.shares.now))) items
+
+pub part_of-part-requires-clause-share : goal.part_of-part-requires-clause-share
+part_of-part-requires-clause-share c = grind (arith, common_steps)
+
+pub returns-clause-pool : goal.returns-clause-pool
+returns-clause-pool c = grind (arith, common_steps)

@@ -1,3 +1,4 @@
+use Rattle.std.proofs.Common.{rules}
 -- The bytes are the document that the grammar reads, or no UTF-8 or no document.
 use Rattle.std.proofs.lemmas.Bool.{false≢true}
 use Rattle.toml.specs.View.{table_view}
@@ -12,3 +13,6 @@ pub returns-in-Err-2-clause-wrong : goal.returns-in-Err-2-clause-wrong
 returns-in-Err-2-clause-wrong c =
     is_no_document c.args.bytes.now
     (c.in-Err.ensures.refused (λ memory. false≢true (c.if-is_memory.ensures.1 memory)))
+
+pub returns-in-Ok-clause-wrong : goal.returns-in-Ok-clause-wrong
+returns-in-Ok-clause-wrong c = search rules

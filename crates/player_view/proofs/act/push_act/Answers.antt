@@ -1,4 +1,5 @@
-use Rattle.std.proofs.Common.{◌∙◌, ◌++◌, List, ℕ, ap, subst}
+use Rattle.std.proofs.Common.{arith, ◌∙◌, ◌++◌, List, ℕ, ap, subst}
+use Rattle.std.proofs.lemmas.Grind.{common_steps}
 use Rattle.std.proofs.lemmas.Result.{on_ok_weaker}
 use Rattle.table_engine.specs.Hands.{HandTerms}
 use Rattle.table_engine.specs.Plays.{IsLawfulPlay}
@@ -20,3 +21,6 @@ returns-clause-ok c =
     (text-act c.args.table c.args.left_before who before c.args.hand.now act c.args.name.now c.args.done lawful
     (front-play before act play) left done name))
     c.push_following.ensures.ok
+
+pub returns-clause-kept : goal.returns-clause-kept
+returns-clause-kept c = grind (arith, common_steps)

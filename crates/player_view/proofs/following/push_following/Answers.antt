@@ -1,4 +1,5 @@
-use Rattle.std.proofs.Common.{◌∙◌, ◌++◌, List, ℕ, ap, sym}
+use Rattle.std.proofs.Common.{arith, ◌∙◌, ◌++◌, List, ℕ, ap, sym}
+use Rattle.std.proofs.lemmas.Grind.{common_steps}
 use Rattle.std.proofs.lemmas.Result.{on_ok_weaker}
 use Rattle.player_view.proofs.HandTexts.{text-following, text-nothing}
 use Rattle.player_view.proofs.Texts.{nothing-more, written-three}
@@ -22,3 +23,12 @@ returns-then-not-is_over-clause-ok c =
     λ who. nothing-more c.args.out.now.items _
     (text-nothing c.args.table c.args.left_before who c.args.hand.now c.start-start.ensures.lawful
     c.start-start.ensures.played same goes_on)
+
+pub returns-clause-kept : goal.returns-clause-kept
+returns-clause-kept c = grind (arith, common_steps)
+
+pub returns-in_err-push_streets-clause-kept : goal.returns-in_err-push_streets-clause-kept
+returns-in_err-push_streets-clause-kept c = grind (arith, common_steps)
+
+pub returns-then-not-is_over-clause-kept : goal.returns-then-not-is_over-clause-kept
+returns-then-not-is_over-clause-kept c = grind (arith, common_steps)

@@ -1,4 +1,5 @@
-use Rattle.std.proofs.Common.{◌∙◌, ◌++◌, List, ℕ, ap}
+use Rattle.std.proofs.Common.{arith, ◌∙◌, ◌++◌, List, ℕ, ap}
+use Rattle.std.proofs.lemmas.Grind.{common_steps}
 use Rattle.std.proofs.lemmas.Result.{on_ok_weaker}
 use Rattle.player_view.proofs.Left.{left-three}
 use Rattle.player_view.proofs.HandTexts.{text-opening}
@@ -20,3 +21,15 @@ returns-clause-ok c =
     (λ then. written-three old _ _ _ _ _ _ heading seats (written-three _ _ _ _ _ _ _ posts own (then c.args.who))
     ∙ ap (λ (text : List ℕ). old ++ text) (text-opening c.args.table c.args.who c.args.hand.now))
     c.push_following.ensures.ok
+
+pub returns-clause-kept : goal.returns-clause-kept
+returns-clause-kept c = grind (arith, common_steps)
+
+pub returns-in_err-push_own-clause-kept : goal.returns-in_err-push_own-clause-kept
+returns-in_err-push_own-clause-kept c = grind (arith, common_steps)
+
+pub returns-in_err-push_posts-clause-kept : goal.returns-in_err-push_posts-clause-kept
+returns-in_err-push_posts-clause-kept c = grind (arith, common_steps)
+
+pub returns-in_err-push_seats-clause-kept : goal.returns-in_err-push_seats-clause-kept
+returns-in_err-push_seats-clause-kept c = grind (arith, common_steps)

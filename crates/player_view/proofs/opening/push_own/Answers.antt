@@ -1,4 +1,5 @@
-use Rattle.std.proofs.Common.{◌∙◌, ◌++◌, List, ℕ, ap, sym}
+use Rattle.std.proofs.Common.{arith, ◌∙◌, ◌++◌, List, ℕ, ap, sym}
+use Rattle.std.proofs.lemmas.Grind.{common_steps}
 use Rattle.std.proofs.lemmas.Result.{on_ok_weaker}
 use Rattle.player_view.proofs.HandTexts.{text-own}
 use Rattle.player_view.proofs.opening.push_own.Goals as goal
@@ -10,3 +11,9 @@ returns-in-Some-seat_of-clause-ok c =
     (text-own c.args.table c.args.who c.args.start.now c.in-Some.name c.in-Some-seat_of.seat c.in-Some.is
     (sym c.in-Some-seat_of.ensures)))
     c.push_hole_cards.ensures.ok
+
+pub returns-in-None-clause-kept : goal.returns-in-None-clause-kept
+returns-in-None-clause-kept c = grind (arith, common_steps)
+
+pub returns-in_default-clause-kept : goal.returns-in_default-clause-kept
+returns-in_default-clause-kept c = grind (arith, common_steps)

@@ -1,4 +1,5 @@
 use Rattle.std.proofs.Common.{◌∙◌, ◌++◌, ◌∷◌, [], List, ℕ, ap, arith}
+use Rattle.std.proofs.lemmas.Grind.{common_steps}
 use Rattle.std.proofs.lemmas.Result.{on_ok_weaker}
 use Rattle.card_set.specs.declared.card.Card.{Card}
 use Rattle.view_rules.specs.Shown.{Flop}
@@ -16,3 +17,6 @@ returns-clause-ok c =
     (text-street c.args.table c.args.start.now Flop 3 c.args.left_before c.args.left cards (omega arith) (omega arith)
     are))
     c.push_cards_line.ensures.ok
+
+pub returns-then-left_before-lt3-clause-kept : goal.returns-then-left_before-lt3-clause-kept
+returns-then-left_before-lt3-clause-kept c = grind (arith, common_steps)

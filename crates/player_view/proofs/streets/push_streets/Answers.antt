@@ -1,4 +1,5 @@
-use Rattle.std.proofs.Common.{◌∙◌, ◌++◌, List, ℕ, ap}
+use Rattle.std.proofs.Common.{arith, ◌∙◌, ◌++◌, List, ℕ, ap}
+use Rattle.std.proofs.lemmas.Grind.{common_steps}
 use Rattle.std.proofs.lemmas.Result.{on_ok_weaker}
 use Rattle.player_view.proofs.HandTexts.{text-streets}
 use Rattle.player_view.proofs.Texts.{written-three}
@@ -12,3 +13,9 @@ returns-clause-ok c =
     ∙ ap (λ (text : List ℕ). old ++ text)
     (text-streets c.args.table c.args.start.now c.args.left_before c.args.left c.requires.before c.requires.left))
     c.push_river.ensures.ok
+
+pub returns-clause-kept : goal.returns-clause-kept
+returns-clause-kept c = grind (arith, common_steps)
+
+pub returns-in_err-push_turn-clause-kept : goal.returns-in_err-push_turn-clause-kept
+returns-in_err-push_turn-clause-kept c = grind (arith, common_steps)

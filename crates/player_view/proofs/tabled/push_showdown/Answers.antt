@@ -1,4 +1,5 @@
-use Rattle.std.proofs.Common.{◌∙◌, ◌++◌, List, ℕ, ap, sym}
+use Rattle.std.proofs.Common.{arith, ◌∙◌, ◌++◌, List, ℕ, ap, sym}
+use Rattle.std.proofs.lemmas.Grind.{common_steps}
 use Rattle.std.proofs.lemmas.Result.{on_ok_weaker}
 use Rattle.player_view.proofs.HandTexts.{text-hidden, text-tabled}
 use Rattle.player_view.proofs.Texts.{nothing-more, written-both}
@@ -20,3 +21,9 @@ returns-clause-ok c =
     ∙ ap (λ (text : List ℕ). old ++ text)
     (text-tabled c.args.table hand c.in_turn-players.result.first.now c.in_turn-players.result.last.now whole shown))
     c.push_tabled-2.ensures.ok
+
+pub returns-clause-kept : goal.returns-clause-kept
+returns-clause-kept c = grind (arith, common_steps)
+
+pub returns-then-not-is_shown_down-clause-kept : goal.returns-then-not-is_shown_down-clause-kept
+returns-then-not-is_shown_down-clause-kept c = grind (arith, common_steps)

@@ -1,3 +1,5 @@
+use Rattle.std.proofs.Common.{arith}
+use Rattle.std.proofs.lemmas.Grind.{common_steps}
 use Rattle.line_words.proofs.Growth.{Extends-append, Extends-before}
 use Rattle.player_view.proofs.tabled.push_tabled.Goals as goal
 
@@ -7,3 +9,9 @@ returns-in_err-push_shown-clause-kept c =
 
 pub returns-clause-kept : goal.returns-clause-kept
 returns-clause-kept c = Extends-append c.args.out.now.items c.loop-player.out.items _ c.loop-player.invariant
+
+pub loop-player-preserved : goal.loop-player-preserved
+loop-player-preserved c = grind (arith, common_steps)
+
+pub returns-clause-ok : goal.returns-clause-ok
+returns-clause-ok c = grind (arith, common_steps)

@@ -1,4 +1,5 @@
-use Rattle.std.proofs.Common.{◌∙◌, ◌++◌, ℕ, List, ap, refl, sym}
+use Rattle.std.proofs.Common.{arith, ◌∙◌, ◌++◌, ℕ, List, ap, refl, sym}
+use Rattle.std.proofs.lemmas.Grind.{common_steps}
 use Rattle.std.proofs.lemmas.Result.{on_ok_weaker}
 use Rattle.player_view.specs.Tellers.{hand_of}
 use Rattle.player_view.proofs.Left.{left-falls, left-three}
@@ -24,3 +25,12 @@ returns-else-is_err-clause-ok c =
     (text-acted c.args.table who (hand_of c.args.told.now) hand c.play.new.hand caller c.args.act.now told
     c.in-Ok.ensures.state))
     c.push_act-written.ensures.ok
+
+pub returns-in_default-play-clause-extends : goal.returns-in_default-play-clause-extends
+returns-in_default-play-clause-extends c = grind (arith, common_steps)
+
+pub returns-in_err-resume-clause-extends : goal.returns-in_err-resume-clause-extends
+returns-in_err-resume-clause-extends c = grind (arith, common_steps)
+
+pub returns-then-is_err-clause-err : goal.returns-then-is_err-clause-err
+returns-then-is_err-clause-err c = grind (arith, common_steps)

@@ -1,4 +1,5 @@
-use Rattle.std.proofs.Common.{◌∙◌, ◌++◌, List, ℕ, ap, sym}
+use Rattle.std.proofs.Common.{arith, ◌∙◌, ◌++◌, List, ℕ, ap, sym}
+use Rattle.std.proofs.lemmas.Grind.{common_steps}
 use Rattle.std.proofs.lemmas.Result.{on_ok_weaker}
 use Rattle.player_view.proofs.HandTexts.{text-unwon, text-won}
 use Rattle.player_view.proofs.Texts.{nothing-more, written-both}
@@ -20,3 +21,9 @@ returns-clause-ok c =
     ∙ ap (λ (text : List ℕ). old ++ text)
     (text-won c.args.table hand c.in_turn-players.result.first.now c.in_turn-players.result.last.now whole over))
     c.push_won-2.ensures.ok
+
+pub returns-clause-kept : goal.returns-clause-kept
+returns-clause-kept c = grind (arith, common_steps)
+
+pub returns-then-not-is_over-clause-kept : goal.returns-then-not-is_over-clause-kept
+returns-then-not-is_over-clause-kept c = grind (arith, common_steps)

@@ -1,4 +1,5 @@
 use Rattle.std.proofs.Common.{◌≡◌, ◌+◌, ℕ, min, arith}
+use Rattle.std.proofs.lemmas.Grind.{common_steps}
 use Rattle.std.specs.Prelude.{sum_by}
 use Rattle.std.proofs.lemmas.List.Sums.{sum_by_more_le}
 use Rattle.std.proofs.lemmas.List.Folds.{fold-map}
@@ -26,3 +27,9 @@ overflow_add-total c =
       c.loop-reach.invariant,
       c.min-total.ensures,
     )
+
+pub loop-reach-preserved : goal.loop-reach-preserved
+loop-reach-preserved c = grind (arith, common_steps)
+
+pub returns : goal.returns
+returns c = grind (arith, common_steps)

@@ -1,4 +1,5 @@
-use Rattle.std.proofs.Common.{◌≡◌, ◌∙◌, ◌++◌, ℕ, Bool, List, ap, sym, subst}
+use Rattle.std.proofs.Common.{arith, ◌≡◌, ◌∙◌, ◌++◌, ℕ, Bool, List, ap, sym, subst}
+use Rattle.std.proofs.lemmas.Grind.{common_steps}
 use Rattle.std.specs.Prelude.{IfSome, if◌then◌else◌}
 use Rattle.links.specs.Links.{Puts}
 use Rattle.session_desk.proofs.Putting.{put-on}
@@ -15,3 +16,6 @@ returns-clause-told g c =
     (λ t. Puts t (news ++ said) (g.L.Link.told c.put_some-3.new.link) c.put_some-3.result)) same
     (put-on (g.L.Link.told c.args.link.now) (g.L.Link.told c.put_some-2.new.link) (g.L.Link.told c.put_some-3.new.link)
     c.deref-2.result.now said c.put_some-3.result c.in_ok-put_some.ensures.told c.put_some-3.ensures.told)
+
+pub returns-in_err-put_some-clause-told : goal.returns-in_err-put_some-clause-told
+returns-in_err-put_some-clause-told g c = grind (arith, common_steps)

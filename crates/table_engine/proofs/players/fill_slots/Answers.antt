@@ -1,4 +1,5 @@
 use Rattle.std.proofs.Common.{◌≡◌, ◌∙◌, ◌-◌, drop, length, ap, arith}
+use Rattle.std.proofs.lemmas.Grind.{common_steps}
 use Rattle.table_engine.proofs.Filling.{filled, filled-more}
 use Rattle.table_engine.proofs.players.fill_slots.Goals as goal
 
@@ -13,3 +14,6 @@ returns g c =
     let none : length c.args.players.now - c.loop-done.done ≡ 0 = omega arith in
     c.loop-done.invariant
     ∙ ap (λ n. filled (g.T.InSlot.made c.args.start.now) c.args.nobody (drop n c.args.players.now)) none
+
+pub loop-done-init : goal.loop-done-init
+loop-done-init g c = grind (arith, common_steps)

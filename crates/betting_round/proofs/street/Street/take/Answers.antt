@@ -1,4 +1,4 @@
-use Rattle.std.proofs.Common.{◌≤◌, arith}
+use Rattle.std.proofs.Common.{rules, ◌≤◌, arith}
 use Rattle.betting_round.specs.Running.{amount_of}
 use Rattle.betting_round.proofs.Steps.{few_in_pot, few_put, kept_placed}
 use Rattle.betting_round.proofs.street.Street.take.Goals as goal
@@ -29,3 +29,6 @@ returns-clause-kept c =
       c.amount-amount.ensures,
     )
     (kept_placed c.args.self.now c.args.seat c.in-Some.player c.args.act _ c.requires.kept c.in-Some.is held)
+
+pub returns-clause-stepped : goal.returns-clause-stepped
+returns-clause-stepped c = search rules

@@ -1,4 +1,5 @@
-use Rattle.std.proofs.Common.{◌≡◌, ◌∙◌, [], ap, refl, sym, length}
+use Rattle.std.proofs.Common.{arith, ◌≡◌, ◌∙◌, [], ap, refl, sym, length}
+use Rattle.std.proofs.lemmas.Grind.{common_steps}
 use Rattle.std.proofs.lemmas.List.{append-nil}
 use Rattle.std.proofs.lemmas.Result.{IfOk-weaker}
 use Rattle.dock_rules.specs.Journals.{tale_of}
@@ -22,3 +23,6 @@ returns-clause-stands g c =
           c.read_lines-count.ensures.count,
       refl,
     )
+
+pub read_lines-count-requires : goal.read_lines-count-requires
+read_lines-count-requires g c = grind (arith, common_steps)

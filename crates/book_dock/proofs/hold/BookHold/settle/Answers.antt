@@ -1,4 +1,5 @@
 use Rattle.std.proofs.Common.{◌≡◌, ◌∙◌, ◌+◌, ap, length, sym, subst, arith}
+use Rattle.std.proofs.lemmas.Grind.{common_steps}
 use Rattle.std.specs.Prelude.{false}
 use Rattle.table_engine.specs.Results.{with_stacks}
 use Rattle.table_engine.proofs.Stacks.{players-of_record}
@@ -78,3 +79,9 @@ invariant_of-self c =
       few = omega (arith, fewer, len, hold.few);
       rooms_owed = omega (arith, fewer, hold.rooms_owed, popped);
     }
+
+pub stacks_told-lines-requires-clause-each : goal.stacks_told-lines-requires-clause-each
+stacks_told-lines-requires-clause-each c = grind (arith, common_steps)
+
+pub unwrap-room-requires : goal.unwrap-room-requires
+unwrap-room-requires c = grind (arith, common_steps)

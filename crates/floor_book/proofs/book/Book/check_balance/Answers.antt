@@ -1,4 +1,5 @@
-use Rattle.std.proofs.Common.{ap, subst, List, ◌++◌, Bool}
+use Rattle.std.proofs.Common.{arith, ap, subst, List, ◌++◌, Bool}
+use Rattle.std.proofs.lemmas.Grind.{common_steps}
 use Rattle.std.specs.Prelude.{Some, None}
 use Rattle.floor_text.specs.declared.refusal.Refusal.{Refusal}
 use Rattle.seat_book.specs.Places.{IsPlaceOf}
@@ -78,3 +79,9 @@ returns-clause-here c =
     (ap (λ (book : BookState). book.seating) c.self.view_is)
     (sits-within _ c.in_ok-move_.move_.player c.in_ok-move_.move_.from c.self.invariant.tables.lawful
     c.in_ok-move_.ensures.sits)
+
+pub balance_order-requires-clause-from_open : goal.balance_order-requires-clause-from_open
+balance_order-requires-clause-from_open c = grind (arith, common_steps)
+
+pub balance_order-requires-clause-to_open : goal.balance_order-requires-clause-to_open
+balance_order-requires-clause-to_open c = grind (arith, common_steps)

@@ -1,4 +1,5 @@
 use Rattle.std.proofs.Common.{◌≡◌, ◌∙◌, ◌+◌, sym, ap, subst, length, arith}
+use Rattle.std.proofs.lemmas.Grind.{common_steps}
 use Rattle.std.specs.Prelude.{None}
 use Rattle.level_plan.specs.Plans.{unit_of_level}
 use Rattle.level_plan.proofs.Levels.{unit_of_level_above}
@@ -68,3 +69,9 @@ returns-clause-state c =
     ∙ sym (ap (λ (other : BookState). unit_of_level other.plan.blinds (book.level + 1)) c.self.view_is) in
     leveled_state book c.unit_of_level-before.result c.unit_of_level-unit.result c.announce_from.new.seats before unit
     c.announce_from.ensures ∙ ap leveled c.self.view_is
+
+pub overflow_add-self-inside : goal.overflow_add-self-inside
+overflow_add-self-inside c = grind (arith, common_steps)
+
+pub overflow_add-self : goal.overflow_add-self
+overflow_add-self c = grind (arith, common_steps)

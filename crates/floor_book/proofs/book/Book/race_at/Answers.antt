@@ -1,4 +1,5 @@
-use Rattle.std.proofs.Common.{◌∙◌, ap}
+use Rattle.std.proofs.Common.{arith, ◌∙◌, ap}
+use Rattle.std.proofs.lemmas.Grind.{common_steps}
 use Rattle.tournament_rules.specs.Books.{BookState}
 use Rattle.tournament_rules.specs.Checks.{is_table_open, is_playing, is_race_due}
 use Rattle.tournament_rules.specs.Racing.{race_at}
@@ -78,3 +79,9 @@ returns c = c.race.ensures
     ∙ (race_read c.self.inside.seats c.args.table c.args.deck.now c.stacks_at-stacks.result c.status-status.result
     c.unit_after.result c.stacks_at-stacks.ensures c.status-status.ensures.status c.unit_after.ensures
     ∙ ap (λ (book : BookState). race_at book.seating c.args.table c.args.deck.now) c.self.view_is)
+
+pub stacks_at-stacks-requires : goal.stacks_at-stacks-requires
+stacks_at-stacks-requires c = grind (arith, common_steps)
+
+pub status-status-requires : goal.status-status-requires
+status-status-requires c = grind (arith, common_steps)

@@ -1,4 +1,5 @@
 use Rattle.std.proofs.Common.{◌≡◌, ◌∙◌, sym, ap, subst, ℕ, ◌+◌, Bool, cond, List, arith}
+use Rattle.std.proofs.lemmas.Grind.{common_steps}
 use Rattle.std.specs.Prelude.{slice_set, Option, Some, None}
 use Rattle.seat_book.specs.declared.seated.Seated.{Seated}
 use Rattle.seat_book.specs.Seatings.{Seating}
@@ -82,3 +83,9 @@ returns c =
     c.rest_table.ensures
     c.bust_players.ensures.seats c.bust_players.ensures.busts started group in
     state ∙ ap (λ (book : BookState). settled book hand) c.self.view_is
+
+pub pay_stacks-requires-clause-named : goal.pay_stacks-requires-clause-named
+pay_stacks-requires-clause-named c = grind (arith, common_steps)
+
+pub rest_table-requires : goal.rest_table-requires
+rest_table-requires c = grind (arith, common_steps)

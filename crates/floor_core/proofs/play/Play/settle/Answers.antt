@@ -1,4 +1,5 @@
-use Rattle.std.proofs.Common.{◌≡◌, ◌∙◌, refl, sym, ap, ℕ, true}
+use Rattle.std.proofs.Common.{arith, ◌≡◌, ◌∙◌, refl, sym, ap, ℕ, true}
+use Rattle.std.proofs.lemmas.Grind.{common_steps}
 use Rattle.std.specs.Prelude.{Option, Some, None, is_some}
 use Rattle.std.specs.Option.{option_and_then}
 use Rattle.rulebook.specs.Checks.{first_that_holds}
@@ -51,3 +52,12 @@ returns-in_err-table-clause-answer c =
     answered_no (refusal_of c.args.self.now event) found c.from_residual.result
     (sym (ap (λ (play : PlayState). refusal_of play event) c.self.view_is) ∙ refused) c.from_residual.ensures.0
     c.from_residual.ensures.1
+
+pub check_end-requires : goal.check_end-requires
+check_end-requires c = grind (arith, common_steps)
+
+pub finish_at-done-requires-clause-within : goal.finish_at-done-requires-clause-within
+finish_at-done-requires-clause-within c = grind (arith, common_steps)
+
+pub settle-requires-clause-started : goal.settle-requires-clause-started
+settle-requires-clause-started c = grind (arith, common_steps)

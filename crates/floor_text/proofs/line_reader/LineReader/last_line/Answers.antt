@@ -1,4 +1,5 @@
 use Rattle.std.proofs.Common.{Ok, List, ℕ, [], ◌∷◌, length, sym, ap, ◌∙◌, arith}
+use Rattle.std.proofs.lemmas.Grind.{common_steps}
 use Rattle.std.proofs.lemmas.List.{take_all}
 use Rattle.floor_text.specs.LineReader.{lines_of_next}
 use Rattle.floor_text.specs.Lines.{cut_line}
@@ -18,3 +19,12 @@ returns-clause-line c =
     ap (lines_of_next (Ok c.hand_out-next.result)) line
     ∙ sym (handed_at_end c.args.self.now.held _ c.requires.no_feed (omega arith) (c.hand_out-next.ensures.line
     ∙ ap (λ (xs : List ℕ). cut_line xs ∷ []) (take_all c.len-line.result c.args.self.now.held (omega arith))))
+
+pub invariant_of-self-2 : goal.invariant_of-self-2
+invariant_of-self-2 c = grind (arith, common_steps)
+
+pub returns-clause-held : goal.returns-clause-held
+returns-clause-held c = grind (arith, common_steps)
+
+pub returns-then-line-eq0-clause-held : goal.returns-then-line-eq0-clause-held
+returns-then-line-eq0-clause-held c = grind (arith, common_steps)

@@ -1,4 +1,5 @@
-use Rattle.std.proofs.Common.{Ok, [], ap, rules}
+use Rattle.std.proofs.Common.{Ok, [], ap, rules, arith}
+use Rattle.std.proofs.lemmas.Grind.{common_steps}
 use Rattle.floor_text.proofs.ReadLines.{goes_on, handed_reads, last_reads, ends_then, some_reads_on}
 use Rattle.floor_text.proofs.line_reader.LineReader.next_line.Goals as goal
 
@@ -52,3 +53,12 @@ search-preserved g c =
     (g.S.Source.left c.search.source) (g.S.Source.left c.take_more.new.source) [] []
     c.search.invariant.reads c.in_ok-taken.ensures.reads in
     search rules
+
+pub returns-in-Some-clause-shorter : goal.returns-in-Some-clause-shorter
+returns-in-Some-clause-shorter g c = grind (arith, common_steps)
+
+pub returns-in-Some-clause-within_limit : goal.returns-in-Some-clause-within_limit
+returns-in-Some-clause-within_limit g c = grind (arith, common_steps)
+
+pub last_line-requires-clause-no_feed : goal.last_line-requires-clause-no_feed
+last_line-requires-clause-no_feed g c = grind (arith, common_steps)

@@ -1,4 +1,5 @@
-use Rattle.std.proofs.Common.{rules, ◌≡◌, ◌+◌, ◌%◌, ◌^◌, ℕ, [], ◌∷◌, refl, sym, ap, ◌∙◌, subst, Option, Some, None}
+use Rattle.std.proofs.Common.{rules, arith, ◌≡◌, ◌+◌, ◌%◌, ◌^◌, ℕ, [], ◌∷◌, refl, sym, ap, ◌∙◌, subst, Option, Some, None}
+use Rattle.std.proofs.lemmas.Grind.{common_steps}
 use mathlib.Core.Option.{none}
 use Rattle.atomic_table.specs.Table.{Me, step, rest, Allows}
 use Rattle.history_lock.specs.declared.view.View.{View}
@@ -52,3 +53,9 @@ invariant_of-result-clause-mine g c =
     subst (λ (z : S). entries_by C k z.seen ≡ z.own) (sym share)
     (own_left C k (first_share before.0.shares).seen (first_share before.0.shares).own (H c.args.inside.value)
     c.args.inside.turn.mine c.requires.grown)
+
+pub publish-requires-clause-grown : goal.publish-requires-clause-grown
+publish-requires-clause-grown g c = grind (arith, common_steps)
+
+pub returns : goal.returns
+returns g c = grind (arith, common_steps)

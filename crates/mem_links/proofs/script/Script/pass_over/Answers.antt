@@ -1,4 +1,5 @@
-use Rattle.std.proofs.Common.{◌≡◌, ◌+◌, ◌<◌, ◌≤◌, ◌∙◌, sym, length, get_or}
+use Rattle.std.proofs.Common.{arith, ◌≡◌, ◌+◌, ◌<◌, ◌≤◌, ◌∙◌, sym, length, get_or}
+use Rattle.std.proofs.lemmas.Grind.{common_steps}
 use Rattle.std.specs.List.{slice_get}
 use Rattle.std.proofs.lemmas.Option.{slice_get_past}
 use Rattle.mem_links.proofs.PassedOver.{passes, given_past, next_searched}
@@ -21,3 +22,9 @@ returns-clause-rests c =
     let s = c.pass.self in
     let past : length s.says.items ≤ s.at = rw (← c.deref.ensures.value) c.in_default.ensures.lookup.3 in
     rw (slice_get_past s.says.items s.at past) tt
+
+pub returns-clause-place : goal.returns-clause-place
+returns-clause-place c = grind (arith, common_steps)
+
+pub returns-then-not-is_over-clause-place : goal.returns-then-not-is_over-clause-place
+returns-then-not-is_over-clause-place c = grind (arith, common_steps)

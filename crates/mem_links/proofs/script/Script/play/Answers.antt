@@ -19,3 +19,48 @@ returns-in-Some-Give-clause-given c =
     ∙ ap (λ (more : List ℕ). given_by c.args.self.now ++ more)
     (ap (λ (n : ℕ). take n (drop s.given piece.items)) count
     ∙ sym (brings room c.args.put.now (place_of c.args.self.now) s piece c.pass_over.ensures.place within is))
+
+pub returns-in-None-clause-bytes : goal.returns-in-None-clause-bytes
+returns-in-None-clause-bytes c = grind (arith, common_steps)
+
+pub returns-in-None-clause-given : goal.returns-in-None-clause-given
+returns-in-None-clause-given c = grind (arith, common_steps)
+
+pub returns-in-None-clause-place : goal.returns-in-None-clause-place
+returns-in-None-clause-place c = grind (arith, common_steps)
+
+pub returns-in-None-clause-taken : goal.returns-in-None-clause-taken
+returns-in-None-clause-taken c = grind (arith, common_steps)
+
+pub returns-in-Some-Finish-clause-bytes : goal.returns-in-Some-Finish-clause-bytes
+returns-in-Some-Finish-clause-bytes c = grind (arith, common_steps)
+
+pub returns-in-Some-Finish-clause-given : goal.returns-in-Some-Finish-clause-given
+returns-in-Some-Finish-clause-given c = grind (arith, common_steps)
+
+pub returns-in-Some-Finish-clause-place : goal.returns-in-Some-Finish-clause-place
+returns-in-Some-Finish-clause-place c = grind (arith, common_steps)
+
+pub returns-in-Some-Finish-clause-taken : goal.returns-in-Some-Finish-clause-taken
+returns-in-Some-Finish-clause-taken c = grind (arith, common_steps)
+
+pub returns-in-Some-Give-clause-bytes : goal.returns-in-Some-Give-clause-bytes
+returns-in-Some-Give-clause-bytes c = grind (arith, common_steps)
+
+pub returns-in-Some-Give-clause-place : goal.returns-in-Some-Give-clause-place
+returns-in-Some-Give-clause-place c = grind (arith, common_steps)
+
+pub returns-in-Some-Give-clause-taken : goal.returns-in-Some-Give-clause-taken
+returns-in-Some-Give-clause-taken c = grind (arith, common_steps)
+
+pub returns-in-Some-WaitFor-clause-bytes : goal.returns-in-Some-WaitFor-clause-bytes
+returns-in-Some-WaitFor-clause-bytes c = grind (arith, common_steps)
+
+pub returns-in-Some-WaitFor-clause-given : goal.returns-in-Some-WaitFor-clause-given
+returns-in-Some-WaitFor-clause-given c = grind (arith, common_steps)
+
+pub returns-in-Some-WaitFor-clause-place : goal.returns-in-Some-WaitFor-clause-place
+returns-in-Some-WaitFor-clause-place c = grind (arith, common_steps)
+
+pub returns-in-Some-WaitFor-clause-taken : goal.returns-in-Some-WaitFor-clause-taken
+returns-in-Some-WaitFor-clause-taken c = grind (arith, common_steps)

@@ -1,4 +1,5 @@
 use Rattle.std.proofs.Common.{◌≡◌, ◌∙◌, ◌∷◌, [], ℕ, ◌+◌, List, Some, false, ◌<◌, arith, length, ap, subst, sym, refl}
+use Rattle.std.proofs.lemmas.Grind.{common_steps}
 use Rattle.table_engine.specs.declared.record.ActOf.{ActOf}
 use Rattle.view_rules.specs.declared.entries.TableEntry.{TableEntry}
 use Rattle.view_rules.specs.declared.entries.TableEntry.TheVariants.{Acted}
@@ -48,3 +49,6 @@ returns g c =
           ))
           came.2;
     }
+
+pub put_back-requires-clause-place : goal.put_back-requires-clause-place
+put_back-requires-clause-place g c = grind (arith, common_steps)

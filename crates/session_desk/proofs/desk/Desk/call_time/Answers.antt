@@ -1,4 +1,5 @@
 use Rattle.std.proofs.Common.{◌≡◌, ◌∙◌, ℕ, ◌+◌, None, ◌<◌, arith, length, ap, subst, refl}
+use Rattle.std.proofs.lemmas.Grind.{common_steps}
 use Rattle.std.specs.List.{insert}
 use Rattle.dock_rules.specs.Tables.{time_refusal_at}
 use Rattle.history_lock.specs.Passes.{pass_number}
@@ -33,3 +34,6 @@ returns g c =
           c.note-reply.result) its c.note-reply.ensures)
           came.0 came.1;
     }
+
+pub put_back-requires-clause-place : goal.put_back-requires-clause-place
+put_back-requires-clause-place g c = grind (arith, common_steps)

@@ -1,4 +1,5 @@
 use Rattle.std.proofs.Common.{◌≡◌, ◌∙◌, ◌+◌, ◌<◌, length, ap, sym, refl, arith, take, subst}
+use Rattle.std.proofs.lemmas.Grind.{common_steps}
 use Rattle.std.specs.List.{insert}
 use mathlib.Core.List.{IsPrefix}
 use Rattle.dock_rules.specs.Tables.{lying_hand}
@@ -86,3 +87,6 @@ returns-clause-watch g c = λ who is.
     (subst (λ history. IsPrefix history stands.at) (sym before)
     (hold-later c.take_out-pass.result c.read_lines-pass.result.0 stands.at stands.added stands.hold))
     seen_is stands.is.0 c.number_told-watch.ensures is
+
+pub put_back-requires-clause-place : goal.put_back-requires-clause-place
+put_back-requires-clause-place g c = grind (arith, common_steps)

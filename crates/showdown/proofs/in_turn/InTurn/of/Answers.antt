@@ -1,4 +1,4 @@
-use Rattle.std.proofs.Common.{◌≡◌, ◌∙◌, ◌-◌, ◌++◌, List, [], ℕ, true, false, subst, sym, append-nil, arith}
+use Rattle.std.proofs.Common.{rules, ◌≡◌, ◌∙◌, ◌-◌, ◌++◌, List, [], ℕ, true, false, subst, sym, append-nil, arith}
 use Rattle.std.specs.List.{list_all}
 use Rattle.std.proofs.lemmas.List.{length-append}
 use Rattle.rulebook.specs.Seats.{seat_after}
@@ -37,3 +37,6 @@ returns-clause-within c =
     rw over at c.loop-step.invariant.all in
     subst (λ (order : List ℕ). list_all is_seat order ≡ true) (sym all ∙ append-nil c.loop-step.order)
     (in_turn-seats c.args.set c.args.seats c.args.button c.requires.some c.requires.most)
+
+pub loop-step-init : goal.loop-step-init
+loop-step-init c = search rules

@@ -1,0 +1,5 @@
+use Rattle.std.proofs.Common.{rules}
+use Rattle.betting_round.proofs.bounds.NoLimitBounds.most.Goals as goal
+
+pub returns : goal.returns
+returns c = search rules

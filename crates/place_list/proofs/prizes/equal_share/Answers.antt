@@ -1,0 +1,5 @@
+use Rattle.std.proofs.Common.{rules}
+use Rattle.place_list.proofs.prizes.equal_share.Goals as goal
+
+pub returns : goal.returns
+returns c = search rules
