@@ -14,7 +14,8 @@
 //! | `TcpHall::doors` | no port above 65535 is opened |
 //!
 //! `StreamLink` is a link over a stream of the standard library, `TcpLink` one over a TCP stream, `TcpDoor` a door over
-//! a listener and `TcpHall` a hall of such doors. They tell nothing but their faults.
+//! a listener and `TcpHall` a hall of such doors. They tell nothing but their faults. What times a client has stands in
+//! `timed_stream`.
 //!
 //! `specs/Telling.antt` says what is told, and `specs/Links.antt` what each call does to it.
 #![tactic(auto)]
@@ -26,6 +27,7 @@ mod stream_link;
 mod tcp_door;
 mod tcp_hall;
 mod tcp_link;
+mod timed_stream;
 
 pub use door::Door;
 pub use hall::{Hall, HallFault};

@@ -70,5 +70,5 @@ fn open_door<R: Net<Listener = TcpListener, Stream = TcpStream> + Clock + Copy>(
 {
     let port = u16::try_from(u32::from(port).checked_add(i)?).ok()?;
     let listener = TcpListener::bind(&rt, SocketAddr::from(([0, 0, 0, 0], port))).ok()?;
-    TcpDoor::new(listener, rt).ok()
+    TcpDoor::over(listener, rt).ok()
 }

@@ -4,10 +4,11 @@ ghost use Rattle.links.specs.declared.tcp_link.TheConstants.{LEAST_PATIENCE, MOS
 
 use crate::link::{Link, Taken};
 use crate::stream_link::StreamLink;
+use crate::timed_stream::TimedStream;
 use floor_text::Failed;
 use std::io;
 use std::net::TcpStream;
-use std::time::Duration;
+use std::time::Clock;
 
 /// How many milliseconds a read waits for bytes right after some were taken or put.
 const LEAST_PATIENCE: u64 = 20;
@@ -15,29 +16,27 @@ const LEAST_PATIENCE: u64 = 20;
 /// How many milliseconds a read waits for bytes at most.
 const MOST_PATIENCE: u64 = 160;
 
-/// How many seconds a write waits for a client who takes nothing.
-const WRITE_PATIENCE: u64 = 10;
-
 /// A link over a TCP stream. Its reads wait for 20 milliseconds right after bytes were taken or put. Each Idle makes
-/// them wait for one more, up to 160, so that a silent client needs little of a processor.
+/// them wait for one more, up to 160, so that a silent client needs little of a processor. At least twice a second it
+/// gives an Idle, though the client never falls silent. It fails where no byte came within the first minute, and where
+/// what is put is not taken within ten seconds and one more for each 16 KiB.
 #[derive(Drop)]
-pub struct TcpLink {
-    link: StreamLink<TcpStream>,
+pub struct TcpLink<C> {
+    link: StreamLink<TimedStream<C>>,
     // How many milliseconds a read waits, as the stream was last set.
     patience: u64,
     ghost least: { LEAST_PATIENCE ≤ patience },
     ghost most: { patience ≤ MOST_PATIENCE },
 }
 
-impl TcpLink {
-    /// Makes a link over this stream, which has not failed yet. It sends each write at once, and gives one up after ten
-    /// seconds. It fails where the stream cannot be set so.
-    pub fn new(stream: TcpStream) -> io::Result<TcpLink>
-        ensures { IfOk result (λ link. ⟦<TcpLink as Link>⟧.faults link ≡ 0) }
+impl<C: Clock + Copy> TcpLink<C> {
+    /// Makes a link over this stream, which has not failed yet. It sends each write at once. It fails where the stream
+    /// cannot be set so, and where the clock cannot be read.
+    pub fn new(stream: TcpStream, clock: C) -> io::Result<TcpLink<C>>
+        ensures { IfOk result (λ link. ⟦<TcpLink<C> as Link>⟧.faults link ≡ 0) }
     {
-        stream.set_nodelay(true)?;
-        stream.set_read_timeout(Some(Duration::from_millis(LEAST_PATIENCE)))?;
-        stream.set_write_timeout(Some(Duration::from_secs(WRITE_PATIENCE)))?;
+        let stream = TimedStream::new(stream, clock)?;
+        stream.wait_for(LEAST_PATIENCE)?;
         Ok(TcpLink {
             link: StreamLink::new(stream),
             patience: LEAST_PATIENCE,
@@ -54,17 +53,16 @@ impl TcpLink {
         if patience == self.patience {
             return;
         }
-        let wait = Duration::from_millis(patience);
-        if self.link.stream().set_read_timeout(Some(wait)).is_ok() {
+        if self.link.stream().wait_for(patience).is_ok() {
             self.patience = patience;
         }
     }
 }
 
-impl Link for TcpLink {
+impl<C: Clock + Copy> Link for TcpLink<C> {
     ghost told = { λ _. None };
 
-    ghost faults = { λ l. ⟦<StreamLink<TcpStream> as Link>⟧.faults l.link };
+    ghost faults = { λ l. ⟦<StreamLink<TimedStream<C>> as Link>⟧.faults l.link };
 
     /// Takes as a link over a stream does, and sets how long the next take waits.
     fn take(&mut self, buffer: &mut [u8]) -> Result<Taken, Failed> {
