@@ -164,6 +164,36 @@ def cut_floor(server):
     return "the floor's connection is cut in the midst of a break, and behind a level"
 
 
+def again(do, pause):
+    """Has somebody do a thing again and again, until their connection breaks."""
+    def go_on():
+        try:
+            while do() != b"":
+                time.sleep(pause)
+        except OSError:
+            pass
+
+    threading.Thread(target=go_on, daemon=True).start()
+
+
+def strangers(count=100):
+    """Lets strangers stay who say a byte each 10 ms, ask without end, read nothing, read a byte a second, or are silent."""
+    clients = [connect(port) for port in FREE[:count]]
+    for each, client in enumerate(clients):
+        match each % 5:
+            case 0:
+                again(lambda client=client: client.send(b"x"), 0.01)
+            case 1:
+                again(lambda client=client: client.sendall(b"watch 1\n" * 100) or client.recv(1 << 16), 0.01)
+            case 2:
+                client.sendall(b"hello p3 w3\n" + b"watch 1\n" * 10_000)
+            case 3:
+                client.sendall(b"hello p3 w3\n" + b"watch 1\n" * 1000)
+                again(lambda client=client: client.recv(1), 1)
+    time.sleep(2)
+    return clients
+
+
 CASES = [silence, never_reads, long_line, slow_line, broken_letters, guesses, comers, cut_floor]
 
 
@@ -183,11 +213,16 @@ def main():
         print(f"{told}: {players.told()}", flush=True)
     players.going = False
     players.join()
+    stay = strangers()
     floor = Client(PORT)
     assert floor.ask("hello floor f") == "ok"
+    stopped = time.time()
     assert floor.ask("stop") == "ok"
     floor.socket.close()
     text = server.end()
+    took = time.time() - stopped
+    assert took < 15, took
+    print(f"among {len(stay)} strangers who stay the server ends {took:.2f} s after the stop")
     check_replay(text)
     assert b"\nlevel\n" in text and b"\nbreak " not in text
     print(f"the text has {text.count(b'act 1 p')} acts, and replays")
