@@ -1,5 +1,6 @@
 -- What holds of the items of two lists, place by place.
 use Rattle.std.proofs.Common.{◌≡◌, refl, sym, subst, ℕ, zero, suc, ◌+◌, List, [], ◌∷◌, ◌++◌, Option, Some, length, arith}
+use mathlib.Core.List.{reverse, reverse-cons}
 use Rattle.std.specs.Prelude.{All, IfSome, slice_get}
 use Rattle.std.specs.List.{AllZip}
 use Rattle.std.proofs.lemmas.List.Elements.{All-cons, All-nil}
@@ -104,6 +105,16 @@ pub zip-on : {A B : Type 0} (R : A → B → Type 0) (some more : List A) (other
 zip-on {A = A} {B = B} R some more others another one other longer too each last =
     subst (λ (p : List A × List B). AllZip R p.0 p.1) (λ i. (sym longer i, sym too i))
     (zip-push R some others one other each last)
+
+-- the same two lists, each from its end
+pub zip-reverse : {A B : Type 0} (R : A → B → Type 0) (some : List A) (others : List B) → AllZip R some others
+    → AllZip R (reverse some) (reverse others)
+zip-reverse R [] [] each = tt
+zip-reverse R [] (second ∷ others) each = absurd each
+zip-reverse R (first ∷ some) [] each = absurd each
+zip-reverse R (first ∷ some) (second ∷ others) each =
+    zip-on R (reverse some) (reverse (first ∷ some)) (reverse others) (reverse (second ∷ others)) first second
+    (reverse-cons first some) (reverse-cons second others) (zip-reverse R some others each.1) each.0
 
 -- each of the others has one of the first that it goes with
 pub all-right : {A B : Type 0} (R : A → B → Type 0) (some : List A) (others : List B) → AllZip R some others

@@ -1,7 +1,8 @@
 //! Everybody works in a thread of his own.
 //!
-//! One job is done by a thread beside all the others, by a join that calls itself; behind the last desk come the
-//! workers. Where no thread can be started, the job is done by whoever would have started it. The room for what comes
+//! One job is done by a thread beside all the others, by a join that calls itself: first the workers of the tables, and
+//! behind the last of them the desks from door 1 on. Where no thread can be started, the job is done by whoever would
+//! have started it, behind all that come later, so the tables and the first doors have theirs. The room for what comes
 //! back is there before, so nothing is lost, and it comes back in the order of the jobs.
 
 ghost use Rattle.std.specs.Prelude.{◌≡◌, All, length, vec_capacity, vec_len};
@@ -62,34 +63,44 @@ fn attend<R: Wait, D: Door, G: Gate>(
     Attended { desk, door, failed }
 }
 
-/// Lets all workers work, each in a thread of his own.
-#[cycle(workers)]
-fn run_workers<R: Threads + Wait + Sync>(
+/// Lets a desk serve at each door, each in a thread of its own, that of the last door first. There are as many desks as
+/// doors, and what comes back from each stands in the order of the doors.
+#[cycle(desks)]
+fn run_desks<R: Threads + Wait + Sync, D: Door + Send + Drop, G: Gate + Sync>(
     rt: &R,
+    alloc: Global,
     floor: &Floor,
-    jobs: Vec<Work>,
-    done: Vec<Work>,
-) -> Vec<Work>
+    words: &Words,
+    gate: &G,
+    desks: Vec<Desk>,
+    doors: Vec<D>,
+    attended: Vec<Attended<D>>,
+) -> Vec<Attended<D>>
     requires order { AreInOrder floor.now.docks.items }
-    requires idle { All (IsIdle floor.now) jobs.items }
-    requires room { IsEmptyFor (vec_len jobs) done }
-    ensures done { AllZip HasDone jobs.items result.items }
-    ensures room { vec_capacity result ≡ vec_capacity done }
+    requires desks { All (IsIdleDesk floor.now) desks.items }
+    requires doors { length doors.items ≡ length desks.items }
+    requires room { IsEmptyFor (vec_len doors) attended }
+    ensures doors { AllZip (HasAttended floor.now D.told D.faults D.L.told D.L.faults words.now)
+        doors.items result.items }
+    ensures room { vec_capacity result ≡ vec_capacity attended }
 {
-    let mut jobs = jobs;
-    let Some(job) = jobs.pop() else {
-        return done;
+    let mut desks = desks;
+    let mut doors = doors;
+    let (Some(desk), Some(door)) = (desks.pop(), doors.pop()) else {
+        return attended;
     };
-    let here = move || -> Work
-        requires { IsSync R.row × (AreInOrder floor.now.docks.items × IsIdle floor.now job) }
-        ensures { HasDone job result }
-    { work_at_table(rt, floor, job) };
-    let others = move || -> Vec<Work>
-        requires { IsSync R.row × (AreInOrder floor.now.docks.items × (All (IsIdle floor.now) jobs.items
-            × IsEmptyFor (vec_len jobs) done)) }
-        ensures { AllZip HasDone jobs.items result.items
-            × (vec_capacity result ≡ vec_capacity done) }
-    { run_workers(rt, floor, jobs, done) };
+    let here = move || -> Attended<D>
+        requires { IsSync R.row × (IsSync G.row × (IsSend D.row × (AreInOrder floor.now.docks.items
+            × IsIdleDesk floor.now desk))) }
+        ensures { HasAttended floor.entry.now D.told D.faults D.L.told D.L.faults words.entry.now door result }
+    { attend(rt, alloc, floor, words, gate, door, desk) };
+    let others = move || -> Vec<Attended<D>>
+        requires { IsSync R.row × (IsSync G.row × (IsSend D.row × (AreInOrder floor.now.docks.items
+            × (All (IsIdleDesk floor.now) desks.items
+            × ((length doors.items ≡ length desks.items) × IsEmptyFor (vec_len doors) attended))))) }
+        ensures { AllZip (HasAttended floor.entry.now D.told D.faults D.L.told D.L.faults words.entry.now)
+            doors.items result.items × (vec_capacity result ≡ vec_capacity attended) }
+    { run_desks(rt, alloc, floor, words, gate, desks, doors, attended) };
     let (one, mut all) = join(rt, here, others);
     all.push_reserved(one);
     all
@@ -102,9 +113,72 @@ pub(crate) struct Back<D> {
     pub(crate) attended: Vec<Attended<D>>,
 }
 
-/// Lets a desk serve at each door, each in a thread of its own, and all workers work beside. There are as many desks as
-/// doors, and what comes back from each stands in the order of the doors.
-#[cycle(all)]
+/// Lets all workers work, each in a thread of his own, and a desk serve at each door beside.
+#[cycle(workers)]
+fn run_workers<R: Threads + Wait + Sync, D: Door + Send + Drop, G: Gate + Sync>(
+    rt: &R,
+    alloc: Global,
+    floor: &Floor,
+    words: &Words,
+    gate: &G,
+    works: Vec<Work>,
+    desks: Vec<Desk>,
+    doors: Vec<D>,
+    room: Back<D>,
+) -> Back<D>
+    requires order { AreInOrder floor.now.docks.items }
+    requires idle { All (IsIdle floor.now) works.items }
+    requires desks { All (IsIdleDesk floor.now) desks.items }
+    requires doors { length doors.items ≡ length desks.items }
+    requires works_room { IsEmptyFor (vec_len works) room.works }
+    requires doors_room { IsEmptyFor (vec_len doors) room.attended }
+    ensures works { AllZip HasDone works.items result.works.items }
+    ensures doors { AllZip (HasAttended floor.now D.told D.faults D.L.told D.L.faults words.now)
+        doors.items result.attended.items }
+    ensures room { (vec_capacity result.works ≡ vec_capacity room.works)
+        × (vec_capacity result.attended ≡ vec_capacity room.attended) }
+{
+    let mut works = works;
+    let Some(work) = works.pop() else {
+        let Back {
+            works: done,
+            attended,
+        } = room;
+        return Back {
+            works: done,
+            attended: run_desks(rt, alloc, floor, words, gate, desks, doors, attended),
+        };
+    };
+    let here = move || -> Work
+        requires { IsSync R.row × (AreInOrder floor.now.docks.items × IsIdle floor.now work) }
+        ensures { HasDone work result }
+    { work_at_table(rt, floor, work) };
+    let others = move || -> Back<D>
+        requires { IsSync R.row × (IsSync G.row × (IsSend D.row × (AreInOrder floor.now.docks.items
+            × (All (IsIdle floor.now) works.items
+            × (All (IsIdleDesk floor.now) desks.items
+            × ((length doors.items ≡ length desks.items)
+            × (IsEmptyFor (vec_len works) room.works × IsEmptyFor (vec_len doors) room.attended))))))) }
+        ensures { AllZip HasDone works.items result.works.items
+            × (AllZip (HasAttended floor.entry.now D.told D.faults D.L.told D.L.faults words.entry.now)
+            doors.items result.attended.items
+            × ((vec_capacity result.works ≡ vec_capacity room.works)
+            × (vec_capacity result.attended ≡ vec_capacity room.attended))) }
+    { run_workers(rt, alloc, floor, words, gate, works, desks, doors, room) };
+    let (one, all) = join(rt, here, others);
+    let Back {
+        works: mut done,
+        attended,
+    } = all;
+    done.push_reserved(one);
+    Back {
+        works: done,
+        attended,
+    }
+}
+
+/// Lets all workers work and a desk serve at each door, each in a thread of its own: the workers' threads are started
+/// first, and then those of the desks from door 1 on. What comes back from each desk stands in the order of the doors.
 pub(crate) fn run_all<R: Threads + Wait + Sync, D: Door + Send + Drop, G: Gate + Sync>(
     rt: &R,
     alloc: Global,
@@ -128,40 +202,9 @@ pub(crate) fn run_all<R: Threads + Wait + Sync, D: Door + Send + Drop, G: Gate +
     ensures room { (vec_capacity result.works ≡ vec_capacity room.works)
         × (vec_capacity result.attended ≡ vec_capacity room.attended) }
 {
-    let mut desks = desks;
     let mut doors = doors;
-    let (Some(desk), Some(door)) = (desks.pop(), doors.pop()) else {
-        let Back {
-            works: done,
-            attended,
-        } = room;
-        return Back {
-            works: run_workers(rt, floor, works, done),
-            attended,
-        };
-    };
-    let here = move || -> Attended<D>
-        requires { IsSync R.row × (IsSync G.row × (IsSend D.row × (AreInOrder floor.now.docks.items
-            × IsIdleDesk floor.now desk))) }
-        ensures { HasAttended floor.entry.now D.told D.faults D.L.told D.L.faults words.entry.now door result }
-    { attend(rt, alloc, floor, words, gate, door, desk) };
-    let others = move || -> Back<D>
-        requires { IsSync R.row × (IsSync G.row × (IsSend D.row × (AreInOrder floor.now.docks.items
-            × (All (IsIdle floor.now) works.items
-            × (All (IsIdleDesk floor.now) desks.items
-            × ((length doors.items ≡ length desks.items)
-            × (IsEmptyFor (vec_len works) room.works × IsEmptyFor (vec_len doors) room.attended))))))) }
-        ensures { AllZip HasDone works.items result.works.items
-            × (AllZip (HasAttended floor.entry.now D.told D.faults D.L.told D.L.faults words.entry.now)
-            doors.items result.attended.items
-            × ((vec_capacity result.works ≡ vec_capacity room.works)
-            × (vec_capacity result.attended ≡ vec_capacity room.attended))) }
-    { run_all(rt, alloc, floor, words, gate, works, desks, doors, room) };
-    let (one, all) = join(rt, here, others);
-    let Back {
-        works,
-        mut attended,
-    } = all;
-    attended.push_reserved(one);
-    Back { works, attended }
+    doors.reverse();
+    let mut back = run_workers(rt, alloc, floor, words, gate, works, desks, doors, room);
+    back.attended.reverse();
+    back
 }

@@ -6,21 +6,21 @@ use Rattle.std.proofs.lemmas.Slice.Zip.{AllZip-long}
 use Rattle.floor_crew.specs.Rows.{IsEmptyFor}
 use Rattle.floor_crew.specs.Working.{HasAttended, IsIdleDesk}
 use Rattle.floor_crew.proofs.Zipped.{zip-on}
-use Rattle.floor_crew.proofs.threads.+all.Goals as goal
+use Rattle.floor_crew.proofs.threads.+desks.Goals as goal
 
 pub push_reserved-requires : goal.push_reserved-requires
 push_reserved-requires g t c =
     let others = c.join-one.ensures.second in
     let many = AllZip-long
     (HasAttended c.args.floor.now g.D.Door.told g.D.Door.faults g.D.L.Link.told g.D.L.Link.faults c.args.words.now)
-    c.pop-2.new.self.items c.join-one.result.1.attended.items others.1.0 in
+    c.pop-2.new.self.items c.join-one.result.1.items others.0 in
     omega (
       arith,
-      others.1.1.1,
+      others.1,
       many,
-      c.join-one.result.1.attended.ok.0,
+      c.join-one.result.1.ok.0,
       c.pop-2.new.self.ok.0,
-      c.requires.doors_room.room,
+      c.requires.room.room,
       c.in-Some-Some.ensures'.len,
     )
 
@@ -28,11 +28,11 @@ pub returns-clause-doors : goal.returns-clause-doors
 returns-clause-doors g t c =
     zip-on
     (HasAttended c.args.floor.now g.D.Door.told g.D.Door.faults g.D.L.Link.told g.D.L.Link.faults c.args.words.now)
-    c.pop-2.new.self.items c.args.doors.items c.join-one.result.1.attended.items c.push_reserved.new.self.items
+    c.pop-2.new.self.items c.args.doors.items c.join-one.result.1.items c.push_reserved.new.self.items
     c.in-Some-Some.door c.join-one.result.0 c.in-Some-Some.ensures'.items c.push_reserved.ensures.items
-    c.join-one.ensures.second.1.0 c.join-one.ensures.first
+    c.join-one.ensures.second.0 c.join-one.ensures.first
 
--- the desk is ready, and so are the others and the workers, for whom there is room
+-- the desk is ready, and so are the others, for whom there is room
 pub join-one-requires-after_bounds : goal.join-one-requires-after_bounds
 join-one-requires-after_bounds g t c κs within =
     let ready = All-pop (IsIdleDesk c.args.floor.now) c.args.desks.items
@@ -48,9 +48,9 @@ join-one-requires-after_bounds g t c κs within =
       c.pop.new.self.ok.0,
       c.pop-2.new.self.ok.0,
     ) in
-    let room : IsEmptyFor (vec_len c.pop-2.new.self) c.args.room.attended = record {
-      none = c.requires.doors_room.none;
-      room = omega (arith, c.requires.doors_room.room, c.in-Some-Some.ensures'.len);
+    let room : IsEmptyFor (vec_len c.pop-2.new.self) c.args.attended = record {
+      none = c.requires.room.none;
+      room = omega (arith, c.requires.room.room, c.in-Some-Some.ensures'.len);
     } in (
       (
         (
@@ -76,10 +76,7 @@ join-one-requires-after_bounds g t c κs within =
                       (first_of (search rules, search (rules, sendable) depth 20)),
                       (
                         (first_of (search rules, search (rules, sendable) depth 20)),
-                        (
-                          c.requires.order,
-                          (c.requires.idle, (ready.0, (as_many, (c.requires.works_room, room)))),
-                        ),
+                        (c.requires.order, (ready.0, (as_many, room))),
                       ),
                     ),
                   ),
