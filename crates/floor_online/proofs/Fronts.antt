@@ -1,6 +1,7 @@
 -- What out has where its text could not be written.
-use Rattle.std.proofs.Common.{◌≡◌, ◌∙◌, ℕ, inl, inr, refl, ap, subst, sym, List, [], ◌++◌, take, Option, Some, None, append-nil}
+use Rattle.std.proofs.Common.{◌≡◌, ◌∙◌, ℕ, inl, inr, refl, ap, subst, sym, List, ◌++◌, take, Option, Some, None, length, arith}
 use Rattle.std.specs.Prelude.{◌⊎◌, IfErr, IfOk, IfSome, IsErrAnd, OnOk, Result, Ok, Err}
+use Rattle.std.proofs.lemmas.List.{take_all}
 use Rattle.level_plan.specs.Plans.{PlanTerms}
 use Rattle.plan_files.specs.Words.{WordTerms}
 use Rattle.view_rules.specs.declared.entries.JournalEntry.{JournalEntry}
@@ -8,9 +9,9 @@ use Rattle.replay_rules.specs.Replay.{tournament_text}
 use Rattle.dock_rules.specs.Journals.{expand}
 use Rattle.command_lines.specs.declared.fault.Fault.{Fault}
 use Rattle.command_lines.specs.declared.fault.Fault.TheVariants as faults
-use Rattle.command_lines.specs.Endings.{IsOfWriting, LetsGo}
+use Rattle.command_lines.specs.Endings.{IsOfWriting}
 use Rattle.floor_crew.specs.Tournaments.{IsWholeJournal}
-use Rattle.floor_online.specs.Served.{HasFront, IsFile, IsOfServing, MayHavePut}
+use Rattle.floor_online.specs.Served.{HasFront, HasText, IsFile, IsOfServing, MayHavePut}
 
 -- A front of a text was put, of some size.
 pub front-put : (text : List ℕ) (before after : Option (List ℕ))
@@ -31,10 +32,15 @@ pub handed-cause : {A X : Type 0} (wanted : Fault) (result : Result A Fault) (fa
 handed-cause wanted (Ok value) fault is cause was = absurd is
 handed-cause wanted (Err given) fault is cause was = let same : given ≡ wanted = cc in cause (sym is ∙ same)
 
--- Where nothing is put, that is a front of a text.
-pub front-none : (journal : List JournalEntry) (told : Option (List ℕ)) → HasFront journal told told
-front-none journal None = tt
-front-none journal (Some text) = (0, ap Some (sym (append-nil text)))
+-- Where the whole text was put, that is a front of it.
+pub front-whole : (journal : List JournalEntry) (before after : Option (List ℕ)) → HasText journal before after
+    → HasFront journal before after
+front-whole journal None after put = tt
+front-whole journal (Some text) after put =
+    let whole = tournament_text (expand journal) in (
+      length whole,
+      put ∙ ap (λ (all : List ℕ). Some (text ++ all)) (sym (take_all (length whole) whole (omega arith))),
+    )
 
 -- A front of the text of a whole tournament's journal was put.
 pub front-may : (left : Option (List ℕ)) (seed : List ℕ) (before after : Option (List ℕ)) (plan : PlanTerms)
@@ -84,17 +90,6 @@ of-writing faults.Hall is = absurd is
 of-writing faults.InputTooLong is = absurd is
 
 module _ {S : Type 0} (first now : S) where
-  -- Where it was not out that failed, it holds back nothing.
-  pub writing-lets_go : (held : S → List ℕ) (fault : Fault) → IsOfWriting fault
-      → (fault ≡ faults.NoMemory → held now ≡ []) → (fault ≡ faults.Write → ⊥) → LetsGo held first now
-  writing-lets_go held faults.Write is memory no_write = absurd (no_write refl)
-  writing-lets_go held faults.NoMemory is memory no_write = inl (memory refl)
-  writing-lets_go held faults.Usage is memory no_write = absurd is
-  writing-lets_go held faults.Read is memory no_write = absurd is
-  writing-lets_go held (faults.Plan item) is memory no_write = absurd is
-  writing-lets_go held faults.Hall is memory no_write = absurd is
-  writing-lets_go held faults.InputTooLong is memory no_write = absurd is
-
   -- A fault of writing is one at which something may have been put.
   pub writing-untouched : (fault : Fault) → IsOfWriting fault
       → (fault ≡ faults.Write) ⊎ ((fault ≡ faults.NoMemory) ⊎ (now ≡ first))

@@ -1,9 +1,10 @@
 //! The doors of a hall, and what is written of those that failed.
 
-ghost use Rattle.std.specs.Prelude.{◌⊎◌, ◌≡◌, ◌++◌, IfOk, IfSome, IfErr, IsErrOf, OnOk, length, option_map, vec_len};
+ghost use Rattle.std.specs.Prelude.{◌⊎◌, ◌≡◌, ◌≤◌, ◌++◌, [], IfOk, IfSome, IfErr, IsErrOf, OnOk, length, option_map, vec_len};
 ghost use Rattle.floor_text.specs.Outside.{Rose};
 ghost use Rattle.links.specs.Links.{AreDoorsOut, with_given};
 ghost use Rattle.command_lines.specs.Endings.{LetsGo, PutsLine};
+ghost use Rattle.command_lines.specs.Limits.{most_desks};
 ghost use Rattle.floor_online.specs.Doors.{failed_text, fault_of_hall, line_where_failed};
 
 use command_lines::{Fault, Service};
@@ -56,11 +57,23 @@ fn push_failed(number: u64, failed: bool, text: &mut Vec<u8>) -> Result<(), Allo
     )
 }
 
-/// Writes a line for each door that failed, by its number from 1 on.
-pub(crate) fn failed_lines(alloc: Global, failed: &[bool]) -> Result<Vec<u8>, AllocError>
+/// The most bytes of the line of a door that failed.
+const LONGEST_LINE: usize = 16;
+
+/// Takes the room for the lines of so many doors, so that none is wanted once the tournament is over.
+pub(crate) fn room_for_lines(alloc: Global, doors: u32) -> Result<Vec<u8>, AllocError>
+    requires { doors ≤ most_desks }
+    ensures { IfOk result (λ room. room.items ≡ []) }
+{
+    Vec::with_capacity(alloc, doors as usize * LONGEST_LINE)
+}
+
+/// Writes a line for each door that failed, by its number from 1 on, into the room for them.
+pub(crate) fn failed_lines(failed: &[bool], room: Vec<u8>) -> Result<Vec<u8>, AllocError>
+    requires { room.items ≡ [] }
     ensures { IfOk result (λ text. text.items ≡ failed_text 1 failed.now) }
 {
-    let mut text = Vec::new(alloc);
+    let mut text = room;
     for (index, one) in failed.iter().enumerate() {
         push_failed(index as u64 + 1, *one, &mut text)?;
     }

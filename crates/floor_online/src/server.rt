@@ -14,7 +14,7 @@ ghost use Rattle.command_lines.specs.declared.service.Service.{Service};
 ghost use Rattle.floor_online.specs.Doors.{IsEvenOn, failed_text};
 ghost use Rattle.floor_online.specs.Served.{HasFront, HasServed, HasText, IsFile, IsOfServing, MayHavePut};
 
-use crate::doors::{failed_lines, put_lines};
+use crate::doors::{failed_lines, put_lines, room_for_lines};
 use crate::holding::hold_plan;
 use crate::text::write_text;
 use book_dock::BookEnd;
@@ -47,13 +47,16 @@ fn read_plan<I: Source>(alloc: Global, input: &mut I) -> Result<(Plan, Words), F
     Ok(served_from_toml(alloc, &bytes)?)
 }
 
-/// Writes the text of a tournament that was held, and gives the lines of the doors that failed.
+/// Writes the text of a tournament that was held, and then gives the lines of the doors that failed, in the room that
+/// was taken for them.
 fn write_held<O: Sink>(
     alloc: Global,
     end: &BookEnd,
     failed: &[bool],
+    room: Vec<u8>,
     out: &mut O,
 ) -> Result<Vec<u8>, Fault>
+    requires { room.items ≡ [] }
     ensures lines { IfOk result (λ lines. lines.items ≡ failed_text 1 failed.now) }
     ensures put { OnOk result (HasText (journal_of end.now) (O.written out.old) (O.written out.new)) }
     ensures front { OnErr result (HasFront (journal_of end.now) (O.written out.old) (O.written out.new)) }
@@ -62,9 +65,8 @@ fn write_held<O: Sink>(
     ensures write { IsErrOf result Fault.Write → Rose (O.faults out.old) (O.faults out.new) }
     ensures others { IfErr result IsOfWriting }
 {
-    let lines = failed_lines(alloc, failed)?;
     write_text(alloc, end, out)?;
-    Ok(lines)
+    Ok(failed_lines(failed, room)?)
 }
 
 /// Holds a plan's tournament at the doors of the hall, and writes its text. Gives the lines of the doors that failed.
@@ -100,8 +102,9 @@ fn serve_plan<R: Threads + Wait + Sync, O: Sink, H: Hall, G: Gate + Sync>(
     ensures hall { IsErrOf result Fault.Hall → Rose (H.faults hall.old) (H.faults hall.new) }
     ensures others { IfErr result IsOfServing }
 {
+    let room = room_for_lines(alloc, asked.desks)?;
     let (end, failed) = hold_plan(rt, alloc, plan, words, hall, gate, seed, asked)?;
-    write_held(alloc, &end, &failed, out)
+    write_held(alloc, &end, &failed, room, out)
 }
 
 /// Reads the command and the plan, holds the plan's tournament, and writes its text. Gives the lines of the doors that

@@ -7,17 +7,21 @@ use Rattle.command_lines.specs.declared.fault.Fault.TheVariants as faults
 use Rattle.command_lines.specs.Endings.{IsOfWriting}
 use Rattle.floor_online.specs.Doors.{failed_text}
 use Rattle.floor_online.specs.Served.{HasFront, HasServed, IsOfServing, MayHavePut}
+use Rattle.floor_online.proofs.EvenDoors.{even-still}
 use Rattle.floor_online.proofs.Fronts.{both-at-ok, fault-weaker, front-may, handed-cause, handed-on, of-holding, of-writing, writing-untouched}
 use Rattle.floor_online.proofs.server.serve_plan.Goals as goal
 
+pub returns-in_err-room-clause-doors : goal.returns-in_err-room-clause-doors
+returns-in_err-room-clause-doors g c = even-still (g.H.Hall.told c.args.hall.now)
+
 pub returns-in_err-end-clause-hall : goal.returns-in_err-end-clause-hall
 returns-in_err-end-clause-hall g c =
-    handed-cause faults.Hall c.from_residual.result c.in_err-end.field-0.0 c.from_residual.ensures.1
-    (λ hall. c.in_err-end.ensures.hall (ap Err hall))
+    handed-cause faults.Hall c.from_residual-in_err-end.result c.in_err-end.field-0.0
+    c.from_residual-in_err-end.ensures.1 (λ hall. c.in_err-end.ensures.hall (ap Err hall))
 
 pub returns-in_err-end-clause-others : goal.returns-in_err-end-clause-others
 returns-in_err-end-clause-others g c =
-    handed-on IsOfServing c.from_residual.result c.in_err-end.field-0.0 c.from_residual.ensures.1
+    handed-on IsOfServing c.from_residual-in_err-end.result c.in_err-end.field-0.0 c.from_residual-in_err-end.ensures.1
     (of-holding c.in_err-end.field-0.0 c.in_err-end.ensures.others)
 
 pub returns-clause-served : goal.returns-clause-served
