@@ -1,4 +1,5 @@
 pub mod Added
+pub mod Pieces
 pub mod Tables
 pub mod Journals
 pub mod Points

@@ -21,4 +21,4 @@ pub use act::push_act;
 pub use floor::{floor_lines, push_floor_lines};
 pub use opening::push_opening;
 pub use teller::TableTeller;
-pub use view_rules::{JournalEntry, StackLine, TableEntry};
+pub use view_rules::{JournalEntry, Opening, StackLine, TableEntry};

@@ -242,7 +242,7 @@ impl TableTeller {
         ensures kept { OnErr result (self.new ≡ self.old) }
     {
         match entry {
-            TableEntry::Opened(start) => self.open(start, out),
+            TableEntry::Opened(opening) => self.open(opening.start(), out),
             TableEntry::Acted { act, .. } => self.act(act, out),
             TableEntry::Closed => {
                 self.told = Told::Nothing;

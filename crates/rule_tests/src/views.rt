@@ -7,7 +7,7 @@ use crate::dealt::{Unfit, deck_of, name, two};
 use betting_round::Act;
 use card_set::Game;
 use floor_text::Name;
-use player_view::{TableEntry, TableTeller};
+use player_view::{Opening, TableEntry, TableTeller};
 use std::alloc::Global;
 use table_engine::{ActOf, Hand};
 
@@ -49,8 +49,11 @@ fn tell_begin(alloc: Global, teller: &mut TableTeller, hand: &Hand, out: &mut Ve
     requires begun { hand.now.acts ≡ [] }
     ensures { result ≡ true → teller.new.hand ≡ Some hand.now }
 {
-    match hand.start().copy(alloc) {
-        Ok(start) => tell(teller, &TableEntry::Opened(start), out),
+    let Ok(start) = hand.start().copy(alloc) else {
+        return false;
+    };
+    match Opening::new(alloc, start) {
+        Ok(opening) => tell(teller, &TableEntry::Opened(opening), out),
         Err(_) => false,
     }
 }

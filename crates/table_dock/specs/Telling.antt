@@ -3,6 +3,7 @@ use Rattle.std.specs.Prelude.{◌≡◌, ◌<◌, ◌≤◌, ◌++◌, ℕ, List
 use Rattle.view_rules.specs.declared.entries.TableEntry.{TableEntry}
 use Rattle.view_rules.specs.Entries.{TableTold}
 use Rattle.view_rules.specs.Spelling.{lines_text}
+use Rattle.dock_rules.specs.Pieces.{piece_end}
 use Rattle.dock_rules.specs.Tables.{entries_lines, lying_hand, told_through}
 use Rattle.table_dock.specs.declared.end.Untold.{Untold}
 
@@ -24,6 +25,14 @@ pub record AreTold (history : List TableEntry) (first last : ℕ) (before after 
 abbrev pub number_told : Result ℕ Untold → ℕ
 number_told (Ok count) = count
 number_told (Err untold) = untold.told
+
+-- The entries of a piece, which has so many at most, were told up to the number that is answered: all of them, unless
+-- memory ran out.
+pub record IsPieceRead (history : List TableEntry) (first most : ℕ) (before after : TableTold) (had has : List ℕ)
+    (answer : Result ℕ Untold) : Type 0 where
+  pub told : AreTold history first (number_told answer) before after had has
+  pub all : IfOk answer (λ last. last ≡ piece_end first most (length history))
+  pub cut : IfErr answer (λ untold. untold.told < length history)
 
 -- The entries from one number on were told up to the number that is answered: all of them, unless memory ran out.
 pub record IsRead (history : List TableEntry) (first : ℕ) (before after : TableTold) (had has : List ℕ)

@@ -10,14 +10,14 @@ ghost use Rattle.table_engine.specs.Hands.{is_over};
 ghost use Rattle.view_rules.specs.declared.entries.TableEntry.TheVariants as entries;
 ghost use Rattle.dock_rules.specs.Added.{only_if};
 ghost use Rattle.dock_rules.specs.Tables.{ActStandsAt, AreOfTable, HasItsChips, IsLegalTableHistory, TimeStandsAt, called_entries, lies, lying_hand, table_caller, time_refusal_at};
-ghost use Rattle.table_dock.specs.Telling.{IsRead};
+ghost use Rattle.table_dock.specs.Telling.{IsPieceRead, IsRead};
 
 use crate::end::{TableEnd, Untold};
 use crate::gate::Gate;
 use crate::hold::TableHold;
 use betting_round::{Act, Done};
 use floor_text::Name;
-use history_lock::{HistoryLock, NotAll, Pass};
+use history_lock::{Grows, HistoryLock, NotAll, Pass};
 use player_view::TableTeller;
 use std::sync::Wait;
 use std::time::Duration;
@@ -196,9 +196,33 @@ impl TableDock {
         ensures legal { IsLegalTableHistory (seen result.0) }
         ensures chips { IfSome (lying_hand (seen result.0)) HasItsChips }
     {
+        let (pass, _, answer) = self.follow(rt, pass, from, u64::MAX, teller, out);
+        (pass, answer)
+    }
+
+    /// Reads as `read_lines` does, the lines of so many entries at most, and tells how many the same history has.
+    pub fn follow<R: Wait>(
+        &self,
+        rt: &R,
+        pass: TablePass,
+        from: u64,
+        most: u64,
+        teller: &mut TableTeller,
+        out: &mut Vec<u8>,
+    ) -> (TablePass, u64, Result<u64, Untold>)
+        requires lock { lock_of pass ≡ dock_id self.now }
+        requires from { from ≤ length (seen pass) }
+        requires table { teller.old.table ≡ table_of self.now }
+        requires told { teller.old.hand ≡ lying_hand (take from (seen pass)) }
+        ensures stands { Stands pass result.0 (λ at added. (result.1 ≡ length at)
+            × (IsPieceRead at from most teller.old teller.new out.old.items out.new.items result.2 × (added ≡ []))) }
+        ensures legal { IsLegalTableHistory (seen result.0) }
+        ensures chips { IfSome (lying_hand (seen result.0)) HasItsChips }
+    {
         let inside = self.lock.enter(rt, pass);
-        let answer = inside.value().tell(from, teller, out);
-        (self.lock.leave(inside), answer)
+        let count = inside.value().count();
+        let answer = inside.value().tell(from, most, teller, out);
+        (self.lock.leave(inside), count, answer)
     }
 
     /// Loads how many entries the history has now. It waits for nobody, and takes no memory.

@@ -3,10 +3,11 @@
 ghost use Rattle.std.specs.Prelude.{◌≡◌, ◌++◌, ◌≤◌, [], length, take, false, true, Some, None, IfOk, IfSome, IsNone, IsSome, is_none, is_ok, is_some, option_map, if◌then◌else◌};
 ghost use Rattle.table_engine.specs.Acts.{time_act};
 ghost use Rattle.table_engine.specs.Hands.{is_over};
+ghost use Rattle.table_engine.specs.Starts.{IsLawfulStart};
 ghost use Rattle.view_rules.specs.declared.entries.TableEntry.TheVariants as entries;
 ghost use Rattle.dock_rules.specs.Added.{only_if};
 ghost use Rattle.dock_rules.specs.Tables.{ActStandsAt, IsSoundTable, TimeStandsAt, called_entries, lying_hand, table_caller, time_refusal_at};
-ghost use Rattle.table_dock.specs.Telling.{IsRead};
+ghost use Rattle.table_dock.specs.Telling.{IsPieceRead};
 
 use crate::called::called_act;
 use crate::end::{TableEnd, Untold};
@@ -14,10 +15,10 @@ use betting_round::{Act, Done};
 use floor_text::{List, Name, Refusal};
 use history_lock::Grows;
 use player_view::TableTeller;
-use std::alloc::Global;
+use std::alloc::{AllocError, Global};
 use std::marker::Model;
 use table_engine::{ActFault, ActOf, Hand};
-use view_rules::TableEntry;
+use view_rules::{Opening, TableEntry};
 
 /// The history of a table, and the hand that lies there by it. Contracts see it as its history.
 #[derive(Drop)]
@@ -52,6 +53,14 @@ impl Grows for TableHold {
     }
 }
 
+/// Copies the start of a hand for the history.
+fn opening_of(alloc: Global, hand: &Hand) -> Result<Opening, AllocError>
+    ensures same { IfOk result (λ opening. opening ≡ hand.now.start) }
+    ensures lawful { IsLawfulStart hand.now.start }
+{
+    Opening::new(alloc, hand.start().copy(alloc)?)
+}
+
 impl TableHold {
     /// Makes a table with no history.
     pub(crate) fn new(alloc: Global) -> TableHold
@@ -72,13 +81,13 @@ impl TableHold {
         ensures back { IfSome result (λ back. back ≡ hand) }
         ensures sound { IsSoundTable self.new }
     {
-        let Ok(start) = hand.start().copy(self.alloc) else {
+        let Ok(opening) = opening_of(self.alloc, &hand) else {
             return Some(hand);
         };
         let Ok(()) = self.entries.reserve(2) else {
             return Some(hand);
         };
-        self.entries.push_reserved(TableEntry::Opened(start));
+        self.entries.push_reserved(TableEntry::Opened(opening));
         self.hand = Some(hand);
         None
     }
@@ -162,24 +171,26 @@ impl TableHold {
         self.void()
     }
 
-    /// Tells the entries from number `from` on, and gives the number of all.
+    /// Tells the entries from number `from` on, so many at most, and gives the number of the first that it left out.
     pub(crate) fn tell(
         &self,
         from: u64,
+        most: u64,
         teller: &mut TableTeller,
         out: &mut Vec<u8>,
     ) -> Result<u64, Untold>
         requires from { from ≤ length self.now }
         requires told { teller.old.hand ≡ lying_hand (take from self.now) }
-        ensures read { IsRead self.now from teller.old teller.new out.old.items out.new.items result }
+        ensures read { IsPieceRead self.now from most teller.old teller.new out.old.items out.new.items result }
         ensures sound { IsSoundTable self.now }
     {
-        for index in from as usize..self.entries.len() {
+        let last = from + most.min(self.count() - from);
+        for index in from as usize..last as usize {
             let Ok(()) = teller.tell(&self.entries[index], out) else {
                 return Err(Untold { told: index as u64 });
             };
         }
-        Ok(self.entries.len() as u64)
+        Ok(last)
     }
 
     /// Gives the history and the hand.

@@ -12,6 +12,7 @@
 //! | `TableDock::close_hand` | the hand, with just the acts since it was opened, exactly where it is over |
 //! | `TableDock::void_hand` | the hand, exactly where one lies there |
 //! | `TableDock::read_lines` | just the lines of the entries that are told |
+//! | `TableDock::follow` | the same of a piece, and how many entries the history has |
 //! | `TableDock::news` | the count that it loaded is what the pass knows |
 //! | `TableDock::close` | the history, which these passes alone made, and the hand that lies there, exactly where all passes are given |
 //!

@@ -1,8 +1,9 @@
 //! What is told of the floor and of a table, entry by entry.
 
+use crate::opening::Opening;
 use floor_text::{List, Name};
 use seat_book::Place;
-use table_engine::{ActOf, HandStart};
+use table_engine::ActOf;
 use tournament_events::Event;
 
 /// A player's stack, as it is told.
@@ -36,8 +37,8 @@ pub struct JournalEntry {
 /// What happened at a table.
 #[derive(Drop)]
 pub enum TableEntry {
-    /// A hand began.
-    Opened(HandStart),
+    /// A hand began, with this start.
+    Opened(Opening),
     /// A player acted in the hand, or time was called on him.
     Acted {
         /// The number of whoever brought the act.

@@ -8,5 +8,7 @@
 #![tactic(auto)]
 
 mod entries;
+mod opening;
 
 pub use entries::{JournalEntry, StackLine, TableEntry};
+pub use opening::Opening;

@@ -21,17 +21,17 @@ opened history old after hand start sound same free copied lawful fresh is =
 
 pub invariant_of-self-2 : goal.invariant_of-self-2
 invariant_of-self-2 c =
-    let made = opened c.self.inside.entries.items c.args.self.now c.push_reserved.new.self.items c.args.hand c.in-Ok.start
-    c.self.invariant.sound c.self.view_is c.requires.free (c.in-Ok.ensures ∙ c.start.ensures.same)
-    c.start.ensures.lawful c.requires.fresh
+    let made = opened c.self.inside.entries.items c.args.self.now c.push_reserved.new.self.items c.args.hand
+    c.in-Ok.opening c.self.invariant.sound c.self.view_is c.requires.free c.in-Ok.ensures.same
+    c.opening_of.ensures.lawful c.requires.fresh
     (c.push_reserved.ensures.items
-    ∙ ap (λ (items : List TableEntry). items ++ entries.Opened c.in-Ok.start ∷ []) c.reserve.ensures.items) in
+    ∙ ap (λ (items : List TableEntry). items ++ entries.Opened c.in-Ok.opening ∷ []) c.reserve.ensures.items) in
     record { sound = made.0; told = made.1; room = omega (arith, c.in-Ok-reserve.ensures.ok) }
 
 pub returns-clause-sound : goal.returns-clause-sound
 returns-clause-sound c =
-    (opened c.self.inside.entries.items c.args.self.now c.push_reserved.new.self.items c.args.hand c.in-Ok.start
-    c.self.invariant.sound c.self.view_is c.requires.free (c.in-Ok.ensures ∙ c.start.ensures.same)
-    c.start.ensures.lawful c.requires.fresh
+    (opened c.self.inside.entries.items c.args.self.now c.push_reserved.new.self.items c.args.hand
+    c.in-Ok.opening c.self.invariant.sound c.self.view_is c.requires.free c.in-Ok.ensures.same
+    c.opening_of.ensures.lawful c.requires.fresh
     (c.push_reserved.ensures.items
-    ∙ ap (λ (items : List TableEntry). items ++ entries.Opened c.in-Ok.start ∷ []) c.reserve.ensures.items)).0
+    ∙ ap (λ (items : List TableEntry). items ++ entries.Opened c.in-Ok.opening ∷ []) c.reserve.ensures.items)).0
