@@ -2,6 +2,7 @@
 use Rattle.std.proofs.Common.{◌≡◌, ◌∙◌, refl, sym, ap, subst, ℕ, ◌+◌, ◌<◌, ◌≤◌, false, true, List, [], ◌∷◌, ◌++◌, length, map, arith}
 use Rattle.std.specs.Prelude.{None}
 use Rattle.card_set.specs.declared.card.CardRow.{CardRow}
+use Rattle.card_set.specs.Decks.{repeats_a_card}
 use Rattle.table_engine.specs.declared.start.HandStart.{HandStart}
 use Rattle.table_engine.specs.declared.start.StartSeat.{StartSeat}
 use Rattle.table_engine.specs.declared.record.HandRecord.{HandRecord}
@@ -15,6 +16,7 @@ use Rattle.tournament_rules.specs.Dealing.{next_start}
 use Rattle.tournament_rules.specs.Effects.{begun_book, settled}
 use Rattle.tournament_rules.specs.Kinds.{is_order}
 use Rattle.tournament_rules.specs.States.{book_after}
+use Rattle.simulation_rules.proofs.DrawnRows.{row-repeats_none}
 use Rattle.view_rules.specs.declared.entries.JournalEntry.{JournalEntry}
 use Rattle.view_rules.specs.declared.entries.StackLine.{StackLine}
 use Rattle.view_rules.specs.Lines.{stack_after}
@@ -34,6 +36,14 @@ pub record IsLeft (now : List JournalEntry) (told : List JournalEntry) (seed : L
   pub kept : IsKept now seed after
   pub few : owed after ≤ 65
   pub more : owed after ≤ owed book + extra
+
+module _ (journal : List JournalEntry) where
+  -- The deck that comes next repeats no card.
+  pub row-distinct : (row : CardRow) → row ≡ next_row (tale_of journal) → repeats_a_card row.cards ≡ false
+  row-distinct row drawn =
+      let tale = tale_of journal in
+      subst (λ (row : CardRow). repeats_a_card row.cards ≡ false) (sym drawn)
+      (row-repeats_none tale.seed tale.count)
 
 module _ (journal : List JournalEntry) (seed : List ℕ) (book : BookState) (kept : IsKept journal seed book) where
   left-kept : (now : List JournalEntry) (entry : JournalEntry) (after changed : BookState) (extra : ℕ)
@@ -60,6 +70,14 @@ module _ (journal : List JournalEntry) (seed : List ℕ) (book : BookState) (kep
   begin-refused table number row drawn same =
       ap (λ (n : ℕ). book_refusal book (events.Begin n row)) same
       ∙ begin-refusal journal seed book kept table row drawn
+
+  -- A begin that no check of its table refuses is not refused, since its deck repeats no card.
+  pub begin-free : (table number : ℕ) → number ≡ table
+      → ((row : CardRow) → repeats_a_card row.cards ≡ false → book_refusal book (events.Begin number row) ≡ None)
+      → refusal_at (tale_of journal) (next_begin (tale_of journal) table) ≡ None
+  begin-free table number same free =
+      let row = next_row (tale_of journal) in
+      sym (begin-refused table number row refl same) ∙ free row (row-distinct journal row refl)
 
   -- A hand that began, by the entry that is made of its parts.
   module _ (caller table number : ℕ) (row : CardRow) (drawn : row ≡ next_row (tale_of journal))

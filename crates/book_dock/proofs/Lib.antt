@@ -5,3 +5,4 @@ pub mod Nobody
 pub mod PlanEntries
 pub mod Carried
 pub mod Standing
+pub mod Pieces

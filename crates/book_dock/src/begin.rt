@@ -16,7 +16,7 @@ use tournament_events::Event;
 
 impl BookHold {
     /// Begins a hand at a table, with the deck that comes next, and takes the room for its settle. An error leaves the
-    /// journal as it was.
+    /// journal as it was, and a hand that may not begin draws no deck.
     pub(crate) fn begin(&mut self, caller: u32, table: u8) -> Result<Hand, BookFault>
         ensures answer { IsAnswer (refusal_at (tale_of self.old.journal.items)
             (next_begin (tale_of self.old.journal.items) table)) result }
@@ -26,9 +26,9 @@ impl BookHold {
             (entry_told (tale_of self.old.journal.items) caller
             (next_begin (tale_of self.old.journal.items) table) []) }
     {
-        let row = self.next_row();
         let number = u64::from(table);
-        self.book.check_begin(number, &row)?;
+        self.book.check_table_begins(number)?;
+        let row = self.next_row();
         let room = StackRoom::new(self.alloc)?;
         self.rooms.reserve(1)?;
         take_room(&mut self.journal)?;

@@ -1,6 +1,6 @@
 //! The dock: the book and its journal behind their lock.
 
-ghost use Rattle.std.specs.Prelude.{◌≡◌, ℕ, ◌<◌, ◌≤◌, ◌^◌, ◌↔◌, ◌++◌, [], All, Any, drop, not, IfErr, IfOk, IfSome, IsErr, OnErr, OnOk, is_ok, length, vec_len};
+ghost use Rattle.std.specs.Prelude.{◌≡◌, ℕ, ◌<◌, ◌≤◌, ◌^◌, ◌↔◌, ◌++◌, [], All, Any, drop, not, take, IfErr, IfOk, IfSome, IsErr, OnErr, OnOk, is_ok, length, vec_len};
 ghost use mathlib.Core.List.{IsPrefix};
 ghost use Rattle.tournament_events.specs.declared.event.Event.TheVariants as events;
 ghost use Rattle.table_engine.specs.Acts.{IsAnswer};
@@ -12,12 +12,14 @@ ghost use Rattle.history_lock.specs.Limits.{most_passes};
 ghost use Rattle.history_lock.specs.Passes.{AreFresh, IsSameButKnown, known, lock_of, own, pass_number, seen};
 ghost use Rattle.dock_rules.specs.Added.{only_if};
 ghost use Rattle.dock_rules.specs.Journals.{Has, IsLegalJournal, book_of, entry_told, journal_caller, tale_of};
+ghost use Rattle.dock_rules.specs.Pieces.{piece_end};
 ghost use Rattle.dock_rules.specs.Points.{IsAskAnswer, ask_answer, event_done, hand_begun, is_done, journal_text, next_begin, place_of_name, refusal_at};
 ghost use Rattle.book_dock.specs.Docks.{book_id, book_opening, book_passes};
 ghost use Rattle.book_dock.specs.Ends.{given_back, is_settled, journal_of};
 ghost use Rattle.book_dock.specs.Opening.{opening};
 
 use crate::end::BookEnd;
+use crate::followed::Followed;
 use crate::hold::BookHold;
 use crate::settle::SettleEnd;
 use dock_rules::{Ask, AskAnswer};
@@ -170,32 +172,39 @@ impl BookDock {
         ensures legal { IsLegalJournal (seen result.0) }
         ensures few { length (seen result.0) < 2 ^ 60 }
     {
-        let (pass, _, count) = self.follow(rt, pass, from, out);
-        (pass, count)
+        let (pass, followed) = self.follow(rt, pass, from, u64::MAX, out);
+        (pass, followed.told)
     }
 
-    /// Reads as `read_lines` does, and tells of the same journal whether the tournament was stopped.
+    /// Reads as `read_lines` does, the lines of so many entries at most, and tells of the same journal how many it has
+    /// and whether the tournament was stopped.
     pub fn follow<R: Wait>(
         &self,
         rt: &R,
         pass: BookPass,
         from: u64,
+        most: u64,
         out: &mut Vec<u8>,
-    ) -> (BookPass, bool, Result<u64, AllocError>)
+    ) -> (BookPass, Followed)
         requires lock { lock_of pass ≡ book_id self.now }
         requires from { from ≤ length (seen pass) }
-        ensures stands { Stands pass result.0 (λ at added. (result.1 ≡ (tale_of at).ended)
-            × IfOk result.2 (λ count. count ≡ length at) × (added ≡ [])) }
-        ensures lines { OnOk result.2 (out.new.items
-            ≡ out.old.items ++ journal_text (drop from (seen result.0))) }
-        ensures err { OnErr result.2 (out.new.items ≡ out.old.items) }
+        ensures stands { Stands pass result.0 (λ at added. (result.1.stopped ≡ (tale_of at).ended)
+            × ((result.1.count ≡ length at)
+            × (IfOk result.1.told (λ last. last ≡ piece_end from most (length at)) × (added ≡ [])))) }
+        ensures lines { IfOk result.1.told (λ last. out.new.items
+            ≡ out.old.items ++ journal_text (drop from (take last (seen result.0)))) }
+        ensures err { OnErr result.1.told (out.new.items ≡ out.old.items) }
         ensures legal { IsLegalJournal (seen result.0) }
         ensures few { length (seen result.0) < 2 ^ 60 }
     {
         let inside = self.lock.enter(rt, pass);
-        let stopped = inside.value().stopped();
-        let count = inside.value().read_lines(from, out);
-        (self.lock.leave(inside), stopped, count)
+        let hold = inside.value();
+        let followed = Followed {
+            stopped: hold.stopped(),
+            count: hold.number(),
+            told: hold.read_lines(from, most, out),
+        };
+        (self.lock.leave(inside), followed)
     }
 
     /// Tells whether the tournament was stopped: whether the journal ends with the stop. It takes no memory.

@@ -19,6 +19,7 @@
 mod begin;
 mod dock;
 mod end;
+mod followed;
 mod hold;
 mod lines;
 mod opening;
@@ -29,5 +30,6 @@ mod settle;
 pub use dock::{BookDock, BookPass, make_book};
 pub use dock_rules::{Ask, AskAnswer};
 pub use end::BookEnd;
+pub use followed::Followed;
 pub use hold::BookHold;
 pub use settle::SettleEnd;

@@ -1,7 +1,8 @@
 //! What the floor tells of the journal.
 
-ghost use Rattle.std.specs.Prelude.{◌≡◌, ◌≤◌, ◌++◌, drop, length, vec_len, IfOk, OnErr, OnOk};
+ghost use Rattle.std.specs.Prelude.{◌≡◌, ◌≤◌, ◌++◌, drop, length, take, vec_len, IfOk, OnErr, OnOk};
 ghost use Rattle.line_words.specs.Words.{Extends};
+ghost use Rattle.dock_rules.specs.Pieces.{piece_end};
 ghost use Rattle.dock_rules.specs.Points.{journal_text};
 
 use crate::hold::BookHold;
@@ -20,20 +21,28 @@ fn push_entries(entries: &[JournalEntry], out: &mut Vec<u8>) -> Result<(), Alloc
 }
 
 impl BookHold {
-    /// Writes the lines of the entries from a number on, and gives the number of all entries. After want of memory
-    /// `out` is as before.
-    pub(crate) fn read_lines(&self, from: u64, out: &mut Vec<u8>) -> Result<u64, AllocError>
+    /// Writes the lines of the entries from a number on, of so many at most, and gives the number of the first that it
+    /// left out. After want of memory `out` is as before.
+    pub(crate) fn read_lines(
+        &self,
+        from: u64,
+        most: u64,
+        out: &mut Vec<u8>,
+    ) -> Result<u64, AllocError>
         requires { from ≤ vec_len self.now.journal }
-        ensures count { IfOk result (λ count. count ≡ length self.now.journal.items) }
-        ensures ok { OnOk result (out.new.items ≡ out.old.items ++ journal_text (drop from self.now.journal.items)) }
+        ensures last { IfOk result (λ last. last ≡ piece_end from most (length self.now.journal.items)) }
+        ensures ok { IfOk result (λ last. out.new.items
+            ≡ out.old.items ++ journal_text (drop from (take last self.now.journal.items))) }
         ensures err { OnErr result (out.new.items ≡ out.old.items) }
     {
         let before = out.len();
-        let written = push_entries(&self.journal[from as usize..], out);
+        let count = self.journal.len() as u64;
+        let last = from + most.min(count - from);
+        let written = push_entries(&self.journal[from as usize..last as usize], out);
         if written.is_err() {
             out.truncate(before);
             return Err(AllocError);
         }
-        Ok(self.journal.len() as u64)
+        Ok(last)
     }
 }

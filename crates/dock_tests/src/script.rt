@@ -196,9 +196,12 @@ fn follow<R: Wait>(
     ensures { lock_of result.0 ≡ book_id dock.now }
 {
     let mut lines = Vec::new(alloc);
-    let (pass, stopped, count) = dock.follow(rt, pass, 0, &mut lines);
+    let (pass, found) = dock.follow(rt, pass, 0, u64::MAX, &mut lines);
     let ends = lines.as_slice().ends_with(last.as_bytes());
-    (pass, stopped == is_stopped && count.is_ok() && ends)
+    (
+        pass,
+        found.stopped == is_stopped && found.told.is_ok() && ends,
+    )
 }
 
 /// Takes one step, and tells whether it is answered as is wanted.

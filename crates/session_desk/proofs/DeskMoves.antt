@@ -10,7 +10,7 @@ use mathlib.Core.Logic.{dite}
 use native.Mathlib.Decide.{ℕ_discrete}
 use Rattle.history_lock.specs.declared.grows.Grows.{Ghosts}
 use Rattle.history_lock.specs.declared.pass.Pass.{Pass}
-use Rattle.history_lock.specs.Passes.{LockId, lock_of, pass_number, seen}
+use Rattle.history_lock.specs.Passes.{IsSameButKnown, LockId, lock_of, pass_number, seen}
 use Rattle.history_lock.proofs.Prefixes.{prefix_self, prefix_trans}
 use Rattle.view_rules.specs.declared.entries.TableEntry.{TableEntry}
 use Rattle.view_rules.specs.declared.entries.TableEntry.TheVariants.{Acted}
@@ -21,7 +21,7 @@ use Rattle.session_desk.specs.declared.desk.Asked.{Asked}
 use Rattle.session_desk.specs.declared.desk.Desk.{Desk}
 use Rattle.session_desk.specs.Desks.{AreLater, ArePassesOf, Brought, IsDeskOf, HasDeskMoved, acted_at, nothing, numbers_of, of_table, sights, Sights}
 use Rattle.session_desk.specs.Moves.{HasMoved}
-use Rattle.session_desk.proofs.Moving.{moved-both, moved-none}
+use Rattle.session_desk.proofs.Moving.{moved-both, moved-known, moved-none}
 use Rattle.session_desk.proofs.Rows.{of-found, put-count, put-elsewhere, put-here, with-itself}
 
 -- Two desks have the same passes, and list the same.
@@ -52,6 +52,18 @@ moved-still looks before after none same = record {
       let z : looks table ≡ 0 = none table in
       rw e (rw z (with-itself (λ one other. HasMoved 0 [] one other) moved-none (of_table before.tables.items table)));
   asked = same.asked ∙ sym (append-nil before.asked.items);
+}
+
+-- A desk that learned how many entries the journal has.
+pub moved-known_so : (before after : Desk) → IsSameButKnown before.book after.book → after.tables ≡ before.tables
+    → after.asked.items ≡ before.asked.items → HasDeskMoved 0 (λ table. 0) nothing before after
+moved-known_so before after known tables asked = record {
+  book = moved-known before.book after.book known;
+  count = ap (λ row. length row.items) tables;
+  tables = λ table.
+      let e : after.tables ≡ before.tables = tables in
+      rw e (with-itself (λ one other. HasMoved 0 [] one other) moved-none (of_table before.tables.items table));
+  asked = asked ∙ sym (append-nil before.asked.items);
 }
 
 -- What was done from a desk on was done from one with the same passes.
@@ -196,6 +208,16 @@ lock-found : {Val : Type 0} {g : Ghosts Val TableEntry} (lock : LockId) (least t
 lock-found lock least table acts one None moved there its = tt
 lock-found lock least table acts None (Some y) moved there its = absurd (cc (there refl))
 lock-found lock least table acts (Some x) (Some y) moved there its = moved.lock ∙ its
+
+-- Its pass of a table is of the lock that it was of.
+pub pass-kept : (lock : LockId) (looks : ℕ) (table_looks : ℕ → ℕ) (brought : Brought) (index : ℕ)
+    (before after : Desk) → HasDeskMoved looks table_looks brought before after
+    → IfSome (slice_get before.tables.items index) (λ x. lock_of x ≡ lock)
+    → IfSome (slice_get after.tables.items index) (λ y. lock_of y ≡ lock)
+pass-kept lock looks table_looks brought index before after moved its =
+    lock-found lock (table_looks (suc index)) (suc index) brought.acts (slice_get before.tables.items index)
+    (slice_get after.tables.items index) (moved.tables (suc index))
+    (both-there after.tables.items before.tables.items (suc index) (sym moved.count)) its
 
 -- Its passes are of the docks that they were of.
 pub passes-kept : (docks : List TableDock) (looks : ℕ) (table_looks : ℕ → ℕ) (brought : Brought)

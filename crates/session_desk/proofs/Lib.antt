@@ -18,6 +18,7 @@ pub mod TurnStart
 pub mod Fronts
 pub mod Longer
 pub mod SoFar
+pub mod Pieces
 pub mod StandingOn
 pub mod Moments
 pub mod Talking

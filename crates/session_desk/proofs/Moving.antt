@@ -4,7 +4,7 @@ use mathlib.Core.List.{IsPrefix}
 use Rattle.history_lock.specs.declared.grows.Grows.{Ghosts}
 use Rattle.history_lock.specs.declared.pass.Pass.{Pass}
 use Rattle.history_lock.specs.Holds.{IsHold}
-use Rattle.history_lock.specs.Passes.{own, seen}
+use Rattle.history_lock.specs.Passes.{IsSameButKnown, own, seen}
 use Rattle.history_lock.proofs.Prefixes.{prefix_self, prefix_trans}
 use Rattle.session_desk.specs.Moves.{HasMoved}
 
@@ -17,6 +17,16 @@ module _ {Val E : Type 0} {g : Ghosts Val E} where
     made = omega arith;
     longer = prefix_self (seen pass);
     own_after = sym (append-nil (own pass));
+  }
+
+  -- A pass that learned how many entries there are made no hold.
+  pub moved-known : (before after : Pass Val E g) → IsSameButKnown before after → HasMoved 0 [] before after
+  moved-known before after same = record {
+    lock = same.same_lock;
+    number = same.same_number;
+    made = let held = same.same_holds in omega (arith, held);
+    longer = ([], append-nil (seen before) ∙ sym same.same_seen);
+    own_after = same.same_own ∙ sym (append-nil (own before));
   }
 
   -- What a pass found begins with what it had seen.

@@ -67,21 +67,6 @@ stays-unwatched history None None lines none told = refl
 stays-unwatched history None (Some watch) lines none told = absurd told
 stays-unwatched history (Some watch) after lines none told = absurd (cc (none))
 
--- A number that is the journal's, unless memory ran out, is no less than it was and lies in the journal.
-floor-number : (behind : Bool) (before after all : ℕ) → after ≡ (if behind then before else all) → before ≤ all
-    → (before ≤ after) × (after ≤ all)
-floor-number true before after all is within = let e : after ≡ before = is in (
-  omega (arith, e),
-  omega
-      (arith, e, within),
-)
-floor-number false before after all is within = let e : after ≡ all = is in (omega (arith, e, within), omega (arith, e))
-
-floor-all : (behind : Bool) (before after all : ℕ) → after ≡ (if behind then before else all) → behind ≡ false
-    → after ≡ all
-floor-all true before after all is none = absurd (cc (none))
-floor-all false before after all is none = is
-
 -- what is so of the watch of a table is so of what it is
 at-watch : (P : Watch → Type 0) (found : Option Watch) (watch : Watch) → found ≡ Some watch → IfSome found P → P watch
 at-watch P None watch is holds = absurd (cc (is))
@@ -97,7 +82,6 @@ pub record AllNews (count : ℕ) (who : Viewer) (at_first desk : Desk) (before n
 
 module _ (count : ℕ) (who : Viewer) (at_first start desk : Desk) (before first now : Reach) (floor behind : Bool)
     (had middle has : List ℕ) (moved : HasDeskMoved 1 (λ table. 0) nothing at_first start)
-    (within : before.journal ≤ length (seen at_first.book))
     (floor_told : HasToldFloor (seen start.book) before first floor had middle)
     (told : AreToldTo count who start desk first now floor behind middle has)
     (counted : count ≡ length before.watches) where
@@ -111,14 +95,6 @@ module _ (count : ℕ) (who : Viewer) (at_first start desk : Desk) (before first
 
   none-now : (table : ℕ) → count < table → watch_of now table ≡ None
   none-now table above = (told.rest table above).0 ∙ none-first table above
-
-  -- the number of the floor's lines
-  journal-number : (before.journal ≤ first.journal) × (first.journal ≤ length (seen start.book))
-  journal-number =
-      let longer : length (seen at_first.book) ≤ length (seen start.book) =
-      prefix_length (seen at_first.book) (seen start.book) moved.book.longer in
-      floor-number floor before.journal first.journal (length (seen start.book)) floor_told.journal_is
-      (omega (arith, within, longer))
 
   -- Each table was told of.
   table-told : (table : ℕ) → IsTableTold ((sights desk).tables table) (watch_of before table) (watch_of now table)
@@ -150,13 +126,12 @@ module _ (count : ℕ) (who : Viewer) (at_first start desk : Desk) (before first
       let number : now.journal ≡ first.journal = told.journal in
       record {
         speaker = told.speaker ∙ floor_told.speaker;
-        in_order = rw number journal-number.0;
-        within = rw (book, number) journal-number.1;
+        in_order = rw number floor_told.in_order;
+        within = rw (book, number) floor_told.within;
         floor = refl;
         tables = table-told;
         all_floor = λ none. rw (book, number)
-            (floor-all floor before.journal first.journal (length (seen start.book)) floor_told.journal_is
-            (told.floor_told none));
+            (floor_told.all (told.floor_told none));
         all_tables = table-all;
       }
 
@@ -213,7 +188,7 @@ module _ (count : ℕ) (who : Viewer) (at_first start desk : Desk) (before first
         stranger = λ nobody table.
             stays-unwatched ((sights desk).tables table) (watch_of before table) (watch_of now table)
             (told.lines table) (stranger (sym speaker ∙ nobody) table) (table-told table);
-        journal = rw (book, number) journal-number.1;
+        journal = rw (book, number) floor_told.within;
         tables = λ table watch is.
             subst (λ (v : Viewer). IsWatch v table ((sights desk).tables table) watch)
             (shown ∙ ap viewer_of (sym speaker))

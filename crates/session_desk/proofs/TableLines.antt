@@ -1,6 +1,6 @@
 -- The lines of a table are told.
-use Rattle.std.proofs.Common.{◌≡◌, ◌≢◌, ◌∙◌, refl, sym, ap, subst, ℕ, ◌+◌, zero, suc, ◌<◌, Bool, false, List, [], ◌∷◌, ◌++◌, Some, Result, Ok, Err, length, take, append-nil, arith}
-use Rattle.std.specs.Prelude.{◌==◌, slice_get, is_err}
+use Rattle.std.proofs.Common.{◌≡◌, ◌≢◌, ◌∙◌, refl, sym, ap, subst, ℕ, ◌+◌, zero, suc, ◌<◌, ◌≤◌, Bool, false, List, [], ◌∷◌, ◌++◌, Some, Result, length, take, append-nil, arith}
+use Rattle.std.specs.Prelude.{◌==◌, slice_get}
 use Rattle.std.specs.List.{insert, remove}
 use Rattle.std.proofs.lemmas.Bool.Decides.{nat_tests}
 use Rattle.std.proofs.lemmas.List.Sums.{fold-append}
@@ -14,7 +14,7 @@ use Rattle.history_lock.specs.declared.pass.Pass.{Pass}
 use Rattle.history_lock.specs.Holds.{IsHold}
 use Rattle.history_lock.specs.Passes.{seen}
 use Rattle.table_dock.specs.declared.end.Untold.{Untold}
-use Rattle.table_dock.specs.Telling.{IsRead, entries_between, number_told}
+use Rattle.table_dock.specs.Telling.{IsPieceRead, entries_between, number_told}
 use Rattle.session_desk.specs.declared.desk.Desk.{Desk}
 use Rattle.session_desk.specs.declared.told.Watch.{Watch}
 use Rattle.session_desk.specs.Desks.{HasDeskMoved, IsSameBut, nothing, of_table, sights}
@@ -52,32 +52,28 @@ sights-at desk index pass is =
     let e : of_table desk.tables.items (index + 1) ≡ Some pass = at-table desk.tables.items index ∙ is in
     rw e refl
 
--- where memory did not run out, all entries were told
-all-told : (at : List TableEntry) (before after : Watch) (answer : Result ℕ Untold) (had has : List ℕ)
-    → IsRead at before.told before.teller after.teller had has answer → is_err answer ≡ false
-    → number_told answer ≡ length at
-all-told at before after (Ok count) had has read none = read.all
-all-told at before after (Err untold) had has read none = absurd (cc (none))
-
 -- The lines that a table's dock wrote are those that are told.
-pub table-told : (history at : List TableEntry) (before after : Watch) (answer : Result ℕ Untold) (behind : Bool)
-    (had has : List ℕ) → history ≡ at → IsRead at before.told before.teller after.teller had has answer
-    → after.told ≡ number_told answer → behind ≡ is_err answer → HasToldTable history before after behind had has
-table-told history at before after answer behind had has same read up so =
-    subst (λ (l : List TableEntry). HasToldTable l before after behind had has) (sym same)
+pub table-told : (history at : List TableEntry) (most : ℕ) (before after : Watch) (answer : Result ℕ Untold)
+    (left : Bool) (had has : List ℕ) → history ≡ at
+    → IsPieceRead at before.told most before.teller after.teller had has answer → after.told ≡ number_told answer
+    → (left ≡ false → length at ≤ after.told) → HasToldTable history before after left had has
+table-told history at most before after answer left had has same read up so =
+    let within : after.told ≤ length at = rw up read.told.within in
+    subst (λ (l : List TableEntry). HasToldTable l before after left had has) (sym same)
     record {
       in_order = rw up read.told.in_order;
-      within = rw up read.told.within;
+      within = within;
+      teller = rw up read.told.teller;
       text = rw up read.told.lines;
-      all = λ none. up ∙ all-told at before after answer had has read (cc);
+      all = λ none. let reached = so none in omega (arith, within, reached);
     }
 
 -- And who tells stands where they end.
-pub watch-on : (who : Viewer) (table : ℕ) (old at history : List TableEntry) (before after : Watch)
+pub watch-on : (who : Viewer) (table : ℕ) (old at history : List TableEntry) (most : ℕ) (before after : Watch)
     (answer : Result ℕ Untold) (had has : List ℕ) → IsPrefix old at → history ≡ at
-    → IsRead at before.told before.teller after.teller had has answer → after.told ≡ number_told answer
+    → IsPieceRead at before.told most before.teller after.teller had has answer → after.told ≡ number_told answer
     → IsWatch who table old before → IsWatch who table history after
-watch-on who table old at history before after answer had has longer same read up is =
+watch-on who table old at history most before after answer had has longer same read up is =
     let last = number_told answer in
     let front : take before.told old ≡ take before.told at = front-kept old at before.told longer is.within in
     subst (λ (l : List TableEntry). IsWatch who table l after) (sym same)
@@ -93,6 +89,17 @@ watch-on who table old at history before after answer had has longer same read u
           ∙ ap (told_through (first_teller who table))
           (front-on at before.told last read.told.in_order)))));
     }
+
+-- A desk is as it was but for its pass of a table, however often that is used.
+pub same-itself : (table : ℕ) (desk : Desk) → IsSameBut table desk desk
+same-itself table desk = record { book = refl; others = λ other ne. refl }
+
+pub same-both : (table : ℕ) (before mid after : Desk) → IsSameBut table before mid → IsSameBut table mid after
+    → IsSameBut table before after
+same-both table before mid after one two = record {
+  book = two.book ∙ one.book;
+  others = λ other ne. two.others other ne ∙ one.others other ne;
+}
 
 -- A desk that looked at one table with its pass.
 module _ (index : ℕ) (before after : Desk) (pass later : Pass _ _ _)

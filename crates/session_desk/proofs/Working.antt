@@ -32,7 +32,7 @@ least-found least acts (Some x) None moved = tt
 least-found least acts (Some x) (Some y) moved = moved-fewer 0 least (acts x) x y (omega arith) moved
 
 -- A desk moved on, whatever number of holds its passes made.
-moved-least : (looks : ℕ) (table_looks : ℕ → ℕ) (brought : Brought) (before after : Desk)
+pub moved-least : (looks : ℕ) (table_looks : ℕ → ℕ) (brought : Brought) (before after : Desk)
     → HasDeskMoved looks table_looks brought before after → HasDeskMoved 0 (λ table. 0) brought before after
 moved-least looks table_looks brought before after moved = record {
   book = moved-fewer 0 looks brought.orders before.book after.book (omega arith) moved.book;

@@ -124,22 +124,25 @@ reach_after count meaning told = record told {
 abbrev pub standing_of : Reach → Standing
 standing_of told = record { speaker = told.speaker; watched = λ table. is_some (watch_of told table) }
 
--- The floor's lines were told: those of the entries of the journal that were not told yet, all of them unless memory
--- ran out, and then none.
-pub record HasToldFloor (journal : List JournalEntry) (before after : Reach) (behind : Bool) (had has : List ℕ)
+-- The floor's lines were told: those of the entries of the journal from where they were told to, all of them unless
+-- some are left.
+pub record HasToldFloor (journal : List JournalEntry) (before after : Reach) (left : Bool) (had has : List ℕ)
     : Type 0 where
-  pub journal_is : after.journal ≡ (if behind then before.journal else length journal)
+  pub in_order : before.journal ≤ after.journal
+  pub within : after.journal ≤ length journal
+  pub all : left ≡ false → after.journal ≡ length journal
   pub speaker : after.speaker ≡ before.speaker
   pub watches : after.watches ≡ before.watches
   pub text : has ≡ had ++ journal_text (drop before.journal (take after.journal journal))
 
--- A table's lines were told, from one watch to another: all of them unless memory ran out.
-pub record HasToldTable (history : List TableEntry) (before after : Watching) (behind : Bool) (had has : List ℕ)
+-- A table's lines were told, from one watch to another: all of them unless some are left.
+pub record HasToldTable (history : List TableEntry) (before after : Watching) (left : Bool) (had has : List ℕ)
     : Type 0 where
   pub in_order : before.told ≤ after.told
   pub within : after.told ≤ length history
+  pub teller : after.teller ≡ told_through before.teller (entries_between before.told after.told history)
   pub text : has ≡ had ++ lines_text (entries_lines before.teller (entries_between before.told after.told history))
-  pub all : behind ≡ false → after.told ≡ length history
+  pub all : left ≡ false → after.told ≡ length history
 
 -- News were told, and this is their text.
 pub record HasToldNews (count : ℕ) (seen : Sights) (before after : Reach) (behind : Bool) (had has : List ℕ)

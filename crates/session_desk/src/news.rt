@@ -18,6 +18,9 @@ use book_dock::BookDock;
 use std::sync::Wait;
 use table_dock::{TableDock, Untold};
 
+/// How many entries of a history are read in one hold at most, so that nobody's return keeps others from its lock.
+const PIECE: u64 = 1_000;
+
 /// What was found when news were told.
 #[derive(Clone, Copy)]
 pub(crate) struct Found {
@@ -38,7 +41,44 @@ fn number_told(answer: Result<u64, Untold>) -> u64
 }
 
 impl Desk {
-    /// Writes the lines of the journal that were not told yet.
+    /// Writes the lines of the next piece of the journal that was not told yet. Answers besides what it found whether
+    /// more of the journal is left.
+    fn tell_floor_piece<R: Wait>(
+        self,
+        rt: &R,
+        book: &BookDock,
+        told: &mut Told,
+        out: &mut Vec<u8>,
+    ) -> (Desk, Found, bool)
+        requires lock { lock_of self.book ≡ book_id book.now }
+        requires within { told.old.journal ≤ length (seen self.book) }
+        ensures moved { HasDeskMoved 1 (λ table. 0) nothing self result.0 }
+        ensures told { HasToldFloor (seen result.0.book) (reach_of told.old) (reach_of told.new) result.2
+            out.old.items out.new.items }
+        ensures stopped { result.1.stopped ≡ (tale_of (seen result.0.book)).ended }
+    {
+        let Desk {
+            book: pass,
+            tables,
+            asked,
+        } = self;
+        let (pass, followed) = book.follow(rt, pass, told.journal, PIECE, out);
+        let desk = Desk {
+            book: pass,
+            tables,
+            asked,
+        };
+        let found = Found {
+            stopped: followed.stopped,
+            behind: followed.told.is_err(),
+        };
+        if let Ok(count) = followed.told {
+            told.journal = count;
+        }
+        (desk, found, told.journal < followed.count)
+    }
+
+    /// Writes the lines of the journal that were not told yet, piece by piece.
     fn tell_floor<R: Wait>(
         self,
         rt: &R,
@@ -53,25 +93,65 @@ impl Desk {
             out.old.items out.new.items }
         ensures stopped { result.1.stopped ≡ (tale_of (seen result.0.book)).ended }
     {
+        let mut desk = self;
+        for _ in rt.forever() {
+            let (next, found, is_left) = desk.tell_floor_piece(rt, book, told, out);
+            desk = next;
+            if found.behind || !is_left {
+                return (desk, found);
+            }
+        }
+        unreachable!()
+    }
+
+    /// Writes the lines of the next piece of a watched table that was not told yet. Answers whether memory ran out in
+    /// it, and whether more of the table's history is left.
+    fn tell_table_piece<R: Wait>(
+        self,
+        rt: &R,
+        dock: &TableDock,
+        index: usize,
+        watch: &mut Watch,
+        out: &mut Vec<u8>,
+    ) -> (Desk, bool, bool)
+        requires index { index < vec_len self.tables }
+        requires pass { IfSome (slice_get self.tables.items index) (λ pass. lock_of pass ≡ dock_id dock.now) }
+        requires table { table_of dock.now ≡ index + 1 }
+        requires watch { (who : Viewer) × IsWatch who (index + 1) ((sights self).tables (index + 1)) watch.old }
+        ensures moved { HasDeskMoved 0 (λ table. count_of (table == index + 1)) nothing self result.0 }
+        ensures others { IsSameBut (index + 1) self result.0 }
+        ensures told { HasToldTable ((sights result.0).tables (index + 1)) watch.old watch.new result.2
+            out.old.items out.new.items }
+        ensures watch { (who : Viewer) → IsWatch who (index + 1) ((sights self).tables (index + 1)) watch.old
+            → IsWatch who (index + 1) ((sights result.0).tables (index + 1)) watch.new }
+    {
         let Desk {
-            book: pass,
-            tables,
+            book,
+            mut tables,
             asked,
         } = self;
-        let (pass, stopped, count) = book.follow(rt, pass, told.journal, out);
+        let pass = take_out(&mut tables, index);
+        let (pass, count, answer) = dock.follow(
+            rt,
+            pass,
+            watch.told,
+            PIECE,
+            &mut watch.teller,
+            out,
+        );
+        put_back(&mut tables, index, pass);
         let desk = Desk {
-            book: pass,
+            book,
             tables,
             asked,
         };
-        let behind = count.is_err();
-        if let Ok(count) = count {
-            told.journal = count;
-        }
-        (desk, Found { stopped, behind })
+        let behind = answer.is_err();
+        watch.told = number_told(answer);
+        (desk, behind, watch.told < count)
     }
 
-    /// Writes the lines of a watched table that were not told yet. Answers whether memory ran out before all were.
+    /// Writes the lines of a watched table that were not told yet, piece by piece. Answers whether memory ran out
+    /// before all were.
     fn tell_table<R: Wait>(
         self,
         rt: &R,
@@ -91,22 +171,15 @@ impl Desk {
         ensures watch { (who : Viewer) → IsWatch who (index + 1) ((sights self).tables (index + 1)) watch.old
             → IsWatch who (index + 1) ((sights result.0).tables (index + 1)) watch.new }
     {
-        let Desk {
-            book,
-            mut tables,
-            asked,
-        } = self;
-        let pass = take_out(&mut tables, index);
-        let (pass, answer) = dock.read_lines(rt, pass, watch.told, &mut watch.teller, out);
-        put_back(&mut tables, index, pass);
-        let desk = Desk {
-            book,
-            tables,
-            asked,
-        };
-        let behind = answer.is_err();
-        watch.told = number_told(answer);
-        (desk, behind)
+        let mut desk = self;
+        for _ in rt.forever() {
+            let (next, behind, is_left) = desk.tell_table_piece(rt, dock, index, watch, out);
+            desk = next;
+            if behind || !is_left {
+                return (desk, behind);
+            }
+        }
+        unreachable!()
     }
 
     /// Writes what the client was not told yet: the lines of the journal, and then those of each table that he watches,

@@ -2,9 +2,10 @@
 
 ghost use Rattle.std.specs.Prelude.{◌≡◌, ◌≤◌, false, true, vec_len};
 ghost use Rattle.floor_text.specs.Outside.{Rose};
-ghost use Rattle.history_lock.specs.Passes.{seen};
+ghost use Rattle.history_lock.specs.Passes.{lock_of, seen};
 ghost use Rattle.dock_rules.specs.Journals.{tale_of};
-ghost use Rattle.session_desk.specs.Desks.{AreInOrder, IsDeskOf};
+ghost use Rattle.book_dock.specs.Docks.{book_id};
+ghost use Rattle.session_desk.specs.Desks.{AreInOrder, HasDeskMoved, IsDeskOf, nothing};
 ghost use Rattle.session_desk.specs.Works.{HasWorked};
 
 use crate::desk::Desk;
@@ -48,6 +49,22 @@ fn serve_next<R: Wait, D: Door, G: Gate>(
     }
 }
 
+/// Looks whether the tournament was stopped, where the journal has not as many entries as at the last look, and notes
+/// how many it has. Where it has as many it makes no hold.
+fn look_if_news<R: Wait>(rt: &R, book: &BookDock, desk: Desk, noted: &mut u64) -> (Desk, bool)
+    requires { lock_of desk.book ≡ book_id book.now }
+    ensures moved { HasDeskMoved 0 (λ table. 0) nothing desk result.0 }
+    ensures stopped { result.1 ≡ true → (tale_of (seen result.0.book)).ended ≡ true }
+{
+    let mut desk = desk;
+    let count = book.news(&mut desk.book);
+    if count == *noted {
+        return (desk, false);
+    }
+    *noted = count;
+    desk.stopped(rt, book)
+}
+
 /// Serves the clients of a door, one after another, until the tournament is stopped. It knocks before it first looks at
 /// the journal, and hands each link back to the door once its session is over. Answers whether the door failed. The
 /// docks are those of the tables 1, 2 and so on, and the desk's passes are theirs and the book's.
@@ -77,12 +94,13 @@ pub fn work_desk<R: Wait, D: Door, G: Gate>(
     ensures stopped { result.1 ≡ false → (tale_of (seen result.0.book)).ended ≡ true }
 {
     let mut desk = desk;
+    let mut noted = 0;
     for _ in rt.forever() {
         let (served, failed) = serve_next(rt, alloc, door, words, book, docks, desk, gate);
         if failed {
             return (served, true);
         }
-        let (looked, stopped) = served.stopped(rt, book);
+        let (looked, stopped) = look_if_news(rt, book, served, &mut noted);
         if stopped {
             return (looked, false);
         }

@@ -3,6 +3,7 @@ use Rattle.std.proofs.lemmas.Grind.{common_steps}
 use Rattle.std.proofs.lemmas.List.{append-nil}
 use Rattle.std.proofs.lemmas.Result.{IfOk-weaker}
 use Rattle.dock_rules.specs.Journals.{tale_of}
+use Rattle.dock_rules.specs.Pieces.{piece_end}
 use Rattle.book_dock.specs.declared.hold.BookHold.{BookHold}
 use Rattle.book_dock.proofs.Standing.{grown-by_none, stands}
 use Rattle.book_dock.proofs.dock.BookDock.follow.Goals as goal
@@ -15,14 +16,17 @@ returns-clause-stands g c =
     let hold = c.enter-inside.result.value in
     stands c.args.pass c.leave.result c.enter-inside.result.turn hold hold c.enter-inside.ensures c.leave.ensures [] _
     (sym (append-nil hold.journal.items)) (
-      c.stopped-stopped.ensures
-          ∙ ap (λ (hold : BookHold). (tale_of hold.journal.items).ended) c.value.ensures,
-      IfOk-weaker c.read_lines-count.result (λ count. count ≡ length c.value-2.result.now.journal.items)
-          (λ count. count ≡ length hold.journal.items)
-          (λ count is. is ∙ ap (λ (hold : BookHold). length hold.journal.items) c.value-2.ensures)
-          c.read_lines-count.ensures.count,
-      refl,
+      c.stopped.ensures ∙ ap (λ (hold : BookHold). (tale_of hold.journal.items).ended) c.value-hold.ensures,
+      (
+        grind (arith, common_steps),
+        (
+          IfOk-weaker c.read_lines.result
+              (λ last. last ≡ piece_end c.args.from c.args.most (length c.value-hold.result.now.journal.items))
+              (λ last. last ≡ piece_end c.args.from c.args.most (length hold.journal.items))
+              (λ last is. is
+              ∙ ap (λ (hold : BookHold). piece_end c.args.from c.args.most (length hold.journal.items))
+              c.value-hold.ensures) c.read_lines.ensures.last,
+          refl,
+        ),
+      ),
     )
-
-pub read_lines-count-requires : goal.read_lines-count-requires
-read_lines-count-requires g c = grind (arith, common_steps)

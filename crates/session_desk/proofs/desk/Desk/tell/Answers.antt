@@ -181,7 +181,7 @@ told-all g c =
     all-news c.loop-index.index (viewer_of c.tell_floor-desk.new.told.speaker) c.args.self
     c.tell_floor-desk.result.0 c.loop-index.desk (reach_of c.args.told.now) (reach_of c.tell_floor-desk.new.told)
     (reach_of c.loop-index.told) c.tell_floor-desk.result.1.behind c.loop-index.found.behind c.args.out.now.items
-    c.tell_floor-desk.new.out.items c.loop-index.out.items c.tell_floor-desk.ensures.moved c.requires.told.journal
+    c.tell_floor-desk.new.out.items c.loop-index.out.items c.tell_floor-desk.ensures.moved
     c.tell_floor-desk.ensures.told c.loop-index.invariant.told (counted g c)
 
 pub returns-clause-moved : goal.returns-clause-moved

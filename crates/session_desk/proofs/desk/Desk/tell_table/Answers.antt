@@ -1,92 +1,89 @@
-use Rattle.std.proofs.Common.{◌≡◌, ◌∙◌, ◌+◌, ◌<◌, length, ap, sym, refl, arith, take, subst}
+use Rattle.std.proofs.Common.{◌+◌, ℕ, refl, true, arith}
+use Rattle.std.specs.Prelude.{◌==◌}
 use Rattle.std.proofs.lemmas.Grind.{common_steps}
-use Rattle.std.specs.List.{insert}
-use mathlib.Core.List.{IsPrefix}
-use Rattle.dock_rules.specs.Tables.{lying_hand}
-use Rattle.history_lock.specs.Passes.{seen}
-use Rattle.session_desk.specs.declared.desk.Desk.{Desk}
-use Rattle.session_desk.specs.declared.told.Watch.{Watch}
-use Rattle.session_desk.specs.Desks.{sights}
-use Rattle.session_desk.proofs.Moving.{hold-later}
-use Rattle.session_desk.proofs.TableLines.{looked-at, same-but, sights-at, sights-left, table-told, watch-hand, watch-on, watch-table}
+use Rattle.table_dock.specs.Docks.{dock_id}
+use Rattle.session_desk.specs.Desks.{nothing, sights}
+use Rattle.session_desk.specs.Standings.{count_of}
+use Rattle.session_desk.proofs.DeskMoves.{both-moved, later-sights, moved-alike, moved-still, pass-kept, same-desk}
+use Rattle.session_desk.proofs.Pieces.{table-both, table-none}
+use Rattle.session_desk.proofs.TableLines.{same-both, same-itself}
+use Rattle.session_desk.proofs.Working.{moved-least}
 use Rattle.session_desk.proofs.desk.Desk.tell_table.Goals as goal
 
-pub read_lines-pass-requires-clause-table : goal.read_lines-pass-requires-clause-table
-read_lines-pass-requires-clause-table g c =
+-- the numbers of holds that a piece makes of the passes of tables
+abbrev at_index : ℕ → ℕ → ℕ
+at_index index = λ table. count_of (table == index + 1)
+
+pub loop-init : goal.loop-init
+loop-init g c =
     let told = c.requires.watch in
-    watch-table told.0 (c.args.index + 1) ((sights c.args.self).tables (c.args.index + 1)) c.args.watch.now told.1
-    ∙ sym c.requires.table
+    record {
+      moved = moved-still (λ table. 0) c.args.self c.args.self (λ table. refl) (same-desk c.args.self);
+      others = same-itself (c.args.index + 1) c.args.self;
+      told = table-none ((sights c.args.self).tables (c.args.index + 1)) c.args.watch.now c.args.out.now.items
+          told.1.within;
+      watch = λ who is. is;
+    }
 
-pub read_lines-pass-requires-clause-told : goal.read_lines-pass-requires-clause-told
-read_lines-pass-requires-clause-told g c =
-    let told = c.requires.watch in
-    let watch : Watch = c.args.watch.now in
-    watch-hand told.0 (c.args.index + 1) ((sights c.args.self).tables (c.args.index + 1)) watch told.1
-    ∙ ap (λ history. lying_hand (take watch.told history))
-    (sights-at c.args.self c.args.index c.take_out-pass.result c.take_out-pass.ensures.pass)
+pub tell_table_piece-next-requires-clause-index : goal.tell_table_piece-next-requires-clause-index
+tell_table_piece-next-requires-clause-index g c =
+    omega (
+      arith,
+      c.requires.index,
+      c.loop.invariant.moved.count,
+      c.args.self.tables.ok.0,
+      c.loop.desk.tables.ok.0,
+    )
 
-pub returns-clause-moved : goal.returns-clause-moved
-returns-clause-moved g c =
-    let after : Desk = record { book = c.args.self.book; tables = c.put_back.new.tables; asked = c.args.self.asked } in
-    let stands = c.read_lines-pass.ensures.stands in
-    let within : c.args.index < length c.args.self.tables.items =
-    omega (arith, c.requires.index, c.args.self.tables.ok.0) in
-    looked-at c.args.index c.args.self after c.take_out-pass.result c.read_lines-pass.result.0 within
-    c.take_out-pass.ensures.pass
-    (c.put_back.ensures
-    ∙ ap (λ items. insert items c.args.index c.read_lines-pass.result.0) c.take_out-pass.ensures.rest)
-    refl stands.at stands.added refl stands.hold stands.is.1
+pub tell_table_piece-next-requires-clause-pass : goal.tell_table_piece-next-requires-clause-pass
+tell_table_piece-next-requires-clause-pass g c =
+    pass-kept (dock_id c.args.dock.now) 0 (λ table. 0) nothing c.args.index c.args.self c.loop.desk
+    c.loop.invariant.moved c.requires.pass
 
-pub returns-clause-others : goal.returns-clause-others
-returns-clause-others g c =
-    let after : Desk = record { book = c.args.self.book; tables = c.put_back.new.tables; asked = c.args.self.asked } in
-    let within : c.args.index < length c.args.self.tables.items =
-    omega (arith, c.requires.index, c.args.self.tables.ok.0) in
-    same-but c.args.index c.args.self after c.take_out-pass.result c.read_lines-pass.result.0 within
-    c.take_out-pass.ensures.pass
-    (c.put_back.ensures
-    ∙ ap (λ items. insert items c.args.index c.read_lines-pass.result.0) c.take_out-pass.ensures.rest)
-    refl
+pub tell_table_piece-next-requires-clause-watch : goal.tell_table_piece-next-requires-clause-watch
+tell_table_piece-next-requires-clause-watch g c =
+    let told = c.requires.watch in (told.0, c.loop.invariant.watch told.0 told.1)
 
-pub returns-clause-told : goal.returns-clause-told
-returns-clause-told g c =
-    let after : Desk = record { book = c.args.self.book; tables = c.put_back.new.tables; asked = c.args.self.asked } in
-    let watch : Watch = record { told = c.number_told-watch.result; teller = c.read_lines-pass.new.teller } in
-    let stands = c.read_lines-pass.ensures.stands in
-    let within : c.args.index < length c.args.self.tables.items =
-    omega (arith, c.requires.index, c.args.self.tables.ok.0) in
-    let seen_is : (sights after).tables (c.args.index + 1) ≡ stands.at =
-    sights-left c.args.index c.args.self after c.take_out-pass.result c.read_lines-pass.result.0 within
-    c.take_out-pass.ensures.pass
-    (c.put_back.ensures
-    ∙ ap (λ items. insert items c.args.index c.read_lines-pass.result.0) c.take_out-pass.ensures.rest)
-    refl stands.at stands.added stands.hold stands.is.1 in
-    table-told ((sights after).tables (c.args.index + 1)) stands.at c.args.watch.now watch c.read_lines-pass.result.1
-    c.is_err-behind.result c.args.out.now.items c.read_lines-pass.new.out.items seen_is stands.is.0
-    c.number_told-watch.ensures
-    c.is_err-behind.ensures.value
+pub loop-preserved : goal.loop-preserved
+loop-preserved g c =
+    let next = c.tell_table_piece-next in
+    let table : ℕ = c.args.index + 1 in
+    record {
+      moved = moved-least 0 (λ table. 0 + at_index c.args.index table) nothing c.args.self next.result.0
+          (both-moved 0 0 (λ table. 0) (at_index c.args.index) nothing nothing c.args.self c.loop.desk next.result.0
+          c.loop.invariant.moved next.ensures.moved);
+      others = same-both table c.args.self c.loop.desk next.result.0 c.loop.invariant.others next.ensures.others;
+      told = table-both ((sights c.loop.desk).tables table) ((sights next.result.0).tables table)
+          c.args.watch.now c.loop.watch next.new.watch true next.result.2 true c.args.out.now.items
+          c.loop.out.items next.new.out.items
+          ((later-sights 0 (at_index c.args.index) nothing c.loop.desk next.result.0 next.ensures.moved).tables table)
+          (λ none. absurd (cc none)) c.loop.invariant.told next.ensures.told;
+      watch = λ who is. next.ensures.watch who (c.loop.invariant.watch who is);
+    }
 
-pub returns-clause-watch : goal.returns-clause-watch
-returns-clause-watch g c = λ who is.
-    let after : Desk = record { book = c.args.self.book; tables = c.put_back.new.tables; asked = c.args.self.asked } in
-    let watch : Watch = record { told = c.number_told-watch.result; teller = c.read_lines-pass.new.teller } in
-    let stands = c.read_lines-pass.ensures.stands in
-    let within : c.args.index < length c.args.self.tables.items =
-    omega (arith, c.requires.index, c.args.self.tables.ok.0) in
-    let seen_is : (sights after).tables (c.args.index + 1) ≡ stands.at =
-    sights-left c.args.index c.args.self after c.take_out-pass.result c.read_lines-pass.result.0 within
-    c.take_out-pass.ensures.pass
-    (c.put_back.ensures
-    ∙ ap (λ items. insert items c.args.index c.read_lines-pass.result.0) c.take_out-pass.ensures.rest)
-    refl stands.at stands.added stands.hold stands.is.1 in
-    let old = (sights c.args.self).tables (c.args.index + 1) in
-    let before : old ≡ seen c.take_out-pass.result =
-    sights-at c.args.self c.args.index c.take_out-pass.result c.take_out-pass.ensures.pass in
-    watch-on who (c.args.index + 1) old stands.at ((sights after).tables (c.args.index + 1)) c.args.watch.now watch
-    c.read_lines-pass.result.1 c.args.out.now.items c.read_lines-pass.new.out.items
-    (subst (λ history. IsPrefix history stands.at) (sym before)
-    (hold-later c.take_out-pass.result c.read_lines-pass.result.0 stands.at stands.added stands.hold))
-    seen_is stands.is.0 c.number_told-watch.ensures is
+pub returns-then-behind-clause-moved : goal.returns-then-behind-clause-moved
+returns-then-behind-clause-moved g c =
+    let next = c.tell_table_piece-next in
+    moved-alike 0 (λ table. 0 + at_index c.args.index table) (at_index c.args.index) nothing c.args.self
+    next.result.0 (λ table. omega arith)
+    (both-moved 0 0 (λ table. 0) (at_index c.args.index) nothing nothing c.args.self c.loop.desk next.result.0
+    c.loop.invariant.moved next.ensures.moved)
 
-pub put_back-requires-clause-place : goal.put_back-requires-clause-place
-put_back-requires-clause-place g c = grind (arith, common_steps)
+pub returns-then-behind-clause-others : goal.returns-then-behind-clause-others
+returns-then-behind-clause-others g c =
+    let next = c.tell_table_piece-next in
+    same-both (c.args.index + 1) c.args.self c.loop.desk next.result.0 c.loop.invariant.others next.ensures.others
+
+pub returns-then-behind-clause-told : goal.returns-then-behind-clause-told
+returns-then-behind-clause-told g c =
+    let next = c.tell_table_piece-next in
+    let table : ℕ = c.args.index + 1 in
+    table-both ((sights c.loop.desk).tables table) ((sights next.result.0).tables table) c.args.watch.now
+    c.loop.watch next.new.watch true next.result.2 next.result.1 c.args.out.now.items c.loop.out.items
+    next.new.out.items
+    ((later-sights 0 (at_index c.args.index) nothing c.loop.desk next.result.0 next.ensures.moved).tables table)
+    (λ none. grind (arith, common_steps)) c.loop.invariant.told next.ensures.told
+
+pub returns-then-behind-clause-watch : goal.returns-then-behind-clause-watch
+returns-then-behind-clause-watch g c = λ who is.
+    c.tell_table_piece-next.ensures.watch who (c.loop.invariant.watch who is)
