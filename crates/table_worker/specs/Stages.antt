@@ -4,7 +4,7 @@ use Rattle.table_engine.specs.Hands.{HandTerms}
 use Rattle.dock_rules.specs.declared.asks.AskAnswer.{AskAnswer}
 use Rattle.dock_rules.specs.declared.asks.AskAnswer.TheVariants.{NoOrder}
 use Rattle.table_worker.specs.declared.stage.Stage.{Stage}
-use Rattle.table_worker.specs.declared.stage.Stage.TheVariants.{Asking, Carrying, Lying, Ended}
+use Rattle.table_worker.specs.declared.stage.Stage.TheVariants.{Free, Asking, Carrying, Lying, Ended}
 
 -- the hand that was begun and is still to be brought to the table, if there is one
 abbrev pub hand_carried : Stage → Option HandTerms
@@ -20,6 +20,13 @@ does_lie stage = false
 abbrev pub does_ask : Stage → Bool
 does_ask Asking = true
 does_ask stage = false
+
+-- Whether a turn looks first whether the tournament was stopped. A worker with no hand need not: then what it asks for
+-- is refused.
+abbrev pub looks_first : Stage → Bool
+looks_first Free = false
+looks_first Asking = false
+looks_first stage = true
 
 -- whether the worker is done
 abbrev pub is_done : Stage → Bool

@@ -9,6 +9,7 @@ ghost use Rattle.table_worker.specs.Workers.{IsSameWorker, IsWorkerOf, has_ended
 use crate::watch::Watch;
 use crate::worker::Worker;
 use book_dock::BookDock;
+use floor_text::Refusal;
 use std::sync::Wait;
 use std::thread::Parker;
 use std::time::Duration;
@@ -20,6 +21,15 @@ const LONGEST_WAIT: u64 = 500;
 
 /// How many milliseconds a worker pauses after want of memory.
 const PAUSE: u64 = 20;
+
+/// How many milliseconds a worker rests before it looks again at a table where no hand may begin for a while.
+const REST: u64 = 10;
+
+/// Tells whether a table where a hand is refused so may stay as it is for long: it is closed, has one player alone, or
+/// is halted.
+pub(crate) fn lasts(refusal: Refusal) -> bool {
+    matches!(refusal, Refusal::NoTable | Refusal::Lone | Refusal::Halted)
+}
 
 impl Worker {
     /// Waits until the journal has news, and may go on earlier.
@@ -113,5 +123,15 @@ impl Worker {
 
 /// Waits for a moment, after which memory may be there again.
 pub(crate) fn pause<R: Wait>(rt: &R) {
-    Parker::new().park_timeout(rt, Duration::from_millis(PAUSE));
+    wait_for(rt, PAUSE);
+}
+
+/// Waits before it looks again at a table where no hand may begin for a while.
+pub(crate) fn rest<R: Wait>(rt: &R) {
+    wait_for(rt, REST);
+}
+
+/// Waits for so many milliseconds.
+fn wait_for<R: Wait>(rt: &R, milliseconds: u64) {
+    Parker::new().park_timeout(rt, Duration::from_millis(milliseconds));
 }

@@ -7,7 +7,7 @@ ghost use Rattle.book_dock.specs.Docks.{book_id};
 ghost use Rattle.table_worker.specs.Ties.{IsBrought};
 
 use crate::turn::Turn;
-use crate::waiting::pause;
+use crate::waiting::{lasts, pause, rest};
 use crate::watch::Watch;
 use crate::worker::Worker;
 use book_dock::{BookDock, BookPass};
@@ -15,7 +15,8 @@ use std::sync::Wait;
 use table_dock::{TableDock, TablePass};
 
 /// Makes turns of the worker of a table until the tournament is stopped. A worker without a hand waits for news of the
-/// journal; while its hand lies at the dock it looks for news of both locks, and after want of memory it pauses.
+/// journal, and rests behind them where its table is closed, halted or has one player alone; while its hand lies at the
+/// dock it looks for news of both locks, and after want of memory it pauses.
 pub fn work_table<R: Wait>(
     rt: &R,
     book: &BookDock,
@@ -38,7 +39,12 @@ pub fn work_table<R: Wait>(
         let (next, turn) = worker.turn(rt, book, dock);
         match turn {
             Turn::Ended => return next.parts(),
-            Turn::NotNow(_) => worker = next.await_book(rt, book),
+            Turn::NotNow(refusal) => {
+                worker = next.await_book(rt, book);
+                if lasts(refusal) {
+                    rest(rt);
+                }
+            }
             Turn::Lying => worker = next.await_either(rt, book, dock, &mut watch),
             Turn::NoMemory => {
                 pause(rt);

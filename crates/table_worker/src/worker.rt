@@ -32,6 +32,7 @@ impl Worker {
     ghost use Rattle.history_lock.specs.Passes.{lock_of, own};
     ghost use Rattle.dock_rules.specs.Journals.{tale_of};
     ghost use Rattle.book_dock.specs.Docks.{book_id};
+    ghost use Rattle.table_worker.specs.Stages.{looks_first};
     ghost use Rattle.table_worker.specs.Ties.{IsBrought, hands_closed, hands_settled};
     ghost use Rattle.table_worker.specs.Turns.{IsTurn, is_ended};
     ghost use Rattle.table_worker.specs.Workers.{IsSameWorker, IsWorkerOf, carried, has_ended, is_asking, is_lying, journal_of};
@@ -75,6 +76,27 @@ impl Worker {
         (worker, stopped)
     }
 
+    /// Goes on with the hand that is out: brings it to the dock, or closes and settles it once it is over. It looks
+    /// first whether the tournament was stopped.
+    fn go_on<R: Wait>(self, rt: &R, book: &BookDock, dock: &TableDock) -> (Worker, Turn)
+        requires docks { IsWorkerOf book.now dock.now self }
+        requires out { looks_first self.stage ≡ true }
+        ensures same { IsSameWorker self result.0 }
+        ensures turn { IsTurn 1 self result.0 result.1 }
+        ensures ended { (has_ended result.0 ≡ is_ended result.1)
+            × (is_ended result.1 ≡ (journal_of result.0).ended) }
+    {
+        let (worker, stopped) = self.look(rt, book);
+        if stopped {
+            return (worker.end(rt, dock), Turn::Ended);
+        }
+        match worker.stage {
+            Stage::Carrying(_) => worker.open(rt, dock),
+            Stage::Lying => worker.bring_back(rt, book, dock),
+            Stage::Free | Stage::Asking | Stage::Ended => unreachable!(),
+        }
+    }
+
     /// Makes one turn: closes and settles the hand where it lies at the dock and is over; else asks for the order that
     /// is owed, where a hand was settled since; else begins a hand and brings it to the dock.
     pub fn turn<R: Wait>(self, rt: &R, book: &BookDock, dock: &TableDock) -> (Worker, Turn)
@@ -92,16 +114,10 @@ impl Worker {
         ensures settled { (journal_of result.0).ended ≡ false
             → hands_settled (pass_number result.0.book) (journal_of result.0) ≡ hands_closed (seen result.0.dock) }
     {
-        let (worker, stopped) = self.look(rt, book);
-        if stopped {
-            return (worker.end(rt, dock), Turn::Ended);
-        }
-        match worker.stage {
-            Stage::Free => worker.begin_next(rt, book, dock),
-            Stage::Asking => worker.ask_first(rt, book, dock),
-            Stage::Carrying(_) => worker.open(rt, dock),
-            Stage::Lying => worker.bring_back(rt, book, dock),
-            Stage::Ended => unreachable!(),
+        match self.stage {
+            Stage::Free => self.begin_next(rt, book, dock),
+            Stage::Asking => self.ask_first(rt, book, dock),
+            Stage::Carrying(_) | Stage::Lying | Stage::Ended => self.go_on(rt, book, dock),
         }
     }
 

@@ -1,13 +1,13 @@
-use Rattle.std.proofs.Common.{◌≡◌, ◌∙◌, Bool, sym, ap, subst, arith}
+use Rattle.std.proofs.Common.{◌≡◌, ◌∙◌, Bool, sym, ap, subst}
 use Rattle.history_lock.specs.Holds.{IsHold}
 use Rattle.view_rules.specs.declared.entries.TableEntry.TheVariants.{Closed}
 use Rattle.dock_rules.specs.Added.{only_if}
 use Rattle.table_worker.specs.Stages.{does_lie}
 use Rattle.table_worker.specs.Turns.{count_of}
 use Rattle.table_worker.specs.Visits.{IsVisit}
-use Rattle.table_worker.proofs.Turning.{turn-fewer, turn-looked}
+use Rattle.table_worker.proofs.Turning.{turn-looked}
 use Rattle.table_worker.proofs.Visiting.{visit-hold}
-use Rattle.table_worker.proofs.worker.Worker.turn.Goals as goal
+use Rattle.table_worker.proofs.worker.Worker.go_on.Goals as goal
 
 pub returns-then-stopped-clause-turn : goal.returns-then-stopped-clause-turn
 returns-then-stopped-clause-turn g c =
@@ -33,34 +33,6 @@ returns-then-stopped-clause-turn g c =
       };
       asked = λ asks none open_. absurd cc;
     }
-
-pub returns-in-Free-clause-turn : goal.returns-in-Free-clause-turn
-returns-in-Free-clause-turn g c =
-    let self = c.args.self in
-    let stands = c.look-worker.ensures.looked in let rest = c.look-worker.ensures.rest in
-    let mid = c.look-worker.result.0 in let after = c.begin_next.result.0 in
-    turn-fewer 1 2 self after c.begin_next.result.1 (omega arith)
-    (turn-looked 1 self mid after stands.at c.begin_next.result.1
-    (record {
-      hold = subst (IsHold self.book mid.book stands.at) stands.is.1 stands.hold;
-      dock = rest.1;
-      table = rest.0;
-    })
-    rest.2 c.begin_next.ensures.turn)
-
-pub returns-in-Asking-clause-turn : goal.returns-in-Asking-clause-turn
-returns-in-Asking-clause-turn g c =
-    let self = c.args.self in
-    let stands = c.look-worker.ensures.looked in let rest = c.look-worker.ensures.rest in
-    let mid = c.look-worker.result.0 in let after = c.ask_first.result.0 in
-    turn-fewer 1 2 self after c.ask_first.result.1 (omega arith)
-    (turn-looked 1 self mid after stands.at c.ask_first.result.1
-    (record {
-      hold = subst (IsHold self.book mid.book stands.at) stands.is.1 stands.hold;
-      dock = rest.1;
-      table = rest.0;
-    })
-    rest.2 c.ask_first.ensures.turn)
 
 pub returns-in-Carrying-clause-turn : goal.returns-in-Carrying-clause-turn
 returns-in-Carrying-clause-turn g c =
