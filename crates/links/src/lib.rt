@@ -14,8 +14,8 @@
 //! | `TcpHall::doors` | no port above 65535 is opened |
 //!
 //! `StreamLink` is a link over a stream of the standard library, `TcpLink` one over a TCP stream, `TcpDoor` a door over
-//! a listener and `TcpHall` a hall of such doors. They tell nothing but their faults. What times a client has stands in
-//! `timed_stream`.
+//! a listener and `TcpHall` a hall of such doors. They tell nothing but their faults. How long they wait stands in
+//! `patience`, and what times a client has in `timed_stream`.
 //!
 //! `specs/Telling.antt` says what is told, and `specs/Links.antt` what each call does to it.
 #![tactic(auto)]
@@ -23,6 +23,7 @@
 mod door;
 mod hall;
 mod link;
+mod patience;
 mod stream_link;
 mod tcp_door;
 mod tcp_hall;

@@ -1,20 +1,15 @@
 //! A link over a TCP stream, whose reads wait the longer the longer nothing happens. It tells no bytes.
 ghost use Rattle.std.specs.Prelude.{◌≡◌, ◌+◌, ◌<◌, ◌≤◌, ℕ, None, IfOk};
-ghost use Rattle.links.specs.declared.tcp_link.TheConstants.{LEAST_PATIENCE, MOST_PATIENCE};
+ghost use Rattle.links.specs.declared.patience.TheConstants.{LEAST_PATIENCE, MOST_PATIENCE};
 
 use crate::link::{Link, Taken};
+use crate::patience::{LEAST_PATIENCE, MOST_PATIENCE, longer};
 use crate::stream_link::StreamLink;
 use crate::timed_stream::TimedStream;
 use floor_text::Failed;
 use std::io;
 use std::net::TcpStream;
 use std::time::Clock;
-
-/// How many milliseconds a read waits for bytes right after some were taken or put.
-const LEAST_PATIENCE: u64 = 20;
-
-/// How many milliseconds a read waits for bytes at most.
-const MOST_PATIENCE: u64 = 160;
 
 /// A link over a TCP stream. Its reads wait for 20 milliseconds right after bytes were taken or put. Each Idle makes
 /// them wait for one more, up to 160, so that a silent client needs little of a processor. At least twice a second it
@@ -91,7 +86,7 @@ fn patience_after(taken: Result<Taken, Failed>, patience: u64) -> u64
 {
     match taken {
         Ok(Taken::Bytes(_)) => LEAST_PATIENCE,
-        Ok(Taken::Idle) if patience < MOST_PATIENCE => patience + 1,
+        Ok(Taken::Idle) => longer(patience),
         _ => patience,
     }
 }
