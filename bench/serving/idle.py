@@ -1,6 +1,7 @@
-"""What idle sessions cost: tables whose hands lie while nobody acts, and clients who say nothing.
+"""What idle sessions and doors cost: tables whose hands lie while nobody acts, and clients who say nothing at some of the
+doors. The floor's session is one of them.
 
-python3 -m serving.idle TABLES SESSIONS SECONDS"""
+python3 -m serving.idle TABLES DESKS SESSIONS SECONDS"""
 import asyncio
 import sys
 
@@ -10,8 +11,8 @@ from serving.server import Server, plan
 PORT = 22000
 
 
-async def main(tables, sessions, seconds):
-    server = Server(PORT, sessions, plan(tables, 2))
+async def main(tables, desks, sessions, seconds):
+    server = Server(PORT, desks, plan(tables, 2))
     floor = await Link().open(PORT)
     assert await floor.ask("hello floor f") == "ok"
     for seat in (1, 2):
@@ -32,9 +33,9 @@ async def main(tables, sessions, seconds):
     for client in [floor] + players:
         await client.gone()
     server.end()
-    print(f"{tables} tables and {sessions} sessions, all idle: {used:.2f} s of {seconds} s, "
+    print(f"{tables} tables, {desks} desks and {sessions} sessions, all idle: {used:.2f} s of {seconds} s, "
           f"{100 * used / seconds:.1f} in a hundred of one processor")
 
 
 if __name__ == "__main__":
-    asyncio.run(main(int(sys.argv[1]), int(sys.argv[2]), float(sys.argv[3])))
+    asyncio.run(main(*map(int, sys.argv[1:4]), float(sys.argv[4])))
