@@ -19,10 +19,10 @@ const NO_LISTENER: i32 = 22;
 /// Linux's number for a descriptor that is no socket.
 const NO_SOCKET: i32 = 88;
 
-/// A door over a TCP listener that does not block. Where nobody came it sleeps: for 20 milliseconds right after somebody
-/// did, and for one more each time, up to 160, so that a desk which knocks again and again needs hardly any of a
-/// processor. What may pass, such as a shortage of descriptors, of buffers or of memory, counts as nobody. A fault is a
-/// listener that is no more.
+/// A door over a TCP listener that does not block. Where nobody came it sleeps: for 20 milliseconds right after
+/// somebody did, and for one more each time, up to 160, so that a desk which knocks again and again needs hardly any of
+/// a processor. What may pass, such as a shortage of descriptors, of buffers or of memory, counts as nobody. A fault is
+/// a listener that is no more.
 #[derive(Drop)]
 pub struct TcpDoor<C> {
     listener: TcpListener,
