@@ -3,7 +3,7 @@ use Rattle.std.proofs.Common.{◌≡◌, ℕ, List, [], ◌∷◌, refl, ap, sym
 use Rattle.std.specs.Prelude.{cond, ◌==◌}
 use Rattle.std.specs.Str.{bytes_eq}
 use Rattle.floor_text.specs.declared.refusal.Refusal.{Refusal}
-use Rattle.floor_text.specs.declared.refusal.Refusal.TheVariants.{Syntax, NoPlan, PlanLate, PlanWrong, Stopped, NameKnown, NameUnknown, NoTable, NoSeat, SeatTaken, NotFewest, LateClosed, Playing, NotPlaying, Lone, Halted, RaceDue, RoundDone, DeckWrong, NotDealt, NotTurn, HandOver, NotOver, CheckFacing, NothingToCall, BetFacing, NothingToRaise, TooSmall, PastStack, PastPot, NotReopened, NotUnit, NotFullest, NotShortest, EvenEnough, NotNextToBreak, NoRoom, DrawWrong, LastLevel, RoundOpen, SwitchWrong, NoRace, Over, ListFull}
+use Rattle.floor_text.specs.declared.refusal.Refusal.TheVariants.{Syntax, NoPlan, PlanLate, PlanWrong, Stopped, NameKnown, NameUnknown, NoTable, NoSeat, SeatTaken, NotFewest, LateClosed, Playing, NotPlaying, Lone, Halted, RaceDue, RoundDone, DeckWrong, NotDealt, NotTurn, HandOver, NotOver, CheckFacing, NothingToCall, BetFacing, NothingToRaise, TooSmall, PastStack, PastPot, NotReopened, NotUnit, NotFullest, NotShortest, EvenEnough, NotNextToBreak, NoRoom, DrawWrong, LastLevel, RoundOpen, SwitchWrong, NoRace, Over, ListFull, StillIn}
 use Rattle.floor_text.specs.Refusals.{refusal_number, refusal_name}
 
 abbrev refusals : List Refusal
@@ -11,7 +11,7 @@ refusals = Syntax ∷ NoPlan ∷ PlanLate ∷ PlanWrong ∷ Stopped ∷ NameKnow
     NotFewest ∷ LateClosed ∷ Playing ∷ NotPlaying ∷ Lone ∷ Halted ∷ RaceDue ∷ RoundDone ∷ DeckWrong ∷ NotDealt ∷ NotTurn
     ∷ HandOver ∷ NotOver ∷ CheckFacing ∷ NothingToCall ∷ BetFacing ∷ NothingToRaise ∷ TooSmall ∷ PastStack ∷ PastPot ∷
     NotReopened ∷ NotUnit ∷ NotFullest ∷ NotShortest ∷ EvenEnough ∷ NotNextToBreak ∷ NoRoom ∷ DrawWrong ∷ LastLevel ∷
-    RoundOpen ∷ SwitchWrong ∷ NoRace ∷ Over ∷ ListFull ∷ []
+    RoundOpen ∷ SwitchWrong ∷ NoRace ∷ Over ∷ ListFull ∷ StillIn ∷ []
 
 abbrev first_with_number : ℕ → List Refusal → Refusal
 first_with_number n [] = Syntax

@@ -1,7 +1,7 @@
 -- Refusals: the number and the name of each. This project's own.
 use Rattle.std.specs.Prelude.{ℕ, List, codes}
 use Rattle.floor_text.specs.declared.refusal.Refusal.{Refusal}
-use Rattle.floor_text.specs.declared.refusal.Refusal.TheVariants.{Syntax, NoPlan, PlanLate, PlanWrong, Stopped, NameKnown, NameUnknown, NoTable, NoSeat, SeatTaken, NotFewest, LateClosed, Playing, NotPlaying, Lone, Halted, RaceDue, RoundDone, DeckWrong, NotDealt, NotTurn, HandOver, NotOver, CheckFacing, NothingToCall, BetFacing, NothingToRaise, TooSmall, PastStack, PastPot, NotReopened, NotUnit, NotFullest, NotShortest, EvenEnough, NotNextToBreak, NoRoom, DrawWrong, LastLevel, RoundOpen, SwitchWrong, NoRace, Over, ListFull}
+use Rattle.floor_text.specs.declared.refusal.Refusal.TheVariants.{Syntax, NoPlan, PlanLate, PlanWrong, Stopped, NameKnown, NameUnknown, NoTable, NoSeat, SeatTaken, NotFewest, LateClosed, Playing, NotPlaying, Lone, Halted, RaceDue, RoundDone, DeckWrong, NotDealt, NotTurn, HandOver, NotOver, CheckFacing, NothingToCall, BetFacing, NothingToRaise, TooSmall, PastStack, PastPot, NotReopened, NotUnit, NotFullest, NotShortest, EvenEnough, NotNextToBreak, NoRoom, DrawWrong, LastLevel, RoundOpen, SwitchWrong, NoRace, Over, ListFull, StillIn}
 
 -- the number in an answer line
 abbrev pub refusal_number : Refusal → ℕ
@@ -49,6 +49,7 @@ refusal_number SwitchWrong = 41
 refusal_number NoRace = 42
 refusal_number Over = 43
 refusal_number ListFull = 44
+refusal_number StillIn = 45
 
 -- the name behind the number
 abbrev pub refusal_name : Refusal → List ℕ
@@ -96,3 +97,4 @@ refusal_name SwitchWrong = codes "SwitchWrong"
 refusal_name NoRace = codes "NoRace"
 refusal_name Over = codes "Over"
 refusal_name ListFull = codes "ListFull"
+refusal_name StillIn = codes "StillIn"

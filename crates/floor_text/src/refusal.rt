@@ -4,7 +4,7 @@ ghost use Rattle.std.specs.Prelude.{◌≡◌};
 ghost use Rattle.floor_text.specs.declared.refusal.Refusal.{Refusal};
 ghost use Rattle.floor_text.specs.Refusals.{refusal_number, refusal_name};
 
-/// Why an event is refused. The numbers are 1 to 44 in this order.
+/// Why an event is refused. The numbers are 1 to 45 in this order.
 #[derive(Clone, Copy, PartialEq, Eq)]
 pub enum Refusal {
     /// The line is not in the grammar.
@@ -93,8 +93,10 @@ pub enum Refusal {
     NoRace,
     /// The tournament is over.
     Over,
-    /// 640 names are in the entry list.
+    /// The entries and the re-entries are together 640.
     ListFull,
+    /// The player has a seat.
+    StillIn,
 }
 
 impl Refusal {
@@ -147,6 +149,7 @@ impl Refusal {
             Refusal::NoRace => 42,
             Refusal::Over => 43,
             Refusal::ListFull => 44,
+            Refusal::StillIn => 45,
         }
     }
 
@@ -199,6 +202,7 @@ impl Refusal {
             Refusal::NoRace => "NoRace",
             Refusal::Over => "Over",
             Refusal::ListFull => "ListFull",
+            Refusal::StillIn => "StillIn",
         }
     }
 }
