@@ -1,6 +1,6 @@
 -- A draft in which nothing is wrong at the end has each item, and these make a right plan.
 use Rattle.std.proofs.Common.{◌≡◌, ℕ, refl, subst, sym, true, false, length, Option, Some, None, arith}
-use Rattle.std.specs.Prelude.{Bool, ◌==◌, ◌%◌, not, nat_lt, IsSome, unwrap_or, if◌then◌else◌}
+use Rattle.std.specs.Prelude.{nat_le, Bool, ◌==◌, ◌%◌, not, nat_lt, IsSome, unwrap_or, if◌then◌else◌}
 use Rattle.std.proofs.lemmas.Bool.{and_from, not-false}
 use Rattle.std.proofs.lemmas.Bool.Decides.{nat_tests}
 use Rattle.rulebook.proofs.Found.{some-by_test}
@@ -60,6 +60,12 @@ is_level : (late levels : ℕ) → is_between 1 40 late ≡ true → nat_lt leve
     → is_between 1 levels late ≡ true
 is_level late levels between few = grind (arith, nat_tests)
 
+few_wagers : (given : Option ℕ) (cap : ℕ) → is_lawful_if_given (is_between 1 9) given ≡ true
+    → cap ≡ unwrap_or given 0 → nat_le cap 9 ≡ true
+few_wagers None cap lawful_if is = rw is refl
+few_wagers (Some n) cap lawful_if is =
+    let few : nat_le n 9 ≡ true = grind (arith, nat_tests) in rw is few
+
 -- the items of a plan are those of the draft
 pub record IsPlanOf (draft : Draft) (plan : PlanTerms) : Type 0 where
   pub game : draft.game ≡ Some plan.game
@@ -70,6 +76,7 @@ pub record IsPlanOf (draft : Draft) (plan : PlanTerms) : Type 0 where
   pub late : draft.late ≡ Some plan.late
   pub blinds : plan.blinds ≡ draft.blinds
   pub shares : draft.shares ≡ Some plan.shares
+  pub cap : plan.cap ≡ unwrap_or draft.cap 0
 
 -- The items of a complete draft make a right plan.
 pub right : (draft : Draft) (plan : PlanTerms) → IsLawful draft → IsComplete draft → IsPlanOf draft plan
@@ -85,4 +92,5 @@ right draft plan is all of =
     (and_from _ _ (rw of.blinds is.level_count)
     (and_from _ _ (rw of.blinds is.levels)
     (and_from _ _ (lawful draft.shares plan.shares _ of.shares is.shares)
-    (not-false _ whole))))))))
+    (and_from _ _ (few_wagers draft.cap plan.cap is.cap of.cap)
+    (not-false _ whole)))))))))

@@ -11,7 +11,7 @@ use Rattle.level_plan.specs.declared.line.PlanLine.TheVariants as lines
 use Rattle.level_plan.specs.declared.line.PlanFault.{PlanFault}
 use Rattle.level_plan.specs.declared.line.PlanFault.TheVariants as faults
 use Rattle.rulebook.specs.Limits.{most_seats, most_tables}
-use Rattle.level_plan.specs.Limits.{fewest_seats, greatest_amount, most_levels}
+use Rattle.level_plan.specs.Limits.{fewest_seats, greatest_amount, most_levels, most_wagers}
 use Rattle.level_plan.specs.declared.plan.Blind.{Blind}
 use Rattle.level_plan.specs.Items.{is_between, is_blind, may_follow, are_levels, are_shares}
 use Rattle.level_plan.specs.Plans.{PlanTerms, unit_of_level}
@@ -26,6 +26,7 @@ pub record Draft : Type 0 where
   pub late : Option ℕ
   pub blinds : List Blind
   pub shares : Option (List ℕ)
+  pub cap : Option ℕ
 
 -- Before any line nothing is given.
 abbrev pub empty_draft : Draft
@@ -38,6 +39,7 @@ empty_draft = record {
   late = None;
   blinds = [];
   shares = None;
+  cap = None;
 }
 
 -- The item that a line gives.
@@ -50,6 +52,7 @@ item_of_line (lines.Buyin n) = items.Buyin
 item_of_line (lines.Late n) = items.Late
 item_of_line (lines.Blinds blind) = items.Blinds
 item_of_line (lines.Shares shares) = items.Shares
+item_of_line (lines.Limit n) = items.Limit
 
 -- A line is wrong where its item was given before (blinds: 40 times), or where what it gives is not lawful.
 abbrev pub is_wrong_line : Draft → PlanLine → Bool
@@ -62,6 +65,7 @@ is_wrong_line draft (lines.Late n) = is_some draft.late || not (is_between 1 mos
 is_wrong_line draft (lines.Blinds blind) =
     nat_le most_levels (length draft.blinds) || not (is_blind blind && may_follow draft.blinds blind)
 is_wrong_line draft (lines.Shares shares) = is_some draft.shares || not (are_shares shares)
+is_wrong_line draft (lines.Limit n) = is_some draft.cap || not (is_between 1 most_wagers n)
 
 -- The wrong item of a line, where the line is wrong.
 abbrev pub line_fault : Draft → PlanLine → Option PlanItem
@@ -77,8 +81,9 @@ draft_after draft (lines.Buyin n) = record draft { buyin = Some n }
 draft_after draft (lines.Late n) = record draft { late = Some n }
 draft_after draft (lines.Blinds blind) = record draft { blinds = draft.blinds ++ blind ∷ [] }
 draft_after draft (lines.Shares shares) = record draft { shares = Some shares }
+draft_after draft (lines.Limit n) = record draft { cap = Some n }
 
--- The plan that the draft's items make, once none is missing.
+-- The plan that the draft's items make, once none is missing. The fixed limit may be left out.
 abbrev pub plan_of : Draft → PlanTerms
 plan_of draft = record {
   game = unwrap_or draft.game Holdem;
@@ -89,6 +94,7 @@ plan_of draft = record {
   late = unwrap_or draft.late 0;
   blinds = draft.blinds;
   shares = unwrap_or draft.shares [];
+  cap = unwrap_or draft.cap 0;
 }
 
 -- What is wrong at the end of a plan, in order: each item where it is missing; then `late`, where there is no such
@@ -130,3 +136,4 @@ pub record IsLawful (draft : Draft) : Type 0 where
   pub levels : are_levels draft.blinds ≡ true
   pub level_count : nat_le (length draft.blinds) most_levels ≡ true
   pub shares : is_lawful_if_given are_shares draft.shares ≡ true
+  pub cap : is_lawful_if_given (is_between 1 most_wagers) draft.cap ≡ true

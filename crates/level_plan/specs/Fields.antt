@@ -15,6 +15,7 @@ draft_of draft = record {
   late = draft.late;
   blinds = draft.blinds;
   shares = draft.shares;
+  cap = draft.cap;
 }
 
 -- A plan's fields.
@@ -28,4 +29,5 @@ terms_of plan = record {
   late = plan.late;
   blinds = plan.blinds;
   shares = plan.shares;
+  cap = plan.cap;
 }

@@ -13,15 +13,17 @@ is_between low high n = nat_le low n && nat_le n high
 abbrev pub is_next_unit : ℕ → ℕ → Bool
 is_next_unit before unit = list_any (λ times. unit == before * times) (1 ∷ 2 ∷ 3 ∷ 4 ∷ 5 ∷ 6 ∷ [])
 
--- The unit is at least 1, the small blind at least 1 and at most the big one, the big one at most the greatest amount,
--- and both are multiples of the unit.
+-- The unit is at least 1, the small blind at least 1 and at most the big one, the big one and the ante at most the
+-- greatest amount, and all three are multiples of the unit.
 abbrev pub is_blind : Blind → Bool
 is_blind blind =
     nat_le 1 blind.unit
     && (nat_le 1 blind.small
     && (nat_le blind.small blind.big
     && (nat_le blind.big greatest_amount
-    && (blind.small % blind.unit == 0 && blind.big % blind.unit == 0))))
+    && (blind.small % blind.unit == 0
+    && (blind.big % blind.unit == 0
+    && (nat_le blind.ante greatest_amount && blind.ante % blind.unit == 0))))))
 
 -- The first level may have any unit, and each later one has a unit that may come next after that of the last level
 -- before it.

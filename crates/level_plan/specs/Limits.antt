@@ -5,13 +5,17 @@ use Rattle.std.specs.Prelude.{ℕ}
 abbrev pub fewest_seats : ℕ
 fewest_seats = 2
 
--- A stack, a buy-in, a blind and a unit are each at most 1,000,000,000 chips.
+-- A stack, a buy-in, a blind, an ante and a unit are each at most 1,000,000,000 chips.
 abbrev pub greatest_amount : ℕ
 greatest_amount = 1000000000
 
 -- A plan has at most 40 levels.
 abbrev pub most_levels : ℕ
 most_levels = 40
+
+-- A plan of fixed limit names at most 9 wagers of a street.
+abbrev pub most_wagers : ℕ
+most_wagers = 9
 
 -- The prizes have at most 64 shares.
 abbrev pub most_shares : ℕ

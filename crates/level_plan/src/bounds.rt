@@ -3,7 +3,7 @@
 /// The fewest seats of a table.
 pub const FEWEST_SEATS: u64 = 2;
 
-/// The greatest stack, buy-in, blind and unit, in chips.
+/// The greatest stack, buy-in, blind, ante and unit, in chips.
 pub const GREATEST_AMOUNT: u64 = 1_000_000_000;
 
 /// The most levels of a plan.
@@ -11,6 +11,9 @@ pub const MOST_LEVELS: usize = 40;
 
 /// The most shares of the prizes.
 pub const MOST_SHARES: usize = 64;
+
+/// The most wagers of a street that a plan may name.
+pub const MOST_WAGERS: u64 = 9;
 
 /// The whole pool of the prizes, in thousandths of it.
 pub const WHOLE_POOL: u64 = 1000;

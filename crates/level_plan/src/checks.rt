@@ -25,7 +25,7 @@ pub fn is_next_unit(before: u64, unit: u64) -> bool
         .any(|times| before.checked_mul(*times) == Some(unit))
 }
 
-/// Tells whether the blinds and the unit of a level are lawful, whatever the levels before it.
+/// Tells whether the blinds, the ante and the unit of a level are lawful, whatever the levels before it.
 pub fn is_blind(blind: Blind) -> bool
     ensures { result ≡ is_blind blind }
 {
@@ -35,6 +35,8 @@ pub fn is_blind(blind: Blind) -> bool
         && blind.big <= GREATEST_AMOUNT
         && blind.small % blind.unit == 0
         && blind.big % blind.unit == 0
+        && blind.ante <= GREATEST_AMOUNT
+        && blind.ante % blind.unit == 0
 }
 
 /// Tells whether a level's unit may follow that of the last of the levels before it.

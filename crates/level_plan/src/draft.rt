@@ -6,7 +6,7 @@ ghost use Rattle.level_plan.specs.Limits.{most_levels};
 ghost use Rattle.level_plan.specs.Drafts.{empty_draft, is_wrong_line, item_of_line, line_fault, draft_after, go_fault, plan_of, IsFault};
 ghost use Rattle.level_plan.specs.Plans.{is_right};
 
-use crate::bounds::{FEWEST_SEATS, GREATEST_AMOUNT, MOST_LEVELS};
+use crate::bounds::{FEWEST_SEATS, GREATEST_AMOUNT, MOST_LEVELS, MOST_WAGERS};
 use crate::checks::{are_shares, is_between, is_blind, may_follow, unit_of_level};
 use crate::line::{PlanFault, PlanItem, PlanLine};
 use crate::plan::{Blind, Plan};
@@ -28,6 +28,7 @@ pub struct PlanDraft {
     late: Option<u64>,
     blinds: List<Blind>,
     shares: Option<List<u64>>,
+    cap: Option<u64>,
 }
 
 impl Model for PlanDraft {
@@ -64,6 +65,7 @@ impl PlanDraft {
             late: None,
             blinds: List::new(alloc),
             shares: None,
+            cap: None,
         }
     }
 
@@ -83,6 +85,7 @@ impl PlanDraft {
                 blinds.len() >= MOST_LEVELS || !(is_blind(*blind) && may_follow(blinds, *blind))
             }
             PlanLine::Shares(shares) => self.shares.is_some() || !are_shares(shares.items()),
+            PlanLine::Limit(n) => self.cap.is_some() || !is_between(1, MOST_WAGERS, *n),
         }
     }
 
@@ -124,6 +127,7 @@ impl PlanDraft {
             PlanLine::Late(n) => self.late = Some(*n),
             PlanLine::Blinds(blind) => self.add_level(*blind)?,
             PlanLine::Shares(shares) => self.set_shares(shares)?,
+            PlanLine::Limit(n) => self.cap = Some(*n),
         }
         Ok(())
     }
@@ -176,6 +180,7 @@ impl PlanDraft {
             late: self.late.unwrap(),
             blinds,
             shares,
+            cap: self.cap.unwrap_or(0),
         })
     }
 

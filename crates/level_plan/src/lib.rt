@@ -11,7 +11,9 @@ mod draft;
 mod line;
 mod plan;
 
-pub use bounds::{FEWEST_SEATS, GREATEST_AMOUNT, MOST_LEVELS, MOST_SHARES, WHOLE_POOL};
+pub use bounds::{
+    FEWEST_SEATS, GREATEST_AMOUNT, MOST_LEVELS, MOST_SHARES, MOST_WAGERS, WHOLE_POOL,
+};
 pub use draft::PlanDraft;
 pub use line::{PlanFault, PlanItem, PlanLine};
 pub use plan::{Blind, Plan};

@@ -29,6 +29,8 @@ pub enum PlanItem {
     Blinds,
     /// The shares of the prizes, in thousandths.
     Shares,
+    /// The most wagers of a street, for fixed limit.
+    Limit,
     /// The floor's word.
     FloorWord,
     /// The players' words.
@@ -50,10 +52,12 @@ pub enum PlanLine {
     Buyin(u64),
     /// The last level at which a player may enter, from 1.
     Late(u64),
-    /// The next level: its blinds, and the unit of its chips.
+    /// The next level: its blinds, its ante, and the unit of its chips.
     Blinds(Blind),
     /// The shares of the prizes from the first place on, in thousandths of the pool.
     Shares(List<u64>),
+    /// Fixed limit, with so many wagers of a street at most.
+    Limit(u64),
 }
 
 impl PlanLine {
@@ -72,6 +76,7 @@ impl PlanLine {
             PlanLine::Late(_) => PlanItem::Late,
             PlanLine::Blinds(_) => PlanItem::Blinds,
             PlanLine::Shares(_) => PlanItem::Shares,
+            PlanLine::Limit(_) => PlanItem::Limit,
         }
     }
 }

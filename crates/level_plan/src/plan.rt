@@ -4,7 +4,7 @@ use card_set::Game;
 use floor_text::List;
 use std::marker::Model;
 
-/// The blinds of a level and the unit of its chips.
+/// The blinds of a level, the ante that its big blind posts for the table, and the unit of its chips.
 #[derive(Clone, Copy, PartialEq, Eq)]
 pub struct Blind {
     /// The small blind, in chips.
@@ -13,6 +13,8 @@ pub struct Blind {
     pub big: u64,
     /// The smallest denomination in play.
     pub unit: u64,
+    /// The ante that the big blind posts for the table after his blind, in chips; 0 where there is none.
+    pub ante: u64,
 }
 
 /// A plan with all its items, each lawful alone and with the others.
@@ -34,6 +36,8 @@ pub struct Plan {
     pub blinds: List<Blind>,
     /// The shares of the prizes from the first place on, in thousandths of the pool, 1 to 64 of them.
     pub shares: List<u64>,
+    /// The most wagers of a street by fixed limit, 1 to 9; 0 where betting has no fixed limit.
+    pub cap: u64,
 }
 
 impl Model for Plan {

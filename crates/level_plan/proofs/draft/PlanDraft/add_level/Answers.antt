@@ -18,4 +18,5 @@ invariant_of-self-2 c =
           (rw same_levels c.requires.follows);
       level_count = level_count_more c.self.inside.blinds c.args.blind (rw same_levels c.requires.room);
       shares = c.self.invariant.shares;
+      cap = c.self.invariant.cap;
     })

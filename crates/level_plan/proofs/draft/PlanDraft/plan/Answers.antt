@@ -41,4 +41,5 @@ invariant_of-result c =
       late = c.unwrap-7.ensures;
       blinds = c.in_ok-blinds.ensures;
       shares = sym c.as_ref.ensures.value ∙ ap option_copied c.unwrap.ensures ∙ ap Some (sym c.in_ok-shares.ensures);
+      cap = c.unwrap_or.ensures;
     })
