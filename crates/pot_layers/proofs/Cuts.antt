@@ -11,7 +11,7 @@ use Rattle.rulebook.proofs.Tests.{list_all-always}
 use Rattle.pot_layers.specs.declared.put.Put.{Put}
 use Rattle.pot_layers.specs.declared.pot_list.Pot.{Pot}
 use Rattle.pot_layers.specs.declared.reach.Reach.{Reach}
-use Rattle.pot_layers.specs.Layers.{is_eligible, live_payers, greatest_put, is_contested, pots_to, layers}
+use Rattle.pot_layers.specs.Layers.{is_eligible, live_payers, greatest_put, is_contested, pots_to, height_pots}
 use Rattle.pot_layers.specs.Tallies.{total_put, total_to}
 use Rattle.pot_layers.specs.PotTests.{are_whole_pots, are_whole_puts}
 use Rattle.pot_layers.specs.Reaches.{puts_of, reach_of, is_above, nearer}
@@ -120,15 +120,15 @@ pub record IsWhole (reaches : List Reach) (pots : List Pot) (total paid : ℕ) :
   pub ends : pots ≡ below ++ last ∷ []
   pub least : paid ≤ total
   pub within : last.amount ≤ paid
-  pub all : below ++ record last { amount = last.amount + (total - paid) } ∷ [] ≡ layers (puts_of reaches)
+  pub all : below ++ record last { amount = last.amount + (total - paid) } ∷ [] ≡ height_pots (puts_of reaches)
   pub units : (unit : ℕ) → are_whole_puts unit (puts_of reaches) ≡ true
-      → are_whole_pots unit (layers (puts_of reaches)) ≡ true
+      → are_whole_pots unit (height_pots (puts_of reaches)) ≡ true
 
 -- Where no live player is above, what is left goes into the top pot.
 pub is-whole : (reaches : List Reach) (pots : List Pot) (below paid total : ℕ) → IsCut reaches pots below paid
     → fold (nearer below) None reaches ≡ None → is_contested (puts_of reaches) ≡ true
     → total ≡ total_put (puts_of reaches) → IsWhole reaches pots total paid
-unfolding layers
+unfolding height_pots
 is-whole reaches pots below paid total cut none contested whole = elim cut.top [
   | inl first ↦
       let within = within-puts_of reaches below (none-above below None reaches none).1 in
@@ -149,7 +149,7 @@ is-whole reaches pots below paid total cut none contested whole = elim cut.top [
       let ends : pots ≡ reverse top.rest ++ pot_of top.amount (live_payers puts below) ∷ [] = cut.so_far
       ∙ ap reverse top.cut ∙ reverse-cons (pot_of top.amount (live_payers puts below)) top.rest in
       let all_is : reverse top.rest ++ pot_of (top.amount + (total - paid)) (live_payers puts below) ∷ []
-      ≡ layers puts =
+      ≡ height_pots puts =
       sym (reverse-cons (pot_of (top.amount + (total - paid)) (live_payers puts below)) top.rest)
       ∙ ap (λ left. reverse (pot_of (top.amount + left) (live_payers puts below) ∷ top.rest)) left
       ∙ ap reverse (sym all) in

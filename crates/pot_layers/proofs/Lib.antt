@@ -12,3 +12,4 @@ pub mod PotLaws
 pub mod ShareLaws
 pub mod OwnPot
 pub mod WholeLayers
+pub mod DeadChips

@@ -8,7 +8,7 @@ use Rattle.std.proofs.lemmas.List.Sums.{sum_by-cons}
 use Rattle.rulebook.proofs.Tests.{list_all-follows}
 use Rattle.pot_layers.specs.declared.put.Put.{Put}
 use Rattle.pot_layers.specs.declared.pot_list.Pot.{Pot}
-use Rattle.pot_layers.specs.Layers.{has_paid, payments, live_payers, greatest_put, are_same_seats, is_nobody, lay, pots_to, layers}
+use Rattle.pot_layers.specs.Layers.{has_paid, payments, live_payers, greatest_put, are_same_seats, is_nobody, lay, pots_to, height_pots}
 use Rattle.pot_layers.specs.PotTests.{has_put, are_others_within, IsOwnPot}
 use Rattle.pot_layers.proofs.ListTests.{reverse-cons}
 use Rattle.pot_layers.proofs.Heights.{greatest_put-most, pays-none_above, pays-up_to, same_seats-equal}
@@ -148,10 +148,10 @@ reaches (put ∷ more) (suc index) amount most put_in all =
     (later.0, omega (arith, later.1))
 
 -- A live player who has put in more than every other has a pot of his own, of at least what is above them.
-pub own-pot : (puts : List Put) (index amount reached : ℕ) → length puts ≡ 10 → has_put puts index amount ≡ true
-    → are_others_within puts index reached ≡ true → reached < amount → IsOwnPot (layers puts) index (amount - reached)
-unfolding layers
-own-pot puts index amount reached ten put_in others above =
+pub own-height_pot : (puts : List Put) (index amount reached : ℕ) → length puts ≡ 10 → has_put puts index amount ≡ true
+    → are_others_within puts index reached ≡ true → reached < amount → IsOwnPot (height_pots puts) index (amount - reached)
+unfolding height_pots
+own-height_pot puts index amount reached ten put_in others above =
     let at_most = reaches puts index amount (greatest_put puts) put_in (greatest_put-most puts) in
     let at_least = greatest-within amount 0 puts (omega arith)
     (all-within puts index amount reached put_in others above) in

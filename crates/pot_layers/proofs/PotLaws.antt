@@ -7,7 +7,7 @@ use Rattle.std.proofs.lemmas.List.Sums.{sum_by-cons, sum_by-append}
 use Rattle.std.proofs.lemmas.List.Folds.{list_all-append}
 use Rattle.pot_layers.specs.declared.put.Put.{Put}
 use Rattle.pot_layers.specs.declared.pot_list.Pot.{Pot}
-use Rattle.pot_layers.specs.Layers.{has_paid, payments, live_payers, greatest_put, are_same_seats, is_nobody, is_contested, lay, pots_to, layers}
+use Rattle.pot_layers.specs.Layers.{has_paid, payments, live_payers, greatest_put, are_same_seats, is_nobody, is_contested, lay, pots_to, height_pots}
 use Rattle.pot_layers.specs.Tallies.{total_put, total_to}
 use Rattle.pot_layers.specs.PotTests.{total_of, live_seats, are_all_in, are_for, have_somebody}
 use Rattle.pot_layers.proofs.ListTests.{reverse-cons}
@@ -54,9 +54,9 @@ total_of-reverse (pot ∷ more) =
     omega (arith, turned, parts, own, whole, others)
 
 -- The pots sum to all that was put in.
-pub total_of-layers : (puts : List Put) → total_of (layers puts) ≡ total_put puts
-unfolding layers
-total_of-layers puts = total_of-reverse (pots_to puts (greatest_put puts)) ∙ total_of-pots_to puts (greatest_put puts)
+pub total_of-height_pots : (puts : List Put) → total_of (height_pots puts) ≡ total_put puts
+unfolding height_pots
+total_of-height_pots puts = total_of-reverse (pots_to puts (greatest_put puts)) ∙ total_of-pots_to puts (greatest_put puts)
     ∙ total_to-greatest puts
 
 -- What a test says of who may win the pots, once a height is laid on them.
@@ -107,9 +107,9 @@ payers-live (put ∷ more) height = rw (first put.live (has_paid height put)) (p
     first false paid = refl
 
 -- Only live players may win a pot.
-pub layers-live : (puts : List Put) → are_for (live_seats puts) (layers puts) ≡ true
-unfolding layers pots_to
-layers-live puts = list_all-reverse (λ (pot : Pot). are_all_in pot.eligible (live_seats puts))
+pub height_pots-live : (puts : List Put) → are_for (live_seats puts) (height_pots puts) ≡ true
+unfolding height_pots pots_to
+height_pots-live puts = list_all-reverse (λ (pot : Pot). are_all_in pot.eligible (live_seats puts))
     (pots_to puts (greatest_put puts)) (each (greatest_put puts))
   where
     each : (height : ℕ) → are_for (live_seats puts) (pots_to puts height) ≡ true
@@ -129,9 +129,9 @@ not-empty (top ∷ below) paid payers same = by_test (are_same_seats top.eligibl
     by_test false is = cc
 
 -- Each pot can be won by somebody, where a live player has put in chips.
-pub layers-somebody : (puts : List Put) → is_contested puts ≡ true → have_somebody (layers puts) ≡ true
-unfolding layers pots_to
-layers-somebody puts contested = list_all-reverse (λ (pot : Pot). not (is_nobody pot.eligible))
+pub height_pots-somebody : (puts : List Put) → is_contested puts ≡ true → have_somebody (height_pots puts) ≡ true
+unfolding height_pots pots_to
+height_pots-somebody puts contested = list_all-reverse (λ (pot : Pot). not (is_nobody pot.eligible))
     (pots_to puts (greatest_put puts)) (each (greatest_put puts))
   where
     each : (height : ℕ) → have_somebody (pots_to puts height) ≡ true

@@ -1,8 +1,15 @@
 -- A tally that is told a list of puts, seat by seat.
 use Rattle.std.proofs.Common.{◌≡◌, ◌∙◌, ℕ, zero, suc, ◌+◌, ◌-◌, ◌<◌, List, [], ◌∷◌, ◌++◌, Bool, true, false, length, get_or, take, replicate, refl, ap, sym, add-one, arith}
 use Rattle.pot_layers.specs.declared.put.Put.{Put}
-use Rattle.pot_layers.specs.Tallies.{put_in_at, folded_at}
+use Rattle.pot_layers.specs.Tallies.{Tally, put_in_at, folded_at}
 use Rattle.pot_layers.proofs.Raised.{no_put}
+
+-- A tally is its puts and its dead chips.
+pub tally-of : (tally : Tally) (puts : List Put) (dead : ℕ) → tally.puts ≡ puts → tally.dead ≡ dead
+    → tally ≡ record { puts = puts; dead = dead }
+tally-of tally puts dead is also =
+    ap (λ (p : List Put). record { puts = p; dead = tally.dead }) is
+    ∙ ap (λ (d : ℕ). record { puts = puts; dead = d }) also
 
 abbrev pub fresh : Put
 fresh = record { amount = 0; live = true }

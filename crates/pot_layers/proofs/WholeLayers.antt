@@ -8,7 +8,7 @@ use Rattle.rulebook.proofs.Multiples.{multiple-sub, multiple-sum}
 use Rattle.rulebook.proofs.Passing.{map-agree}
 use Rattle.pot_layers.specs.declared.put.Put.{Put}
 use Rattle.pot_layers.specs.declared.pot_list.Pot.{Pot}
-use Rattle.pot_layers.specs.Layers.{are_same_seats, greatest_put, is_eligible, is_nobody, lay, layers, live_payers, payments, pots_to}
+use Rattle.pot_layers.specs.Layers.{are_same_seats, greatest_put, is_eligible, is_nobody, lay, height_pots, live_payers, payments, pots_to}
 use Rattle.pot_layers.specs.PotTests.{are_whole_pots, are_whole_puts, total_of}
 use Rattle.pot_layers.specs.Tallies.{total_to}
 use Rattle.pot_layers.proofs.Heights.{are_same_seats-self, same_seats-equal, total_to-greatest}
@@ -135,10 +135,10 @@ laid-to puts unit (suc height) whole =
     (laid-to puts unit height whole) refl (total_of-pots_to puts (suc height))
 
 -- The pots of whole units.
-pub layers-whole : (puts : List Put) (unit : ℕ) → are_whole_puts unit puts ≡ true
-    → are_whole_pots unit (layers puts) ≡ true
-unfolding layers
-layers-whole puts unit whole =
+pub height_pots-whole : (puts : List Put) (unit : ℕ) → are_whole_puts unit puts ≡ true
+    → are_whole_pots unit (height_pots puts) ≡ true
+unfolding height_pots
+height_pots-whole puts unit whole =
     list_all-reverse (λ (pot : Pot). pot.amount % unit == 0) (pots_to puts (greatest_put puts))
     (by_pots (pots_to puts (greatest_put puts)) (laid-to puts unit (greatest_put puts) whole))
   where

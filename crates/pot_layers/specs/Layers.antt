@@ -52,8 +52,17 @@ pots_to puts zero = []
 pots_to puts (suc height) = lay (pots_to puts height) (payments puts (suc height)) (live_payers puts (suc height))
 
 -- The pots of all heights from 1 to the greatest amount put in, the main pot first.
-unfoldable pub layers : List Put → List Pot
-layers puts = reverse (pots_to puts (greatest_put puts))
+unfoldable pub height_pots : List Put → List Pot
+height_pots puts = reverse (pots_to puts (greatest_put puts))
+
+-- Dead chips, which no player put in for himself, go to the main pot.
+abbrev pub with_dead : ℕ → List Pot → List Pot
+with_dead dead [] = []
+with_dead dead (main ∷ more) = record main { amount = main.amount + dead } ∷ more
+
+-- The pots of a hand: those of all heights, with its dead chips in the main pot.
+unfoldable pub layers : List Put → ℕ → List Pot
+layers puts dead = with_dead dead (height_pots puts)
 
 -- A live player has put in chips.
 abbrev pub is_contested : List Put → Bool

@@ -2,6 +2,8 @@
 
 ghost use Rattle.std.specs.Prelude.{◌≡◌, ◌+◌, ◌<◌, ◌≤◌, ◌^◌, ◌==◌, List, [], ◌∷◌, ◌++◌, length, slice_get};
 ghost use Rattle.pot_layers.specs.declared.pot_list.Pot.{Pot};
+ghost use Rattle.pot_layers.specs.Layers.{with_dead};
+ghost use Rattle.pot_layers.specs.PotTests.{total_of};
 
 use button_blinds::SeatSet;
 use std::marker::Model;
@@ -69,6 +71,15 @@ impl Pots {
             → self.new ≡ below ++ record last { amount = last.amount + amount } ∷ [] }
     {
         self.pots[self.len - 1].amount += amount;
+    }
+
+    /// Adds chips to the main pot.
+    pub(crate) fn add_to_main(&mut self, amount: u64)
+        requires some { 1 ≤ length self.old }
+        requires fits { total_of self.old + amount < 2 ^ 64 }
+        ensures { self.new ≡ with_dead amount self.old }
+    {
+        self.pots[0].amount += amount;
     }
 
     /// Tells how many pots there are.

@@ -1,4 +1,4 @@
-use Rattle.pot_layers.proofs.PotLaws.{layers-somebody}
+use Rattle.pot_layers.proofs.DeadChips.{layers-somebody}
 use Rattle.pot_layers.proofs.laws.pots_have_somebody.Goals as goal
 
 pub returns : goal.returns

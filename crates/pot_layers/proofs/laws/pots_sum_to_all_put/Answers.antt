@@ -1,4 +1,4 @@
-use Rattle.pot_layers.proofs.PotLaws.{total_of-layers}
+use Rattle.pot_layers.proofs.DeadChips.{total_of-layers}
 use Rattle.pot_layers.proofs.laws.pots_sum_to_all_put.Goals as goal
 
 pub returns : goal.returns
