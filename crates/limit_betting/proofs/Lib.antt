@@ -1,0 +1,2 @@
+mod Rises
+pub mod Bounded

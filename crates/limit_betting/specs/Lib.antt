@@ -1,0 +1,2 @@
+pub mod FixedLimits
+pub mod Wagers
