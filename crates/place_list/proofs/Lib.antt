@@ -7,4 +7,5 @@ pub mod PrizeLists
 pub mod Ranks
 pub mod Sorting
 pub mod Sums
+pub mod TakenBack
 pub mod TieBlocks

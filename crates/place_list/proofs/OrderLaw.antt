@@ -39,26 +39,26 @@ winner-first entries prizes busts sorted winner first some =
     (λ bust. by-place winner.place (place_of entries busts bust) winner.player bust.player (omega (arith, first, some)))
 
 -- Standings come by place, and of the same place by entry.
-pub pairwise-standings : (entries : ℕ) (last : Option ℕ) (buyin : ℕ) (shares : List ℕ) (busts : List Bust)
+pub pairwise-standings : (entries : ℕ) (last : Option ℕ) (pool : ℕ) (shares : List ℕ) (busts : List Bust)
     → are_distinct (λ one other. one == other) (map (λ bust. bust.player) busts) ≡ true
-    → length busts < entries → is_pairwise comes_before (standings_of entries last buyin shares busts) ≡ true
+    → length busts < entries → is_pairwise comes_before (standings_of entries last pool shares busts) ≡ true
 unfolding standings_of
-pairwise-standings entries None buyin shares busts distinct some =
+pairwise-standings entries None pool shares busts distinct some =
     let placed = placed-sorted_busts busts distinct in
-    ap (is_pairwise comes_before) (ordered-sorted entries (prizes_of entries buyin shares) busts (sorted_busts busts)
+    ap (is_pairwise comes_before) (ordered-sorted entries (prizes_of entries pool shares) busts (sorted_busts busts)
     (sorted-permutation busts) placed)
-    ∙ pairwise-falls (map (standing_of entries (prizes_of entries buyin shares) (sorted_busts busts))
-    (sorted_busts busts)) (falls-placed entries (prizes_of entries buyin shares) (sorted_busts busts) placed)
-pairwise-standings entries (Some last) buyin shares busts distinct some =
+    ∙ pairwise-falls (map (standing_of entries (prizes_of entries pool shares) (sorted_busts busts))
+    (sorted_busts busts)) (falls-placed entries (prizes_of entries pool shares) (sorted_busts busts) placed)
+pairwise-standings entries (Some last) pool shares busts distinct some =
     let placed = placed-sorted_busts busts distinct in
-    let same = ordered-sorted entries (prizes_of entries buyin shares) busts (sorted_busts busts)
+    let same = ordered-sorted entries (prizes_of entries pool shares) busts (sorted_busts busts)
     (sorted-permutation busts) placed in
     let size = length_permutation busts (sorted_busts busts) (sorted-permutation busts) in
     let winner : Standing =
-    record { player = last; place = 1; prize = prizes_together (prizes_of entries buyin shares) 1 1 } in
+    record { player = last; place = 1; prize = prizes_together (prizes_of entries pool shares) 1 1 } in
     and_from _ _
-    (ap (list_all (comes_before winner)) same ∙ winner-first entries (prizes_of entries buyin shares)
+    (ap (list_all (comes_before winner)) same ∙ winner-first entries (prizes_of entries pool shares)
     (sorted_busts busts) (sorted_busts busts) winner refl (omega (arith, size, some)))
     (ap (is_pairwise comes_before) same
-    ∙ pairwise-falls (map (standing_of entries (prizes_of entries buyin shares) (sorted_busts busts))
-    (sorted_busts busts)) (falls-placed entries (prizes_of entries buyin shares) (sorted_busts busts) placed))
+    ∙ pairwise-falls (map (standing_of entries (prizes_of entries pool shares) (sorted_busts busts))
+    (sorted_busts busts)) (falls-placed entries (prizes_of entries pool shares) (sorted_busts busts) placed))

@@ -15,7 +15,7 @@ use Rattle.place_list.specs.declared.bust.Bust.{Bust}
 use Rattle.place_list.specs.declared.standing.Standing.{Standing}
 use Rattle.place_list.specs.Orders.{is_placed_before, Placed}
 use Rattle.place_list.specs.Places.{tied_before, place_of, still_in}
-use Rattle.place_list.specs.Prizes.{pool_of, part_of, parts, first_gets, prizes_of, prizes_together, equal_share}
+use Rattle.place_list.specs.Prizes.{part_of, parts, first_gets, prizes_of, prizes_together, equal_share}
 use Rattle.place_list.specs.Standings.{prize_of, standing_of, ordered, standings_of}
 use Rattle.place_list.specs.TiedAtHead.{tied_at_head}
 use Rattle.place_list.specs.Ties.{IsTie}
@@ -281,52 +281,52 @@ first_gets-none left [] none = refl
 first_gets-none left (first ∷ others) none = absurd (omega arith)
 
 -- There are prizes for no more places than entries.
-prizes-length : (entries buyin : ℕ) (shares : List ℕ) → length (prizes_of entries buyin shares)
+prizes-length : (entries pool : ℕ) (shares : List ℕ) → length (prizes_of entries pool shares)
     ≡ min entries (length shares)
 unfolding prizes_of
-prizes-length entries buyin shares =
-    first_gets-length (pool_of entries buyin - sum (parts entries (pool_of entries buyin) shares))
-    (parts entries (pool_of entries buyin) shares)
-    ∙ length-map (take entries shares) (part_of (pool_of entries buyin)) ∙ length-take entries shares
+prizes-length entries pool shares =
+    first_gets-length (pool - sum (parts entries pool shares))
+    (parts entries pool shares)
+    ∙ length-map (take entries shares) (part_of pool) ∙ length-take entries shares
 
 few-shares : (entries : ℕ) (shares : List ℕ) → sum shares ≤ 1000 → sum (take entries shares) ≤ 1000
 few-shares entries shares few = (let within = sum_by-take-le (λ (n : ℕ). n) shares entries in
     omega (arith, within, few))
 
 -- All prizes sum to the pool, where there is a prize at all.
-prizes-sum : (entries buyin : ℕ) (shares : List ℕ) → sum shares ≤ 1000 → 1 ≤ entries → 1 ≤ length shares
-    → sum (prizes_of entries buyin shares) ≡ pool_of entries buyin
+prizes-sum : (entries pool : ℕ) (shares : List ℕ) → sum shares ≤ 1000 → 1 ≤ entries → 1 ≤ length shares
+    → sum (prizes_of entries pool shares) ≡ pool
 unfolding prizes_of
-prizes-sum entries buyin shares few some share =
-    let within = parts-le (pool_of entries buyin) (take entries shares) (few-shares entries shares few) in
-    let size = length-map (take entries shares) (part_of (pool_of entries buyin)) ∙ length-take entries shares in
-    let all = first_gets-sum (pool_of entries buyin - sum (parts entries (pool_of entries buyin) shares))
-    (parts entries (pool_of entries buyin) shares) (omega (arith, size, some, share)) in
+prizes-sum entries pool shares few some share =
+    let within = parts-le pool (take entries shares) (few-shares entries shares few) in
+    let size = length-map (take entries shares) (part_of pool) ∙ length-take entries shares in
+    let all = first_gets-sum (pool - sum (parts entries pool shares))
+    (parts entries pool shares) (omega (arith, size, some, share)) in
     omega (arith, all, within)
 
 -- They never sum to more.
-pub prizes-within : (entries buyin : ℕ) (shares : List ℕ) → sum shares ≤ 1000 → sum (prizes_of entries buyin shares)
-    ≤ pool_of entries buyin
+pub prizes-within : (entries pool : ℕ) (shares : List ℕ) → sum shares ≤ 1000 → sum (prizes_of entries pool shares)
+    ≤ pool
 unfolding prizes_of
-prizes-within entries buyin shares few =
-    let within = parts-le (pool_of entries buyin) (take entries shares) (few-shares entries shares few) in
-    elim (cases_lt 0 (length (parts entries (pool_of entries buyin) shares))) [
+prizes-within entries pool shares few =
+    let within = parts-le pool (take entries shares) (few-shares entries shares few) in
+    elim (cases_lt 0 (length (parts entries pool shares))) [
       | inl some ↦ (let all =
-          first_gets-sum (pool_of entries buyin - sum (parts entries (pool_of entries buyin) shares))
-          (parts entries (pool_of entries buyin) shares) (omega (arith, some)) in omega (arith, all, within))
+          first_gets-sum (pool - sum (parts entries pool shares))
+          (parts entries pool shares) (omega (arith, some)) in omega (arith, all, within))
       | inr none ↦ (let all =
-          first_gets-none (pool_of entries buyin - sum (parts entries (pool_of entries buyin) shares))
-          (parts entries (pool_of entries buyin) shares) (omega (arith, none)) in omega (arith, all))
+          first_gets-none (pool - sum (parts entries pool shares))
+          (parts entries pool shares) (omega (arith, none)) in omega (arith, all))
     ]
 
 -- All prizes of a tournament that is over sum to the pool.
-pub over-sum : (entries last buyin : ℕ) (shares : List ℕ) (busts : List Bust)
+pub over-sum : (entries last pool : ℕ) (shares : List ℕ) (busts : List Bust)
     → are_distinct (λ one other. one == other) (map (λ bust. bust.player) busts) ≡ true
     → entries ≡ length busts + 1 → 1 ≤ length shares → sum shares ≤ 1000 → sum_by (λ standing. standing.prize)
-    (standings_of entries (Some last) buyin shares busts) ≡ entries * buyin
+    (standings_of entries (Some last) pool shares busts) ≡ pool
 unfolding standings_of
-over-sum entries last buyin shares busts distinct over share few =
-    let prizes = prizes_of entries buyin shares in
+over-sum entries last pool shares busts distinct over share few =
+    let prizes = prizes_of entries pool shares in
     let out = prizes-out entries prizes busts distinct in
     let in_one : still_in entries busts ≡ 1 = omega arith in
     let all = sum_by-cons (λ (standing : Standing). standing.prize)
@@ -335,21 +335,21 @@ over-sum entries last buyin shares busts distinct over share few =
     let behind = ap (λ n. sum (take (length busts) (drop n prizes))) in_one in
     let parts = ap sum (take-add 1 (length busts) prizes) ∙ sum_by-append (λ (n : ℕ). n) (take 1 prizes)
     (take (length busts) (drop 1 prizes)) in
-    let size = prizes-length entries buyin shares in
+    let size = prizes-length entries pool shares in
     let whole = ap sum (take_all (1 + length busts) prizes (omega (arith, size, over))) in
-    let pool = prizes-sum entries buyin shares few (omega arith) share in
-    omega (arith, out, all, behind, parts, whole, pool)
+    let whole_pool = prizes-sum entries pool shares few (omega arith) share in
+    omega (arith, out, all, behind, parts, whole, whole_pool)
 
 -- The prizes of those who are out never sum to more.
-pub out-sum : (entries buyin : ℕ) (shares : List ℕ) (busts : List Bust) → are_distinct (λ one other. one == other)
+pub out-sum : (entries pool : ℕ) (shares : List ℕ) (busts : List Bust) → are_distinct (λ one other. one == other)
     (map (λ bust. bust.player) busts) ≡ true
-    → sum shares ≤ 1000 → sum_by (λ standing. standing.prize) (standings_of entries None buyin shares busts)
-    ≤ entries * buyin
+    → sum shares ≤ 1000 → sum_by (λ standing. standing.prize) (standings_of entries None pool shares busts)
+    ≤ pool
 unfolding standings_of
-out-sum entries buyin shares busts distinct few =
-    let prizes = prizes_of entries buyin shares in
+out-sum entries pool shares busts distinct few =
+    let prizes = prizes_of entries pool shares in
     let out = prizes-out entries prizes busts distinct in
     let own = sum_by-take-le (λ (n : ℕ). n) (drop (still_in entries busts) prizes) (length busts) in
     let all = sum_by-take-drop (λ (n : ℕ). n) prizes (still_in entries busts) in
-    let pool = prizes-within entries buyin shares few in
-    omega (arith, out, own, all, pool)
+    let most = prizes-within entries pool shares few in
+    omega (arith, out, own, all, most)

@@ -1,8 +1,16 @@
 -- The places of the players who are out. The Poker TDA Rules and Robert's Rules of Poker: who goes broke later is
 -- placed higher, and of players who go broke in one hand the one who began it with more chips. This project's own:
 -- equal stacks share a place.
-use Rattle.std.specs.Prelude.{ℕ, ◌+◌, ◌-◌, ◌==◌, ◌&&◌, ◌||◌, nat_lt, Bool, List, length, count_by}
+use Rattle.std.specs.Prelude.{ℕ, ◌+◌, ◌-◌, ◌==◌, ◌&&◌, ◌||◌, not, nat_lt, Bool, List, length, filter, count_by}
 use Rattle.place_list.specs.declared.bust.Bust.{Bust}
+
+-- Whether a row is that of the player of this number.
+abbrev pub is_bust_of : ℕ → Bust → Bool
+is_bust_of number bust = bust.player == number
+
+-- The players who are out once one of them is no more: his row leaves the list.
+abbrev pub taken_back : ℕ → List Bust → List Bust
+taken_back number busts = filter (λ bust. not (is_bust_of number bust)) busts
 
 -- Another player who is out is ahead: he is in a later group, or in the same group with a greater stack at the start
 -- of his last hand.

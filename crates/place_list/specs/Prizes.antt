@@ -2,9 +2,9 @@
 -- the first place.
 use Rattle.std.specs.Prelude.{ℕ, ◌+◌, ◌-◌, ◌*◌, ◌/◌, ◌%◌, nat_lt, if◌then◌else◌, List, [], ◌∷◌, take, drop, map, sum}
 
--- The pool is a buy-in for each entry.
-abbrev pub pool_of : ℕ → ℕ → ℕ
-pool_of entries buyin = entries * buyin
+-- The pool is a buy-in for each entry and for each re-entry.
+abbrev pub pool_of : ℕ → ℕ → ℕ → ℕ
+pool_of entries reentries buyin = (entries + reentries) * buyin
 
 -- A share is so many thousandths of the pool, rounded down.
 abbrev pub part_of : ℕ → ℕ → ℕ
@@ -19,11 +19,9 @@ abbrev pub first_gets : ℕ → List ℕ → List ℕ
 first_gets left [] = []
 first_gets left (first ∷ others) = (first + left) ∷ others
 
--- The prizes of the places, from the first on. Later places have none.
+-- The prizes of the places of a pool, from the first on. Later places have none.
 unfoldable pub prizes_of : ℕ → ℕ → List ℕ → List ℕ
-prizes_of entries buyin shares =
-    first_gets (pool_of entries buyin - sum (parts entries (pool_of entries buyin) shares))
-    (parts entries (pool_of entries buyin) shares)
+prizes_of entries pool shares = first_gets (pool - sum (parts entries pool shares)) (parts entries pool shares)
 
 -- The prizes of so many places together, from this place on.
 abbrev pub prizes_together : List ℕ → ℕ → ℕ → ℕ

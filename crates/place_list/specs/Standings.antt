@@ -44,6 +44,6 @@ standings_with entries prizes last busts =
     winner_of prizes last ++ ordered (map (standing_of entries prizes busts) busts)
 
 -- The standings: where the tournament is over the last player comes first, and then those who are out, by place and
--- then by entry.
+-- then by entry. So many entered, and the shares are of this pool.
 unfoldable pub standings_of : ℕ → Option ℕ → ℕ → List ℕ → List Bust → List Standing
-standings_of entries last buyin shares busts = standings_with entries (prizes_of entries buyin shares) last busts
+standings_of entries last pool shares busts = standings_with entries (prizes_of entries pool shares) last busts

@@ -1,8 +1,11 @@
 //! The list of the players who are out.
 
-ghost use Rattle.std.specs.Prelude.{◌≡◌, ◌<◌, ◌≤◌, ◌==◌, ◌^◌, [], ◌∷◌, ◌++◌, false, IfOk, OnOk, length, map, sum};
+ghost use Rattle.std.specs.Prelude.{◌≡◌, ◌<◌, ◌≤◌, ◌+◌, ◌==◌, ◌^◌, [], ◌∷◌, ◌++◌, true, false, IfOk, OnOk, length, map, sum};
 ghost use Rattle.std.specs.List.{list_any};
+ghost use Rattle.std.specs.Vec.{vec_capacity, vec_len};
 ghost use Rattle.rulebook.specs.Limits.{most_entries};
+ghost use Rattle.place_list.specs.Places.{is_bust_of, taken_back};
+ghost use Rattle.place_list.specs.Prizes.{pool_of};
 ghost use Rattle.place_list.specs.Standings.{standings_of, standing_of, winner_of};
 ghost use Rattle.place_list.specs.Orders.{Placed};
 
@@ -35,6 +38,15 @@ impl Model for PlaceList {
         × (are_distinct (λ one other. one == other) (map (λ bust. bust.player) list.busts.items) ≡ true) };
 }
 
+/// Takes the row of a player out of a list.
+fn take_out(busts: &mut Vec<Bust>, player: u32)
+    ensures rows { busts.new.items ≡ taken_back player busts.old.items }
+    ensures fewer { vec_len busts.new ≤ vec_len busts.old }
+    ensures room { vec_capacity busts.new ≡ vec_capacity busts.old }
+{
+    busts.retain(|bust| bust.player != player);
+}
+
 impl PlaceList {
     /// Makes a list on which nobody is, with room for all players there can be. Want of memory is the only error.
     pub fn new(alloc: Global) -> Result<PlaceList, AllocError>
@@ -49,7 +61,7 @@ impl PlaceList {
     /// It takes no memory.
     pub fn bust(&mut self, player: u32, stack: u64, group: u64)
         requires room { length self.old < most_entries }
-        requires once { list_any (λ bust. bust.player == player) self.old ≡ false }
+        requires once { list_any (is_bust_of player) self.old ≡ false }
         ensures { self.new ≡ self.old ++ record { player = player; stack = stack; group = group } ∷ [] }
     {
         let _ = self.busts.push(Bust {
@@ -59,9 +71,18 @@ impl PlaceList {
         });
     }
 
+    /// Takes a player back from the list who is on it: his row leaves it, and the others stay as they are. It takes no
+    /// memory.
+    pub fn take_back(&mut self, player: u32)
+        requires out { list_any (is_bust_of player) self.old ≡ true }
+        ensures { self.new ≡ taken_back player self.old }
+    {
+        take_out(&mut self.busts, player);
+    }
+
     /// Tells whether this player is bust: he is on the list.
     pub fn is_bust(&self, player: u32) -> bool
-        ensures { result ≡ list_any (λ bust. bust.player == player) self.now }
+        ensures { result ≡ list_any (is_bust_of player) self.now }
     {
         self.busts.iter().any(|bust| bust.player == player)
     }
@@ -82,23 +103,26 @@ impl PlaceList {
     }
 
     /// Tells where each player stands who is out, and `last`, the winner, where the tournament is over: by place, and
-    /// of the same place by entry. `buyin` is in chips of money and `shares` in thousandths of the pool. Want of memory
-    /// is the only error.
+    /// of the same place by entry. There were so many entries and so many re-entries, `buyin` is in chips of money and
+    /// `shares` in thousandths of the pool. Want of memory is the only error.
     pub fn standings(
         &self,
         alloc: Global,
         entries: u32,
+        reentries: u32,
         last: Option<u32>,
         buyin: u64,
         shares: &[u64],
     ) -> Result<Vec<Standing>, AllocError>
-        requires entries { entries ≤ most_entries }
+        requires entries { entries + reentries ≤ most_entries }
         requires buyin { buyin ≤ 1000000000 }
         requires shares { sum shares.now ≤ 1000 }
-        ensures { IfOk result (λ standings. standings.items ≡ standings_of entries last buyin shares.now self.now) }
+        ensures { IfOk result (λ standings. standings.items
+            ≡ standings_of entries last (pool_of entries reentries buyin) shares.now self.now) }
     {
+        let pool = u64::from(entries + reentries) * buyin;
         let busts = in_order(alloc, &self.busts)?;
-        let prizes = prizes_of(alloc, entries, buyin, shares)?;
+        let prizes = prizes_of(alloc, entries, pool, shares)?;
         let mut standings = Vec::with_capacity(alloc, busts.len() + 1)?;
         add_winner(&mut standings, last, &prizes)?;
         add_standings(&mut standings, entries, &busts, &prizes)?;

@@ -1,8 +1,7 @@
 //! The prizes of the places.
 
 ghost use Rattle.std.specs.Prelude.{◌≡◌, ◌+◌, ◌*◌, ◌<◌, ◌≤◌, ◌^◌, IfOk, sum, take, drop};
-ghost use Rattle.rulebook.specs.Limits.{most_entries};
-ghost use Rattle.place_list.specs.Prizes.{part_of, pool_of, first_gets, prizes_of, equal_share};
+ghost use Rattle.place_list.specs.Prizes.{part_of, first_gets, prizes_of, equal_share};
 
 use std::alloc::{AllocError, Global};
 
@@ -25,20 +24,18 @@ fn first_gets(prizes: &mut Vec<u64>, left: u64)
     }
 }
 
-/// Gives the prizes of the places, from the first on, in chips of money.
+/// Gives the prizes of the places of a pool, from the first on, in chips of money.
 pub(crate) fn prizes_of(
     alloc: Global,
     entries: u32,
-    buyin: u64,
+    pool: u64,
     shares: &[u64],
 ) -> Result<Vec<u64>, AllocError>
-    requires entries { entries ≤ most_entries }
-    requires buyin { buyin ≤ 1000000000 }
+    requires pool { pool ≤ 640000000000 }
     requires shares { sum shares.now ≤ 1000 }
-    ensures prizes { IfOk result (λ prizes. prizes.items ≡ prizes_of entries buyin shares.now) }
-    ensures pool { IfOk result (λ prizes. sum prizes.items ≤ pool_of entries buyin) }
+    ensures prizes { IfOk result (λ prizes. prizes.items ≡ prizes_of entries pool shares.now) }
+    ensures pool { IfOk result (λ prizes. sum prizes.items ≤ pool) }
 {
-    let pool = u64::from(entries) * buyin;
     let paid = &shares[..shares.len().min(entries as usize)];
     let mut prizes = Vec::with_capacity(alloc, paid.len())?;
     let mut left = pool;

@@ -1,9 +1,9 @@
-use Rattle.std.proofs.Common.{◌≡◌, ◌∙◌, ◌≤◌, ap, sym, ℕ, ◌-◌, ◌*◌, [], ◌∷◌, ◌++◌, take, arith, rules}
+use Rattle.std.proofs.Common.{◌≡◌, ◌∙◌, ◌≤◌, ap, sym, ℕ, ◌-◌, [], ◌∷◌, ◌++◌, take, arith, rules}
 use Rattle.std.proofs.lemmas.Grind.{common_steps}
 use Rattle.std.specs.Prelude.{sum, map}
 use Rattle.std.proofs.lemmas.List.Sums.{sum_by-take-le, sum_by-append}
 use Rattle.std.proofs.lemmas.List.{take_all}
-use Rattle.place_list.specs.Prizes.{part_of, parts, pool_of, first_gets, prizes_of}
+use Rattle.place_list.specs.Prizes.{part_of, parts, first_gets, prizes_of}
 use Rattle.place_list.proofs.PrizeLists.{part-left, parts-more, take-min}
 use Rattle.place_list.proofs.prizes.prizes_of.Goals as goal
 
@@ -28,9 +28,9 @@ loop-share-preserved c =
     let part = c.part_of-part.ensures in
     record {
       parts = items ∙ ap (λ front. front ++ c.part_of-part.result ∷ []) c.loop-share.invariant.parts
-          ∙ ap (λ last. map (part_of (c.from.result * c.args.buyin))
+          ∙ ap (λ last. map (part_of c.args.pool)
           (take c.loop-share.share-index (take c.min.result c.args.shares.now)) ++ last ∷ []) part
-          ∙ sym (parts-more (c.from.result * c.args.buyin)
+          ∙ sym (parts-more c.args.pool
           (take c.min.result c.args.shares.now) c.loop-share.share-index (omega arith));
       whole = omega (arith, grown, enough, part, c.loop-share.invariant.whole);
     }
@@ -42,19 +42,13 @@ returns-clause-prizes c =
     ≡ take c.args.entries c.args.shares.now =
     take_all c.loop-share.share-index (take c.min.result c.args.shares.now) (omega arith)
     ∙ take-min c.args.shares.now c.args.entries c.min.result c.min.ensures in
-    let pool : c.from.result * c.args.buyin ≡ c.args.entries * c.args.buyin =
-    ap (λ n. n * c.args.buyin) c.from.ensures in
-    let items : c.loop-share.prizes.items
-    ≡ parts c.args.entries (pool_of c.args.entries c.args.buyin) c.args.shares.now =
-    c.loop-share.invariant.parts ∙ ap (map (part_of (c.from.result * c.args.buyin))) shares
-    ∙ ap (λ n. map (part_of n) (take c.args.entries c.args.shares.now)) pool in
+    let items : c.loop-share.prizes.items ≡ parts c.args.entries c.args.pool c.args.shares.now =
+    c.loop-share.invariant.parts ∙ ap (map (part_of c.args.pool)) shares in
     let total = ap sum items in
-    let left : c.loop-share.left ≡ pool_of c.args.entries c.args.buyin - sum
-    (parts c.args.entries (pool_of c.args.entries c.args.buyin) c.args.shares.now) =
-    omega (arith, total, pool, c.loop-share.invariant.whole) in
+    let left : c.loop-share.left ≡ c.args.pool - sum (parts c.args.entries c.args.pool c.args.shares.now) =
+    omega (arith, total, c.loop-share.invariant.whole) in
     c.first_gets.ensures ∙ ap (λ n. first_gets n c.loop-share.prizes.items) left
-    ∙ ap (first_gets (pool_of c.args.entries c.args.buyin - sum
-    (parts c.args.entries (pool_of c.args.entries c.args.buyin) c.args.shares.now))) items
+    ∙ ap (first_gets (c.args.pool - sum (parts c.args.entries c.args.pool c.args.shares.now))) items
 
 pub part_of-part-requires-clause-share : goal.part_of-part-requires-clause-share
 part_of-part-requires-clause-share c = grind (arith, common_steps)

@@ -1,8 +1,8 @@
-use Rattle.std.proofs.Common.{◌≡◌, ◌∙◌, ap, sym, length, arith, ◌++◌}
+use Rattle.std.proofs.Common.{◌≡◌, ◌∙◌, ap, sym, ◌*◌, length, arith, ◌++◌}
 use Rattle.std.specs.Prelude.{map}
 use Rattle.std.proofs.lemmas.List.Sorted.{length_permutation}
 use Rattle.place_list.specs.Standings.{standings_of, standing_of, standings_with, winner_of}
-use Rattle.place_list.specs.Prizes.{prizes_of}
+use Rattle.place_list.specs.Prizes.{pool_of, prizes_of}
 use Rattle.place_list.proofs.InOrder.{ordered-sorted}
 use Rattle.place_list.proofs.place_list.PlaceList.standings.Goals as goal
 
@@ -17,11 +17,13 @@ pub returns : goal.returns
 unfolding standings_of
 returns c =
     let sorted = c.in_ok-busts.busts.items in
-    let prizes = prizes_of c.args.entries c.args.buyin c.args.shares.now in
-    let first : c.deref-2.result.now ≡ prizes_of c.args.entries c.args.buyin c.args.shares.now =
-    c.deref-2.ensures.value ∙ c.in_ok-prizes.ensures.prizes in
-    let second : c.deref-4.result.now ≡ prizes_of c.args.entries c.args.buyin c.args.shares.now =
-    c.deref-4.ensures.value ∙ c.in_ok-prizes.ensures.prizes in
+    let pool = pool_of c.args.entries c.args.reentries c.args.buyin in
+    let prizes = prizes_of c.args.entries pool c.args.shares.now in
+    let whole : c.from.result * c.args.buyin ≡ pool = ap (λ n. n * c.args.buyin) c.from.ensures in
+    let said : c.in_ok-prizes.prizes.items ≡ prizes = c.in_ok-prizes.ensures.prizes
+    ∙ ap (λ pool. prizes_of c.args.entries pool c.args.shares.now) whole in
+    let first : c.deref-2.result.now ≡ prizes = c.deref-2.ensures.value ∙ said in
+    let second : c.deref-4.result.now ≡ prizes = c.deref-4.ensures.value ∙ said in
     let winner = c.in_ok-add_winner.ensures
     ∙ ap (λ list. list ++ winner_of c.deref-2.result.now c.args.last) c.in_ok-standings.ensures.items
     ∙ ap (λ list. winner_of list c.args.last) first in
