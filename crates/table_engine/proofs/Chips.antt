@@ -13,17 +13,17 @@ use Rattle.betting_round.specs.WhoIsDue.{is_live, is_there, player_in}
 use Rattle.table_engine.specs.declared.start.HandStart.{HandStart}
 use Rattle.table_engine.specs.declared.start.StartSeat.{StartSeat}
 use Rattle.table_engine.specs.Starts.{IsLawfulStart, chips_of}
-use Rattle.table_engine.specs.Hands.{HandTerms, StreetPlayed, behind, player_of, players_by_seat, put_from, put_in_hand, put_on, put_so_far, street_of, streets_of}
+use Rattle.table_engine.specs.Hands.{HandTerms, StreetPlayed, ante_posted, behind, dead_chips, player_of, players_by_seat, playing, put_from, put_in_hand, put_on, put_so_far, street_of, streets_of}
 use Rattle.table_engine.specs.Plays.{IsLawfulPlay}
 use Rattle.table_engine.specs.Results.{pot, award, is_won_by_folds, starting_stacks}
 use Rattle.table_engine.proofs.BySeat.{AreFound, found-all, found-within, number_of, player_in-there, sum-of_street, there-at}
 use Rattle.table_engine.proofs.Sound.{AreThere, IsSound, sound-play}
 
--- A player of a hand as he stands: he is on its street, and has the stack with which he began in two parts.
+-- A player of a hand as he stands: he is on its street, and has what he had to play with in two parts.
 pub record Stands (hand : HandTerms) (player : StartSeat) (now : Player) : Type 0 where
   pub there : player_in (street_of hand).players player.seat ≡ Some now
   pub behind : behind hand player ≡ now.bettor.behind
-  pub stack : now.bettor.behind + put_in_hand hand player ≡ player.stack
+  pub stack : now.bettor.behind + put_in_hand hand player ≡ playing hand.start player
 
 -- Who is found at his seat stands in the hand.
 pub stands : (hand : HandTerms) (player : StartSeat) → IsLawfulStart hand.start
@@ -77,36 +77,47 @@ all-found all one other (player ∷ players) found each passes =
     let parts = and_parts (one player) (list_all one players) passes in
     and_from _ _ (each player found.0 parts.0) (all-found all one other players found.1 each parts.1)
 
--- At each moment all that the players have behind and all that they have put in sum to their starting stacks.
+-- What the players have to play with and the antes are their stacks.
+pub playing-dead : (start : HandStart) → sum_by (playing start) start.seats + dead_chips start ≡ chips_of start.seats
+playing-dead start = sum_by-plus (playing start) (ante_posted start) (λ player. player.stack) start.seats
+    (λ player. omega arith)
+
+-- At each moment all that the players have behind, all that they have put in and the antes sum to their starting stacks.
 pub chips-by : (hand : HandTerms) → IsLawfulStart hand.start → IsLawfulPlay hand
-    → sum_by (behind hand) hand.start.seats + sum_by (put_in_hand hand) hand.start.seats ≡ chips_of hand.start.seats
+    → sum_by (behind hand) hand.start.seats + sum_by (put_in_hand hand) hand.start.seats + dead_chips hand.start
+    ≡ chips_of hand.start.seats
 chips-by hand lawful play =
     let sound = sound-play hand lawful play in
-    sum_by-found hand.start.seats (behind hand) (put_in_hand hand) (λ player. player.stack) hand.start.seats
+    let parts = sum_by-found hand.start.seats (behind hand) (put_in_hand hand) (playing hand.start) hand.start.seats
     (found-all hand.start lawful)
     (λ player found.
     let his = stands hand player lawful sound found in
     let behind_so = his.1.behind in
     let stack = his.1.stack in
-    omega arith)
+    omega arith) in
+    let all = playing-dead hand.start in
+    omega arith
 
--- What all players have behind and what they have put in come to the sum of the list of their starting stacks.
+-- What all players have behind, what they have put in and the antes come to the sum of the list of their starting
+-- stacks.
 pub chips-in_play : (hand : HandTerms) → IsLawfulStart hand.start → IsLawfulPlay hand
-    → sum_by (behind hand) hand.start.seats + sum_by (put_in_hand hand) hand.start.seats ≡ sum (starting_stacks hand)
+    → sum_by (behind hand) hand.start.seats + sum_by (put_in_hand hand) hand.start.seats + dead_chips hand.start
+    ≡ sum (starting_stacks hand)
 chips-in_play hand lawful play = chips-by hand lawful play
     ∙ sym (sum-map (λ (player : StartSeat). player.stack) hand.start.seats)
 
 -- Nobody puts in more than his stack.
 pub chips-within : (hand : HandTerms) → IsLawfulStart hand.start → IsLawfulPlay hand
-    → list_all (λ player. nat_le (put_in_hand hand player) player.stack) hand.start.seats ≡ true
+    → list_all (λ player. nat_le (put_in_hand hand player + ante_posted hand.start player) player.stack)
+    hand.start.seats ≡ true
 chips-within hand lawful play =
     let sound = sound-play hand lawful play in
     all-found hand.start.seats (λ player. true) (λ player. nat_le
-    (put_in_hand hand player) player.stack) hand.start.seats (found-all hand.start lawful)
+    (put_in_hand hand player + ante_posted hand.start player) player.stack) hand.start.seats (found-all hand.start lawful)
     (λ player found passes.
     let his = stands hand player lawful sound found in
     let stack = his.1.stack in
-    le-leb (put_in_hand hand player) player.stack (omega arith))
+    le-leb (put_in_hand hand player + ante_posted hand.start player) player.stack (omega arith))
     (list_all-always (λ (player : StartSeat). true) hand.start.seats (λ player. refl))
 
 -- What was put in on a street, by the players of the start.
@@ -133,7 +144,8 @@ put-on_streets start (played ∷ streets) lawful there =
     omega arith
 
 -- The pot is what was put in on all streets.
-pub pot-is : (hand : HandTerms) → IsLawfulStart hand.start → IsLawfulPlay hand → pot hand ≡ put_so_far (streets_of hand)
+pub pot-is : (hand : HandTerms) → IsLawfulStart hand.start → IsLawfulPlay hand → pot hand
+    ≡ put_so_far hand.start (streets_of hand)
 pot-is hand lawful play =
     let sound = sound-play hand lawful play in
     let streets = streets_of hand in

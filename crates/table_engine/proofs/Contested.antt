@@ -25,7 +25,7 @@ use Rattle.pot_layers.specs.Layers.{is_contested, is_eligible}
 use Rattle.table_engine.specs.declared.start.HandStart.{HandStart}
 use Rattle.table_engine.specs.declared.start.StartSeat.{StartSeat}
 use Rattle.table_engine.specs.Acts.{limits_on}
-use Rattle.table_engine.specs.Hands.{HandTerms, StreetPlayed, Streets, first_street, first_streets, has_ended, is_over, later_street, players_by_seat, put_from, seated, street_now, street_of, streets_of, with_act, with_next_street}
+use Rattle.table_engine.specs.Hands.{HandTerms, StreetPlayed, Streets, first_street, first_streets, has_ended, is_over, later_street, players_by_seat, playing, put_from, seated, street_now, street_of, streets_of, with_act, with_next_street}
 use Rattle.table_engine.specs.Plays.{IsLawfulPlay}
 use Rattle.table_engine.specs.Results.{is_won_by_folds, puts_in_hand}
 use Rattle.table_engine.specs.Starts.{IsLawfulStart}
@@ -36,7 +36,7 @@ use Rattle.table_engine.proofs.DueSeats.{due-many, nobody-may}
 use Rattle.table_engine.proofs.Puts.{listed-found, puts-hand, puts-moved, puts-next, puts_of}
 use Rattle.table_engine.proofs.Sitting.{none-there}
 use Rattle.table_engine.proofs.Sound.{IsSound, greatest-least, placed-is, put_from-there, sound-play}
-use Rattle.table_engine.proofs.WholeUnits.{blinds-lawful, found-playable}
+use Rattle.table_engine.proofs.WholeUnits.{blinds-lawful, found-playable, playing-some}
 
 -- One for each live player.
 abbrev lives : Player → ℕ
@@ -57,7 +57,7 @@ has_paid put = not put.live || nat_le 1 put.amount
 -- A live player is all-in, or every live player has put in chips.
 abbrev ArePaid : HandStart → List (Option Player) → Type 0
 ArePaid start slots =
-    (list_any (is_there is_all_in) slots ≡ true) ⊎ (list_all has_paid (puts_of (players_by_seat start) slots) ≡ true)
+    (list_any (is_there is_all_in) slots ≡ true) ⊎ (list_all has_paid (puts_of start (players_by_seat start) slots) ≡ true)
 
 -- Somebody is live. On the first street there is something to meet, and on later streets the live have paid.
 record IsAlive (start : HandStart) (streets : Streets) : Type 0 where
@@ -142,17 +142,17 @@ nobody-waits street index ended none within =
     nobody-may street index ended open_ within
 
 -- All puts pass a test where each player's does.
-all-puts : (players : List (Option StartSeat)) (slots : List (Option Player))
+all-puts : (start : HandStart) (players : List (Option StartSeat)) (slots : List (Option Player))
     → ((index : ℕ) (player : StartSeat) (now : Player) → slice_index_or players index None ≡ Some player
     → slice_index_or slots index None ≡ Some now
-    → has_paid (record { amount = player.stack - now.bettor.behind; live = now.bettor.live }) ≡ true)
-    → list_all has_paid (puts_of players slots) ≡ true
-all-puts [] slots each = refl
-all-puts (player ∷ players) [] each = refl
-all-puts (None ∷ players) (slot ∷ slots) each = all-puts players slots (λ index. each (suc index))
-all-puts (Some player ∷ players) (None ∷ slots) each = all-puts players slots (λ index. each (suc index))
-all-puts (Some player ∷ players) (Some now ∷ slots) each =
-    and_from _ _ (each 0 player now refl refl) (all-puts players slots (λ index. each (suc index)))
+    → has_paid (record { amount = playing start player - now.bettor.behind; live = now.bettor.live }) ≡ true)
+    → list_all has_paid (puts_of start players slots) ≡ true
+all-puts start [] slots each = refl
+all-puts start (player ∷ players) [] each = refl
+all-puts start (None ∷ players) (slot ∷ slots) each = all-puts start players slots (λ index. each (suc index))
+all-puts start (Some player ∷ players) (None ∷ slots) each = all-puts start players slots (λ index. each (suc index))
+all-puts start (Some player ∷ players) (Some now ∷ slots) each =
+    and_from _ _ (each 0 player now refl refl) (all-puts start players slots (λ index. each (suc index)))
 
 -- Once the first street has ended the live have paid.
 ended-paid : (start : HandStart) (streets : Streets) (acts : ℕ) → IsLawfulStart start → IsSound start streets acts
@@ -163,7 +163,7 @@ ended-paid start streets acts lawful sound first level ended =
     let street = street_now streets in
     elim (cases_Bool (list_any (is_there is_all_in) street.players)) [
       | inl some ↦ inl some
-      | inr none ↦ inr (all-puts (players_by_seat start) street.players
+      | inr none ↦ inr (all-puts start (players_by_seat start) street.players
           (λ index player now listed there.
           let found = listed-found start index player listed in
           let seat : player.seat ≡ index + 1 = found.0 in
@@ -183,7 +183,7 @@ ended-paid start streets acts lawful sound first level ended =
           ap (λ (n : ℕ). slice_index_or street.players n None) back ∙ there in
           let waits : may_be_due street.level now ≡ false =
           sym (ap (is_there (may_be_due street.level)) sits) ∙ nobody-waits street index ended none within in
-          paid-by now.bettor.live now.acted now.bettor.put now.bettor.behind player.stack street.level partly waits
+          paid-by now.bettor.live now.acted now.bettor.put now.bettor.behind (playing start player) street.level partly waits
           (omega arith) level))
     ]
   where
@@ -226,7 +226,7 @@ alive-next start streets acts lawful sound ended alive =
       paid = λ later. subst (λ (s : Street). ArePaid start s.players) (sym began)
           (elim (by_before streets.before refl) [
             | inl any ↦ inl (all_in-next street.players ∙ any)
-            | inr paid ↦ inr (ap (list_all has_paid) (puts-next (players_by_seat start) street.players) ∙ paid)
+            | inr paid ↦ inr (ap (list_all has_paid) (puts-next start (players_by_seat start) street.players) ∙ paid)
           ]);
     }
   where
@@ -309,7 +309,7 @@ alive-act start streets acts seat act sound free alive =
           (elim (alive.paid later) [
             | inl any ↦ inl (any-set is_all_in street.players (seat - 1) now after acted.sits partly any)
             | inr paid ↦ inr (ap (list_all has_paid) puts
-                ∙ paid-told (is_fold act) (puts_of (players_by_seat start) street.players) (seat - 1) put_in paid)
+                ∙ paid-told (is_fold act) (puts_of start (players_by_seat start) street.players) (seat - 1) put_in paid)
           ]);
     }
 
@@ -324,59 +324,59 @@ alive-play hand lawful play =
     })
 
 -- Where a live player is all-in, who had chips, he has put in chips.
-all_in-contested : (players : List (Option StartSeat)) (slots : List (Option Player))
+all_in-contested : (start : HandStart) (players : List (Option StartSeat)) (slots : List (Option Player))
     → map is_some slots ≡ map is_some players
-    → ((index : ℕ) (player : StartSeat) → slice_index_or players index None ≡ Some player → 0 < player.stack)
-    → list_any (is_there is_all_in) slots ≡ true → list_any (is_eligible 1) (puts_of players slots) ≡ true
-all_in-contested players [] there each some = absurd cc
-all_in-contested [] (slot ∷ slots) there each some = absurd cc
-all_in-contested (None ∷ players) (None ∷ slots) there each some =
+    → ((index : ℕ) (player : StartSeat) → slice_index_or players index None ≡ Some player → 0 < playing start player)
+    → list_any (is_there is_all_in) slots ≡ true → list_any (is_eligible 1) (puts_of start players slots) ≡ true
+all_in-contested start players [] there each some = absurd cc
+all_in-contested start [] (slot ∷ slots) there each some = absurd cc
+all_in-contested start (None ∷ players) (None ∷ slots) there each some =
     let rest : map is_some slots ≡ map is_some players =
-    cc in all_in-contested players slots rest (λ index. each (suc index)) some
-all_in-contested (None ∷ players) (Some now ∷ slots) there each some = absurd cc
-all_in-contested (Some player ∷ players) (None ∷ slots) there each some = absurd cc
-all_in-contested (Some player ∷ players) (Some now ∷ slots) there each some =
+    cc in all_in-contested start players slots rest (λ index. each (suc index)) some
+all_in-contested start (None ∷ players) (Some now ∷ slots) there each some = absurd cc
+all_in-contested start (Some player ∷ players) (None ∷ slots) there each some = absurd cc
+all_in-contested start (Some player ∷ players) (Some now ∷ slots) there each some =
     let rest : map is_some slots ≡ map is_some players = cc in
-    by_first (is_all_in now) refl (λ any. all_in-contested players slots rest (λ index. each (suc index)) any)
+    by_first (is_all_in now) refl (λ any. all_in-contested start players slots rest (λ index. each (suc index)) any)
   where
     by_first : (first : Bool) → is_all_in now ≡ first
-        → (list_any (is_there is_all_in) slots ≡ true → list_any (is_eligible 1) (puts_of players slots) ≡ true)
-        → (now.bettor.live && nat_le 1 (player.stack - now.bettor.behind) || list_any (is_eligible 1)
-        (puts_of players slots)) ≡ true
+        → (list_any (is_there is_all_in) slots ≡ true → list_any (is_eligible 1) (puts_of start players slots) ≡ true)
+        → (now.bettor.live && nat_le 1 (playing start player - now.bettor.behind) || list_any (is_eligible 1)
+        (puts_of start players slots)) ≡ true
     by_first true is later =
         let parts = and_parts now.bettor.live (now.bettor.behind == 0) is in
         let chips = each 0 player refl in
-        let put : nat_le 1 (player.stack - now.bettor.behind) ≡ true = grind (arith, nat_tests) in
+        let put : nat_le 1 (playing start player - now.bettor.behind) ≡ true = grind (arith, nat_tests) in
         rw (parts.0, put) refl
     by_first false is later =
-        or_right (now.bettor.live && nat_le 1 (player.stack - now.bettor.behind))
-        (list_any (is_eligible 1) (puts_of players slots))
+        or_right (now.bettor.live && nat_le 1 (playing start player - now.bettor.behind))
+        (list_any (is_eligible 1) (puts_of start players slots))
         (later (rw is at some))
 
 -- Where somebody is live and all who are have paid, a live player has put in chips.
-paid-contested : (players : List (Option StartSeat)) (slots : List (Option Player))
+paid-contested : (start : HandStart) (players : List (Option StartSeat)) (slots : List (Option Player))
     → map is_some slots ≡ map is_some players
-    → list_all has_paid (puts_of players slots) ≡ true → 1 ≤ sum_over lives slots
-    → list_any (is_eligible 1) (puts_of players slots) ≡ true
-paid-contested players [] there all some = absurd (omega arith)
-paid-contested [] (slot ∷ slots) there all some = absurd cc
-paid-contested (None ∷ players) (None ∷ slots) there all some =
-    let rest : map is_some slots ≡ map is_some players = cc in paid-contested players slots rest all some
-paid-contested (None ∷ players) (Some now ∷ slots) there all some = absurd cc
-paid-contested (Some player ∷ players) (None ∷ slots) there all some = absurd cc
-paid-contested (Some player ∷ players) (Some now ∷ slots) there all some =
+    → list_all has_paid (puts_of start players slots) ≡ true → 1 ≤ sum_over lives slots
+    → list_any (is_eligible 1) (puts_of start players slots) ≡ true
+paid-contested start players [] there all some = absurd (omega arith)
+paid-contested start [] (slot ∷ slots) there all some = absurd cc
+paid-contested start (None ∷ players) (None ∷ slots) there all some =
+    let rest : map is_some slots ≡ map is_some players = cc in paid-contested start players slots rest all some
+paid-contested start (None ∷ players) (Some now ∷ slots) there all some = absurd cc
+paid-contested start (Some player ∷ players) (None ∷ slots) there all some = absurd cc
+paid-contested start (Some player ∷ players) (Some now ∷ slots) there all some =
     let rest : map is_some slots ≡ map is_some players = cc in
-    let parts = and_parts (not now.bettor.live || nat_le 1 (player.stack - now.bettor.behind))
-    (list_all has_paid (puts_of players slots)) all in
-    by_live now.bettor.live refl parts.0 (λ more. paid-contested players slots rest parts.1 more)
+    let parts = and_parts (not now.bettor.live || nat_le 1 (playing start player - now.bettor.behind))
+    (list_all has_paid (puts_of start players slots)) all in
+    by_live now.bettor.live refl parts.0 (λ more. paid-contested start players slots rest parts.1 more)
   where
     by_live : (live : Bool) → now.bettor.live ≡ live
-        → (not now.bettor.live || nat_le 1 (player.stack - now.bettor.behind)) ≡ true
-        → (1 ≤ sum_over lives slots → list_any (is_eligible 1) (puts_of players slots) ≡ true)
-        → (now.bettor.live && nat_le 1 (player.stack - now.bettor.behind) || list_any (is_eligible 1)
-        (puts_of players slots)) ≡ true
+        → (not now.bettor.live || nat_le 1 (playing start player - now.bettor.behind)) ≡ true
+        → (1 ≤ sum_over lives slots → list_any (is_eligible 1) (puts_of start players slots) ≡ true)
+        → (now.bettor.live && nat_le 1 (playing start player - now.bettor.behind) || list_any (is_eligible 1)
+        (puts_of start players slots)) ≡ true
     by_live true is paid later =
-        let put : nat_le 1 (player.stack - now.bettor.behind) ≡ true = rw is at paid in rw (is, put) refl
+        let put : nat_le 1 (playing start player - now.bettor.behind) ≡ true = rw is at paid in rw (is, put) refl
     by_live false is paid later =
         let none : lives now ≡ 0 = ap (λ (b : Bool). cond b 1 0) is in
         rw is (later (omega arith))
@@ -403,10 +403,11 @@ hand-contested hand lawful play over many =
 
     by_paid : ArePaid hand.start (street_of hand).players → IsSound hand.start (streets_of hand) (length hand.acts)
         → IsAlive hand.start (streets_of hand)
-        → is_contested (puts_of (players_by_seat hand.start) (street_of hand).players) ≡ true
+        → is_contested (puts_of hand.start (players_by_seat hand.start) (street_of hand).players) ≡ true
     by_paid (inl any) sound alive =
-        all_in-contested (players_by_seat hand.start) (street_of hand).players sound.there
+        all_in-contested hand.start (players_by_seat hand.start) (street_of hand).players sound.there
         (λ index player listed. let found = listed-found hand.start index player listed in
+        playing-some hand.start player (blinds-lawful hand.start lawful)
         (found-playable hand.start player.seat player lawful found.1).0) any
-    by_paid (inr paid) sound alive = paid-contested (players_by_seat hand.start) (street_of hand).players sound.there
+    by_paid (inr paid) sound alive = paid-contested hand.start (players_by_seat hand.start) (street_of hand).players sound.there
         paid alive.some

@@ -29,7 +29,7 @@ use Rattle.table_engine.proofs.BySeat.{found-within, player_in-there, there-at}
 use Rattle.table_engine.proofs.DueSeats.{due-beside, ended-met}
 use Rattle.table_engine.proofs.Opening.{IsOpening, IsSpared, acts-meet, big-waits, fold-held, none-posted, opening-act, opening-first, posted-found, posted_at}
 use Rattle.table_engine.proofs.Sitting.{Sits, greatest-live, most-at, sits-after, sits-dealt, sits-index, sits-kept, sits-put, sits-same, sits-within}
-use Rattle.table_engine.proofs.Sound.{IsSound, fold-none, least-of_game, level-next, placed-is, put_from-there, slot-next, sound-play, ten-slots}
+use Rattle.table_engine.proofs.Sound.{IsSound, fold-none, least-on, level-next, placed-is, put_from-there, slot-next, sound-play, ten-slots}
 use Rattle.table_engine.proofs.Starts.{player_of-seat}
 
 -- What the player in a seat has put in on earlier streets.
@@ -318,7 +318,7 @@ led-act start spared streets acts seat act lawful is_spared sound free led =
           (even-act streets.before spared led.most limits street seat act now put_in acted led.even);
       top = subst (λ (s : Street). IsTop start spared streets.before led.most s) (sym is)
           (top-act start spared streets.before led.most limits street seat act now lawful is_spared acted due
-          (least-of_game start.game (facing_of street now)) sound.there (low-put start streets acts sound) led.even
+          (least-on start streets (facing_of street now)) sound.there (low-put start streets acts sound) led.even
           led.top);
     }
 

@@ -25,4 +25,6 @@ pub mod Starts
 pub mod Tabled
 pub mod TurnLaws
 pub mod WholeUnits
+mod LimitedBets
+pub mod SomePut
 mod Uncalled

@@ -15,8 +15,8 @@ use Rattle.betting_round.specs.ActChecks.{seat_checks}
 use Rattle.table_engine.specs.Acts.{act_checks, acting_seat, done_of_act, is_dealt, limits_on, refusal_of_act, time_act}
 use Rattle.std.specs.Prelude.{Some, None}
 use Rattle.table_engine.specs.Deals.{board_of}
-use Rattle.table_engine.specs.Hands.{is_live, players_by_seat}
-use Rattle.table_engine.specs.Results.{live_in_hand, put_at, puts_in_hand, showdown_awards}
+use Rattle.table_engine.specs.Hands.{dead_chips, is_live, players_by_seat}
+use Rattle.table_engine.specs.Results.{live_in_hand, pots_in_hand, put_at, puts_in_hand, showdown_awards}
 use Rattle.showdown.specs.Awards.{awards_of}
 use Rattle.showdown.specs.Hands.{hands_of}
 use Rattle.pot_layers.specs.Layers.{layers}
@@ -58,7 +58,7 @@ pub refusal-deck : (hand : HandTerms) (deck : List Card) (name : List ℕ) (act 
     → refusal_of_act (redealt hand deck) name act ≡ refusal_of_act hand name act
 unfolding act_checks
 refusal-deck hand deck name act = ap (λ streets. first_that_holds ((NotDealt, not (is_dealt hand.start name))
-    ∷ seat_checks (limits_on hand.start (streets_of hand)) (street_now streets) (acting_seat hand name) act))
+    ∷ seat_checks (limits_on hand.start streets) (street_now streets) (acting_seat hand name) act))
     (streets-deck hand deck)
 
 pub done-deck : (hand : HandTerms) (deck : List Card) (name : List ℕ) (act : Act)
@@ -136,8 +136,8 @@ pub record ShowAlike (hand : HandTerms) (deck : List Card) : Type 0 where
 
 pub awards-deck : (hand : HandTerms) (deck : List Card) → ShowAlike hand deck
     → showdown_awards (redealt hand deck) ≡ showdown_awards hand
-unfolding showdown_awards
+unfolding showdown_awards pots_in_hand
 awards-deck hand deck alike =
     λ i. awards_of (hands_of hand.start.game (alike.board i) (alike.live i)) hand.start.blind.unit
     hand.start.marks.button
-    hand.start.seat_count (layers (puts-deck hand deck i))
+    hand.start.seat_count (layers (puts-deck hand deck i) (dead_chips hand.start))

@@ -1,6 +1,6 @@
 -- The betting of a hand after each step: where the next street begins, and after an act.
-use Rattle.std.proofs.Common.{◌≡◌, ◌≢◌, ◌∙◌, ℕ, zero, suc, ◌+◌, ◌-◌, ◌%◌, ◌≤◌, true, false, List, [], ◌∷◌, ◌++◌, map, Some, None, refl, ap, sym, arith}
-use Rattle.std.specs.Prelude.{Option, ◌==◌, ◌&&◌, nat_le, option_map, reverse}
+use Rattle.std.proofs.Common.{Bool, cond, ◌*◌, ◌≡◌, ◌≢◌, ◌∙◌, ℕ, zero, suc, ◌+◌, ◌-◌, ◌≤◌, true, false, List, [], ◌∷◌, ◌++◌, map, Some, None, refl, ap, sym, arith, ◌<◌, ◌^◌}
+use Rattle.std.specs.Prelude.{Option, ◌==◌, nat_le, option_map, reverse}
 use Rattle.std.specs.Option.{is_some}
 use Rattle.std.proofs.lemmas.Bool.{and_parts, leb-true}
 use Rattle.std.proofs.lemmas.List.Sums.{sum_by-cons}
@@ -13,13 +13,15 @@ use Rattle.betting_round.specs.ActChecks.{act_refusal}
 use Rattle.betting_round.specs.Limits.{Limits}
 use Rattle.betting_round.proofs.Steps.{street_start_is, sum_both, sum_map}
 use Rattle.betting_round.proofs.Turns.{chips-kept}
+use Rattle.limit_betting.specs.Wagers.{is_wager, wagers}
+use Rattle.limit_betting.proofs.Bounded.{level-of, wagers-few}
 use Rattle.std.proofs.lemmas.List.{map-append, reverse-append}
 use Rattle.rulebook.proofs.Found.{somes-made}
 use Rattle.table_engine.specs.declared.record.ActOf.{ActOf}
 use Rattle.table_engine.specs.declared.start.HandStart.{HandStart}
 use Rattle.table_engine.specs.declared.betting.Betting.{Betting}
 use Rattle.table_engine.specs.Starts.{IsLawfulStart}
-use Rattle.table_engine.specs.Hands.{Streets, all_dealt_on, by_seat, dealt_on, first_streets, has_ended, later_street, put_on, put_so_far, seat_of_name, street_now, streets_after, streets_of, with_act, with_next_street}
+use Rattle.table_engine.specs.Hands.{Streets, all_dealt_on, bet_with, by_seat, dealt_on, first_streets, has_ended, later_street, put_on, put_so_far, seat_of_name, street_now, streets_after, streets_of, with_act, with_next_street}
 use Rattle.table_engine.specs.Running.{IsAt, IsReady}
 
 -- Where a street has not ended no other begins.
@@ -86,8 +88,7 @@ lawful-tests start lawful =
     let unit = and_parts (nat_le 1 start.blind.unit) _ lawful.blinds in
     let small = and_parts (nat_le 1 start.blind.small) _ unit.1 in
     let order = and_parts (nat_le start.blind.small start.blind.big) _ small.1 in
-    let big = and_parts (nat_le start.blind.big 1000000000)
-    (start.blind.small % start.blind.unit == 0 && start.blind.big % start.blind.unit == 0) order.1 in
+    let big = and_parts (nat_le start.blind.big 1000000000) _ order.1 in
     (unit.0, small.0, order.0, big.0)
 
 -- The big blind of a lawful start is at most 1000000000 chips.
@@ -98,85 +99,144 @@ lawful-big start lawful = leb-true start.blind.big 1000000000 (lawful-tests star
 pub lawful-small : (start : HandStart) → IsLawfulStart start → start.blind.small ≤ start.blind.big
 lawful-small start lawful = leb-true start.blind.small start.blind.big (lawful-tests start lawful).2
 
+-- The big blind of a lawful start is above 0.
+pub lawful-some : (start : HandStart) → IsLawfulStart start → 0 < start.blind.big
+lawful-some start lawful =
+    let small = leb-true 1 start.blind.small (lawful-tests start lawful).1 in
+    let order = lawful-small start lawful in
+    omega arith
+
 -- The unit of a lawful start is at least one chip.
 pub lawful-unit : (start : HandStart) → IsLawfulStart start → 1 ≤ start.blind.unit
 lawful-unit start lawful = leb-true 1 start.blind.unit (lawful-tests start lawful).0
 
+-- A bet of a street of a lawful start is above 0 and at most twice the greatest big blind.
+pub lawful-bet : (start : HandStart) (left : ℕ) → IsLawfulStart start
+    → (0 < bet_with start left) × (bet_with start left ≤ 2000000000)
+lawful-bet start left lawful =
+    let big = lawful-big start lawful in
+    let some = lawful-some start lawful in
+    by_cap (start.cap == 0) (nat_le (3 - left) 1) big some
+  where
+    by_cap : (none low : Bool) → start.blind.big ≤ 1000000000 → 0 < start.blind.big
+        → (0 < cond none start.blind.big (cond low start.blind.big (2 * start.blind.big)))
+        × (cond none start.blind.big (cond low start.blind.big (2 * start.blind.big)) ≤ 2000000000)
+    by_cap true low big some = (omega arith, omega arith)
+    by_cap false true big some = (omega arith, omega arith)
+    by_cap false false big some = (omega arith, omega arith)
+
 -- The next street may begin where the hand is ready for it.
-pub right-next : (start : HandStart) (betting : Betting) (counted : ℕ) → IsLawfulStart start → IsReady betting
+pub right-next : (start : HandStart) (betting : Betting) (counted left : ℕ) → IsLawfulStart start → IsReady betting
     → counted ≡ betting.before + put_by_all betting.round
-    → IsStreetStart (street_start (next_bettors betting.round) start.marks.button 0 start.blind.big start.blind.unit
-    counted)
-right-next start betting counted lawful ready is =
+    → IsStreetStart (street_start (next_bettors betting.round) start.marks.button 0 (bet_with start left)
+    start.blind.unit counted)
+right-next start betting counted left lawful ready is =
     let parts = chips-parts betting.round in
     let few = ready.chips in
-    let big = lawful-big start lawful in
+    let big = (lawful-bet start left lawful).1 in
     let unit = lawful-unit start lawful in
     record { seated = ready.seated; chips = omega arith; opening = omega arith; big = omega arith; unit = omega arith }
 
 -- A hand on a street that has just begun is ready for the next.
 pub ready-start : (start : StreetStart) (betting : Betting) → IsStreetStart start
-    → betting.round ≡ street_after start [] → betting.before ≤ start.counted → IsReady betting
-ready-start start betting right is before =
+    → betting.round ≡ street_after start [] → betting.before + sum_over chips_of start.bettors < 2 ^ 60
+    → betting.bet ≡ start.big → 0 < start.big → betting.wagers ≡ wagers start [] → IsReady betting
+ready-start start betting right is few bet some count =
     let chips = ap chips_on is ∙ chips-start start in
-    let few = right.chips in
-    record { seated = rw is (seated-next start [] right.seated); chips = omega arith }
+    let big = right.big in
+    let wagers_so = wagers-few start [] some in
+    let level = ap (λ (s : Street). s.level) is in
+    record {
+      seated = rw is (seated-next start [] right.seated);
+      chips = omega arith;
+      some_bet = omega arith;
+      few_bet = omega arith;
+      few_wagers = omega arith;
+    }
 
 -- The hand stands on its streets and the next.
 pub at-next : (start : HandStart) (streets : Streets) (betting after : Betting) → IsLawfulStart start
-    → IsReady betting → 1 ≤ betting.left → IsAt streets betting
-    → after.round ≡ street_after (street_start (next_bettors betting.round) start.marks.button 0 start.blind.big
-    start.blind.unit
+    → IsReady betting → 1 ≤ betting.left → IsAt start streets betting
+    → after.round ≡ street_after (street_start (next_bettors betting.round) start.marks.button 0
+    (bet_with start (betting.left - 1)) start.blind.unit
     (betting.before + put_by_all betting.round)) []
     → after.before ≡ betting.before + put_by_all betting.round → after.left ≡ betting.left - 1
-    → IsAt (with_next_street start streets) after
-at-next start streets betting after lawful ready some at round before left =
+    → after.bet ≡ bet_with start (betting.left - 1) → after.wagers ≡ 0
+    → IsAt start (with_next_street start streets) after
+at-next start streets betting after lawful ready some at round before left bet count =
     let put : put_by_all betting.round ≡ put_on streets.last = ap put_by_all at.round in
     let all = sum_by-cons put_on streets.last streets.before in
-    let counted : betting.before + put_by_all betting.round ≡ put_so_far streets = let was = at.before in
+    let counted : betting.before + put_by_all betting.round ≡ put_so_far start streets = let was = at.before in
     omega arith in
     let bettors = ap next_bettors at.round in
-    let same : street_start (next_bettors betting.round) start.marks.button 0 start.blind.big start.blind.unit
-    (betting.before + put_by_all betting.round) ≡ later_street start streets = rw (bettors, counted) in
+    let same_bet : bet_with start (betting.left - 1) ≡ bet_with start (streets.left - 1) =
+    ap (λ (n : ℕ). bet_with start (n - 1)) at.left in
+    let same : street_start (next_bettors betting.round) start.marks.button 0 (bet_with start (betting.left - 1))
+    start.blind.unit (betting.before + put_by_all betting.round) ≡ later_street start streets =
+    rw (bettors, counted, same_bet) in
     record {
       round = round ∙ ap (λ (s : StreetStart). street_after s []) same;
-      before = before ∙ counted ∙ sym all;
+      before = before ∙ counted ∙ omega arith;
       left = left ∙ ap (λ (n : ℕ). n - 1) at.left;
-      right = rw (← same) (right-next start betting (betting.before + put_by_all betting.round) lawful ready refl);
+      bet = bet ∙ same_bet;
+      wagers = count;
+      right = rw (← same) (right-next start betting (betting.before + put_by_all betting.round) (betting.left - 1)
+          lawful ready refl);
     }
 
 -- The hand stands on its streets after an act that is not refused.
-pub at-act : (streets : Streets) (betting after : Betting) (seat : ℕ) (act : Act) → IsAt streets betting
+pub at-act : (start : HandStart) (streets : Streets) (betting after : Betting) (seat : ℕ) (act : Act)
+    → IsAt start streets betting
     → after.round ≡ street_after streets.last.start (record { seat = seat; act = act } ∷ streets.last.acts)
-    → after.before ≡ betting.before → after.left ≡ betting.left
-    → IsAt (with_act streets (record { seat = seat; act = act })) after
-at-act streets betting after seat act at round before left =
-    record { round = round; before = before ∙ at.before; left = left ∙ at.left; right = at.right }
+    → after.before ≡ betting.before → after.left ≡ betting.left → after.bet ≡ betting.bet
+    → after.wagers ≡ betting.wagers
+    + cond (is_wager betting.bet betting.round.level after.round.level) 1 0
+    → IsAt start (with_act streets (record { seat = seat; act = act })) after
+at-act start streets betting after seat act at round before left bet count =
+    let entry : SeatAct = record { seat = seat; act = act } in
+    let was = ap (λ (s : Street). s.level) at.round ∙ level-of streets.last.start streets.last.acts in
+    let now = ap (λ (s : Street). s.level) round ∙ level-of streets.last.start (entry ∷ streets.last.acts) in
+    record {
+      round = round;
+      before = before ∙ at.before;
+      left = left ∙ at.left;
+      bet = bet ∙ at.bet;
+      wagers = count ∙ rw (at.wagers, at.bet, was, now) refl;
+      right = at.right;
+    }
 
 -- The hand is ready for the next street after an act that is not refused.
-pub ready-act : (limits : Limits) (streets : Streets) (betting after : Betting) (seat : ℕ) (act : Act)
-    → IsAt streets betting → IsReady betting → act_refusal limits betting.round seat act ≡ None
+pub ready-act : (start : HandStart) (limits : Limits) (streets : Streets) (betting after : Betting) (seat : ℕ) (act : Act)
+    → IsAt start streets betting → IsReady betting → act_refusal limits betting.round seat act ≡ None
     → after.round ≡ street_after streets.last.start (record { seat = seat; act = act } ∷ streets.last.acts)
-    → after.before ≡ betting.before → IsReady after
-ready-act limits streets betting after seat act at ready accepted round before =
+    → after.before ≡ betting.before → after.bet ≡ betting.bet
+    → after.wagers ≡ wagers streets.last.start (record { seat = seat; act = act } ∷ streets.last.acts) → IsReady after
+ready-act start limits streets betting after seat act at ready accepted round before bet count =
     let entry : SeatAct = record { seat = seat; act = act } in
     let free : act_refusal limits (street_now streets) seat act ≡ None = rw (← at.round) accepted in
     let kept = chips-kept limits streets.last.start streets.last.acts entry at.right free in
     let was = ap chips_on at.round in
     let now = ap chips_on round in
     let few = ready.chips in
+    let some_so = ready.some_bet in
+    let few_so = ready.few_bet in
+    let same = at.bet in
+    let wagers_so = wagers-few streets.last.start (entry ∷ streets.last.acts) (omega arith) in
+    let level = ap (λ (s : Street). s.level) round in
     record {
       seated = rw round (seated-next streets.last.start (entry ∷ streets.last.acts) at.right.seated);
-      chips =
-          omega arith;
+      chips = omega arith;
+      some_bet = omega arith;
+      few_bet = omega arith;
+      few_wagers = omega arith;
     }
 
 -- Somebody is in each slot after an act where one was before it.
-pub there-act : (streets : Streets) (betting : Betting) (after : Street) (seat : ℕ) (act : Act)
-    → IsAt streets betting
+pub there-act : (start : HandStart) (streets : Streets) (betting : Betting) (after : Street) (seat : ℕ) (act : Act)
+    → IsAt start streets betting
     → after ≡ street_after streets.last.start (record { seat = seat; act = act } ∷ streets.last.acts)
     → map is_some after.players ≡ map is_some betting.round.players
-there-act streets betting after seat act at round =
+there-act start streets betting after seat act at round =
     ap (λ (s : Street). map is_some s.players) round
     ∙ somes-street streets.last.start (record { seat = seat; act = act } ∷ streets.last.acts)
     ∙ sym (somes-street streets.last.start streets.last.acts)
@@ -205,15 +265,15 @@ streets-more start acts act seat found =
 
 -- A hand whose street has not ended stands on the same streets.
 pub at-open : (start : HandStart) (streets : Streets) (betting : Betting) → has_ended betting.round ≡ false
-    → IsAt streets betting → IsAt (dealt_on start betting.left streets) betting
+    → IsAt start streets betting → IsAt start (dealt_on start betting.left streets) betting
 at-open start streets betting open_ at =
     let same = dealt_on-open start betting.left streets (ap has_ended (sym at.round) ∙ open_) in rw same at
 
 -- A hand whose street has ended stands on the streets that begin after the next.
 pub at-ended : (start : HandStart) (streets : Streets) (betting next after : Betting) → betting.left ≢ 0
-    → has_ended betting.round ≡ true → next.left + 1 ≡ betting.left → IsAt streets betting
-    → IsAt (dealt_on start next.left (with_next_street start streets)) after
-    → IsAt (dealt_on start betting.left streets) after
+    → has_ended betting.round ≡ true → next.left + 1 ≡ betting.left → IsAt start streets betting
+    → IsAt start (dealt_on start next.left (with_next_street start streets)) after
+    → IsAt start (dealt_on start betting.left streets) after
 at-ended start streets betting next after some ended left at rest =
     let same = dealt_on-ended start betting.left streets (omega arith) (ap has_ended (sym at.round) ∙ ended) in
     let one : betting.left - 1 ≡ next.left = omega arith in

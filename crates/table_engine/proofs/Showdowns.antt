@@ -1,5 +1,5 @@
 -- What a showdown asks for, and what its awards come to.
-use Rattle.std.proofs.Common.{◌≡◌, ◌∙◌, ℕ, zero, suc, ◌-◌, ◌%◌, ◌≤◌, ◌<◌, ◌^◌, Bool, true, false, cond, List, [], ◌∷◌, ◌++◌, length, map, sum, Some, None, refl, ap, sym, subst, arith}
+use Rattle.std.proofs.Common.{◌≡◌, ◌∙◌, ℕ, zero, suc, ◌-◌, ◌%◌, ◌≤◌, ◌<◌, ◌^◌, Bool, true, false, cond, List, [], ◌∷◌, ◌++◌, length, map, sum, Some, None, refl, ap, sym, subst, arith, ◌+◌}
 use Rattle.std.specs.Prelude.{Option, ◌==◌, slice_index_or, sum_by}
 use Rattle.std.specs.List.{list_all}
 use Rattle.std.specs.Option.{is_some, option_map_or}
@@ -20,8 +20,7 @@ use Rattle.pot_layers.specs.declared.put.Put.{Put}
 use Rattle.pot_layers.specs.Layers.{is_contested, layers}
 use Rattle.pot_layers.specs.PotTests.{are_for, are_whole_pots, are_whole_puts, have_somebody, live_seats, total_of}
 use Rattle.pot_layers.specs.Tallies.{total_put}
-use Rattle.pot_layers.proofs.PotLaws.{layers-live, layers-somebody, total_of-layers}
-use Rattle.pot_layers.proofs.WholeLayers.{layers-whole}
+use Rattle.pot_layers.proofs.DeadChips.{contested-some, layers-live, layers-somebody, layers-whole, total_of-layers}
 use Rattle.showdown.specs.declared.live.Live.{Live}
 use Rattle.showdown.specs.Hands.{AreDealtApart, hands_of, hole_cards}
 use Rattle.showdown.proofs.AwardLaws.{sum-awards_of}
@@ -30,22 +29,23 @@ use Rattle.showdown.proofs.Writes.{seats-hands_of}
 use Rattle.table_engine.specs.declared.start.HandStart.{HandStart}
 use Rattle.table_engine.specs.declared.start.StartSeat.{StartSeat}
 use Rattle.table_engine.specs.Deals.{board_of, tabled}
-use Rattle.table_engine.specs.Hands.{HandTerms, is_live, is_over, players_by_seat, put_in_hand, street_of}
+use Rattle.table_engine.specs.Hands.{HandTerms, dead_chips, is_live, is_over, players_by_seat, put_in_hand, street_of}
 use Rattle.table_engine.specs.Plays.{IsLawfulPlay}
-use Rattle.table_engine.specs.Results.{is_won_by_folds, live_in_hand, live_on, pot, put_at, puts_in_hand, showdown_awards}
+use Rattle.table_engine.specs.Results.{is_won_by_folds, live_in_hand, live_on, pot, pots_in_hand, put_at, puts_in_hand, showdown_awards}
 use Rattle.table_engine.specs.Starts.{IsLawfulStart}
 use Rattle.table_engine.proofs.BySeat.{some-at, sum-of_start}
 use Rattle.table_engine.proofs.Contested.{hand-contested}
 use Rattle.table_engine.proofs.Puts.{hand-few, listed-found}
-use Rattle.table_engine.proofs.StacksAfter.{put-whole}
+use Rattle.table_engine.proofs.StacksAfter.{dead-whole, put-whole}
 use Rattle.table_engine.proofs.Tabled.{dealt-table, listed-dealt, player-apart}
 use Rattle.table_engine.proofs.WholeUnits.{found-playable}
 
 -- What a showdown asks for of a hand.
 pub record IsShowdown (hand : HandTerms) : Type 0 where
   pub contested : is_contested (puts_in_hand hand) ≡ true
-  pub fits : total_put (puts_in_hand hand) < 2 ^ 53
+  pub fits : total_put (puts_in_hand hand) + dead_chips hand.start < 2 ^ 53
   pub whole : are_whole_puts hand.start.blind.unit (puts_in_hand hand) ≡ true
+  pub dead : dead_chips hand.start % hand.start.blind.unit ≡ 0
   pub alike : map is_some (live_in_hand hand) ≡ live_seats (puts_in_hand hand)
   pub table : AreSeatsOf hand.start.seat_count (map is_some (live_in_hand hand))
 
@@ -107,6 +107,7 @@ is-showdown hand lawful play over many =
           (λ index player listed.
           let found = listed-found start index player listed in
           put-whole hand player lawful play found.1 (found-playable start player.seat player lawful found.1).1);
+      dead = dead-whole start lawful;
       alike = alike-players hand (players_by_seat start);
       table = record { within = λ seat sits. by_seat seat sits };
     }
@@ -150,17 +151,19 @@ live-is hand street is = ap (λ (s : Street). map (live_on hand.start s) (player
 -- The awards of a showdown, by its cards and pots.
 pub showdown-is : (hand : HandTerms) (board : List Card) (live : List (Option Live)) (pots : List Pot)
     → board ≡ board_of hand.start
-    → live ≡ live_in_hand hand → pots ≡ layers (puts_in_hand hand)
+    → live ≡ live_in_hand hand → pots ≡ pots_in_hand hand
     → awards_of (hands_of hand.start.game board live) hand.start.blind.unit hand.start.marks.button
     hand.start.seat_count
     pots ≡ showdown_awards hand
 unfolding showdown_awards
 showdown-is hand board live pots cards players cut = rw (cards, players, cut) refl
 
--- What was put in is the pot.
-pub put-pot : (hand : HandTerms) → IsLawfulStart hand.start → total_put (puts_in_hand hand) ≡ pot hand
+-- What was put in and the antes are the pot.
+pub put-pot : (hand : HandTerms) → IsLawfulStart hand.start
+    → total_put (puts_in_hand hand) + dead_chips hand.start ≡ pot hand
 unfolding puts_in_hand
-put-pot hand lawful = along (players_by_seat hand.start) ∙ sum-of_start hand.start (put_in_hand hand) lawful
+put-pot hand lawful = ap (λ (n : ℕ). n + dead_chips hand.start)
+    (along (players_by_seat hand.start) ∙ sum-of_start hand.start (put_in_hand hand) lawful)
   where
     along : (players : List (Option StartSeat)) → total_put (map (put_at hand) players) ≡ sum_over (put_in_hand hand)
         players
@@ -172,23 +175,27 @@ put-pot hand lawful = along (players_by_seat hand.start) ∙ sum-of_start hand.s
         let all = sum_by-cons (λ (put : Put). put.amount) (put_at hand (Some player)) (map (put_at hand) players) in
         let later = along players in omega arith
 
--- The pots of a hand sum to all that was put in.
-pub pots-sum : (hand : HandTerms) → IsLawfulStart hand.start → total_of (layers (puts_in_hand hand)) ≡ pot hand
-pots-sum hand lawful = total_of-layers (puts_in_hand hand) ∙ put-pot hand lawful
+-- The pots of a hand sum to all that was put in and the antes, where somebody has put in a chip.
+pub pots-sum : (hand : HandTerms) → IsLawfulStart hand.start → 0 < total_put (puts_in_hand hand)
+    → total_of (pots_in_hand hand) ≡ pot hand
+unfolding pots_in_hand
+pots-sum hand lawful some =
+    total_of-layers (puts_in_hand hand) (dead_chips hand.start) some ∙ put-pot hand lawful
 
 -- The pots of a showdown are for its live players, somebody may win each of them, and they are of whole units.
 pub record ArePots (hand : HandTerms) : Type 0 where
-  pub own : are_for (map is_some (live_in_hand hand)) (layers (puts_in_hand hand)) ≡ true
-  pub somebody : have_somebody (layers (puts_in_hand hand)) ≡ true
-  pub units : are_whole_pots hand.start.blind.unit (layers (puts_in_hand hand)) ≡ true
+  pub own : are_for (map is_some (live_in_hand hand)) (pots_in_hand hand) ≡ true
+  pub somebody : have_somebody (pots_in_hand hand) ≡ true
+  pub units : are_whole_pots hand.start.blind.unit (pots_in_hand hand) ≡ true
 
 -- A hand that comes to a showdown has pots of whole units for its live players, and somebody may win each.
 pub are-pots : (hand : HandTerms) → IsShowdown hand → ArePots hand
+unfolding pots_in_hand
 are-pots hand showdown = record {
-  own = subst (λ (set : List Bool). are_for set (layers (puts_in_hand hand)) ≡ true) (sym showdown.alike)
-      (layers-live (puts_in_hand hand));
-  somebody = layers-somebody (puts_in_hand hand) showdown.contested;
-  units = layers-whole (puts_in_hand hand) hand.start.blind.unit showdown.whole;
+  own = subst (λ (set : List Bool). are_for set (layers (puts_in_hand hand) (dead_chips hand.start)) ≡ true)
+      (sym showdown.alike) (layers-live (puts_in_hand hand) (dead_chips hand.start));
+  somebody = layers-somebody (puts_in_hand hand) (dead_chips hand.start) showdown.contested;
+  units = layers-whole (puts_in_hand hand) (dead_chips hand.start) hand.start.blind.unit showdown.whole showdown.dead;
 }
 
 -- The awards of a showdown sum to the pot.
@@ -199,11 +206,11 @@ awards-sum hand lawful showdown =
     let seats = sym (seats-hands_of hand.start.game (board_of hand.start) (live_in_hand hand)) in
     sum-awards_of (hands_of hand.start.game (board_of hand.start) (live_in_hand hand)) hand.start.blind.unit
     hand.start.marks.button hand.start.seat_count
-    (layers (puts_in_hand hand)) lawful.most_seats lawful.marks.button
+    (pots_in_hand hand) lawful.most_seats lawful.marks.button
     (subst (λ (set : List Bool). AreSeatsOf hand.start.seat_count set) seats showdown.table)
-    (subst (λ (set : List Bool). are_for set (layers (puts_in_hand hand)) ≡ true) seats pots.own)
+    (subst (λ (set : List Bool). are_for set (pots_in_hand hand) ≡ true) seats pots.own)
     pots.somebody pots.units
-    ∙ total_of-layers (puts_in_hand hand) ∙ put-pot hand lawful
+    ∙ pots-sum hand lawful (contested-some (puts_in_hand hand) showdown.contested)
 
 -- There are ten awards.
 awards-ten : (hand : HandTerms) → length (showdown_awards hand) ≡ 10
@@ -211,7 +218,7 @@ unfolding showdown_awards
 awards-ten hand =
     length-awards_of (hands_of hand.start.game (board_of hand.start) (live_in_hand hand)) hand.start.blind.unit
     hand.start.marks.button hand.start.seat_count
-    (layers (puts_in_hand hand))
+    (pots_in_hand hand)
 
 -- Each award is a multiple of the unit.
 pub awards-whole : (hand : HandTerms)
@@ -220,7 +227,7 @@ unfolding showdown_awards
 awards-whole hand =
     whole-awards_of (hands_of hand.start.game (board_of hand.start) (live_in_hand hand)) hand.start.blind.unit
     hand.start.marks.button hand.start.seat_count
-    (layers (puts_in_hand hand))
+    (pots_in_hand hand)
 
 -- Nobody is live where nobody is dealt in.
 none-live : (start : HandStart) (street : Street) (players : List (Option StartSeat)) (index : ℕ)
@@ -246,9 +253,9 @@ awards-nobody hand showdown index nobody =
     let seats = sym (seats-hands_of hand.start.game (board_of hand.start) (live_in_hand hand)) in
     none-awards_of (hands_of hand.start.game (board_of hand.start) (live_in_hand hand)) hand.start.blind.unit
     hand.start.marks.button hand.start.seat_count
-    (layers (puts_in_hand hand)) index
+    (pots_in_hand hand) index
     (subst (λ (set : List Bool). has_seat set (suc index) ≡ false) seats (nobody-live hand index nobody))
-    (subst (λ (set : List Bool). are_for set (layers (puts_in_hand hand)) ≡ true) seats pots.own)
+    (subst (λ (set : List Bool). are_for set (pots_in_hand hand) ≡ true) seats pots.own)
 
 -- Numbers by seats, and a list of numbers that has them at their indices and nothing elsewhere.
 sum-indices : (number : StartSeat → ℕ) (players : List (Option StartSeat)) (numbers : List ℕ)

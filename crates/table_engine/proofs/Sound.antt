@@ -25,6 +25,7 @@ use Rattle.betting_round.specs.Limits.{Limits}
 use Rattle.betting_round.specs.Running.{amount_of, moved, placed}
 use Rattle.betting_round.specs.StreetActs.{IsStreetStart, SeatAct, StreetStart, at_next_street, fresh, greatest, next_bettors, street_after, sum_over}
 use Rattle.betting_round.specs.WhoIsDue.{player_at}
+use Rattle.limit_betting.specs.Wagers.{limits_after, wagers}
 use Rattle.betting_round.proofs.Acted.{Acts, still, still-falls, who-acts}
 use Rattle.betting_round.proofs.Steps.{map_at, street_start_is, street_stepped, sum_map, sum_set}
 use Rattle.table_engine.specs.declared.record.ActOf.{ActOf}
@@ -32,28 +33,29 @@ use Rattle.table_engine.specs.declared.betting.Betting.{Betting}
 use Rattle.table_engine.specs.declared.start.HandStart.{HandStart}
 use Rattle.table_engine.specs.declared.start.StartSeat.{StartSeat}
 use Rattle.table_engine.specs.Acts.{limits_of, limits_on, refusal_in_seat, refusal_of_act}
-use Rattle.table_engine.specs.Hands.{HandTerms, StreetPlayed, Streets, dealt_on, first_street, first_streets, has_ended, later_street, player_of, players_by_seat, posted, put_from, put_on, seat_of_name, seated, street_now, streets_of, with_act, with_next_street}
+use Rattle.table_engine.specs.Hands.{HandTerms, StreetPlayed, Streets, dead_chips, dealt_on, first_street, first_streets, has_ended, later_street, player_of, players_by_seat, playing, posted, put_from, put_on, seat_of_name, seated, street_now, streets_of, with_act, with_next_street}
 use Rattle.table_engine.specs.Plays.{IsLawfulPlay, are_lawful_after}
 use Rattle.table_engine.specs.Running.{IsAt, IsReady}
 use Rattle.table_engine.specs.Starts.{IsLawfulStart, chips_of}
 use Rattle.table_engine.proofs.BySeat.{along-at, along-past, player_in-there, sum-of_start}
 use Rattle.table_engine.proofs.Refusals.{refused-in_seat, refused-without_seat}
-use Rattle.table_engine.proofs.Running.{lawful-small, ready-act, ready-start, right-next, somes-street, streets-more, streets-none}
-use Rattle.table_engine.proofs.Starts.{right-first}
-use Rattle.table_engine.proofs.WholeUnits.{amount-whole, blinds-lawful, found-playable, posted-whole}
+use Rattle.table_engine.proofs.Running.{lawful-bet, lawful-small, ready-act, ready-start, right-next, somes-street, streets-more, streets-none}
+use Rattle.table_engine.proofs.Starts.{few-first, right-first}
+use Rattle.table_engine.proofs.WholeUnits.{amount-whole, blinds-lawful, found-playable, playing-whole, posted-whole}
 
 -- What the player in a seat has put in on all streets so far.
 abbrev pub put_by_seat : ℕ → Streets → ℕ
 put_by_seat seat streets = put_from seat streets.last + sum_by (put_from seat) streets.before
 
 -- What holds of a player of a street: he has put in no more than the bet level, he is live or has chips behind, his
--- chips are multiples of the unit, and what he has behind and has put in is the stack with which he began.
+-- chips are multiples of the unit, and what he has behind and has put in is what he had to play with.
 pub record IsPlayerSound (start : HandStart) (street : Street) (put_in seat : ℕ) (now : Player) : Type 0 where
   pub met : now.bettor.put ≤ street.level
   pub more : (now.bettor.live || nat_lt 0 now.bettor.behind) ≡ true
   pub put : now.bettor.put % start.blind.unit ≡ 0
   pub behind : now.bettor.behind % start.blind.unit ≡ 0
-  pub stack : (player : StartSeat) → player_of start seat ≡ Some player → now.bettor.behind + put_in ≡ player.stack
+  pub stack : (player : StartSeat) → player_of start seat ≡ Some player → now.bettor.behind + put_in
+      ≡ playing start player
 
 -- Somebody is in each slot of each of these streets where one is dealt in at its seat.
 abbrev pub AreThere : HandStart → List StreetPlayed → Type 0
@@ -62,14 +64,20 @@ AreThere start (played ∷ streets) =
     (map is_some (street_after played.start played.acts).players
     ≡ map is_some (players_by_seat start)) × AreThere start streets
 
--- The betting that stands for these streets.
-abbrev pub betting_on : Streets → Betting
-betting_on streets = record { round = street_now streets; before = sum_by put_on streets.before; left = streets.left }
+-- The betting that stands for these streets of a hand.
+abbrev pub betting_on : HandStart → Streets → Betting
+betting_on start streets = record {
+  round = street_now streets;
+  before = dead_chips start + sum_by put_on streets.before;
+  left = streets.left;
+  bet = streets.last.start.big;
+  wagers = wagers streets.last.start streets.last.acts;
+}
 
 -- What holds of the streets of a lawful play after so many acts.
 pub record IsSound (start : HandStart) (streets : Streets) (acts : ℕ) : Type 0 where
   pub right : IsStreetStart streets.last.start
-  pub ready : IsReady (betting_on streets)
+  pub ready : IsReady (betting_on start streets)
   pub unit : (street_now streets).unit ≡ start.blind.unit
   pub there : map is_some (street_now streets).players ≡ map is_some (players_by_seat start)
   pub earlier : AreThere start streets.before
@@ -171,10 +179,20 @@ placed-is limits start acts entry now right acted =
     (amount_of street.level player entry.act)) slot street) acted.sits
 
 -- The least bet or raise of each game is a full raise above the bet level.
-pub least-of_game : (game : Game) (facing : Facing) → (limits_of game).least facing ≡ facing.level + facing.full
+least-of_game : (game : Game) (facing : Facing) → (limits_of game).least facing ≡ facing.level + facing.full
 least-of_game Holdem facing = refl
 least-of_game Omaha facing = refl
 least-of_game Hilo facing = refl
+
+-- So it is on each street, by fixed limit too.
+pub least-on : (start : HandStart) (streets : Streets) (facing : Facing)
+    → (limits_on start streets).least facing ≡ facing.level + facing.full
+least-on start streets facing = by_cap (start.cap == 0)
+  where
+    by_cap : (none : Bool) → (cond none (limits_of start.game)
+        (limits_after start.cap streets.last.start streets.last.acts)).least facing ≡ facing.level + facing.full
+    by_cap true = least-of_game start.game facing
+    by_cap false = refl
 
 -- What holds of the streets after an act that is not refused.
 pub sound-act : (start : HandStart) (streets : Streets) (acts : ℕ) (seat : ℕ) (act : Act) → IsSound start streets acts
@@ -192,13 +210,15 @@ sound-act start streets acts seat act sound free =
     let is : street_now after ≡ placed street seat now act put_in =
     placed-is limits streets.last.start streets.last.acts entry now sound.right acted in
     let his = sound.each seat now acted.low acted.sits in
-    let falls = still-falls limits street seat act now acted (least-of_game start.game _) sound.full his.met in
+    let falls = still-falls limits street seat act now acted (least-on start streets _) sound.full his.met in
     let sums = sum_set (seat - 1) still now (moved put_in now act) street.players acted.sits in
     let same = ap (λ (s : Street). sum_over still s.players) is in
-    let at : IsAt streets (betting_on streets) = record {
+    let at : IsAt start streets (betting_on start streets) = record {
       round = refl;
       before = refl;
       left = refl;
+      bet = refl;
+      wagers = refl;
       right =
           sound.right;
     } in
@@ -210,7 +230,8 @@ sound-act start streets acts seat act sound free =
     let short = sound.short in
     record {
       right = sound.right;
-      ready = ready-act limits streets (betting_on streets) (betting_on after) seat act at sound.ready free refl refl;
+      ready = ready-act start limits streets (betting_on start streets) (betting_on start after) seat act at sound.ready free refl refl
+          refl refl;
       unit = ap (λ (s : Street). s.unit) is ∙ sound.unit;
       there = somes-street streets.last.start (entry ∷ streets.last.acts)
           ∙ sym (somes-street streets.last.start streets.last.acts) ∙ sound.there;
@@ -359,11 +380,11 @@ sound-next start streets acts lawful sound some =
     let street = street_now streets in
     let next = later_street start streets in
     let began = street_start_is next in
-    let right : IsStreetStart next = right-next start (betting_on streets) next.counted lawful sound.ready
+    let right : IsStreetStart next = right-next start (betting_on start streets) next.counted (streets.left - 1) lawful sound.ready
     (omega arith) in
     let all = sum_by-cons put_on streets.last streets.before in
     let blinds = blinds-lawful start lawful in
-    let big = blinds.some in
+    let big = (lawful-bet start (streets.left - 1) lawful).0 in
     let level = level-next start streets in
     let players = ap (λ (s : Street). s.players) began in
     let still_now : sum_over still (street_after next []).players
@@ -377,7 +398,8 @@ sound-next start streets acts lawful sound some =
     let short = sound.short in
     record {
       right = right;
-      ready = ready-start next (betting_on (with_next_street start streets)) right refl (omega arith);
+      ready = ready-start next (betting_on start (with_next_street start streets)) right refl
+          (let few = right.chips in omega arith) refl big refl;
       unit = ap (λ (s : Street). s.unit) began;
       there = somes-street next [] ∙ somes-made at_next_street street.players ∙ sound.there;
       earlier = (sound.there, sound.earlier);
@@ -466,7 +488,7 @@ each-first start seat now lawful low there =
     let big = posted-most start player small in
     let least = greatest-least start.blind.big (λ (bettor : Bettor). bettor.put) first.bettors in
     let level = ap (λ (s : Street). s.level) began in
-    let held : posted start player ≤ player.stack = omega arith in
+    let held : posted start player ≤ playing start player = omega arith in
     let put = ap (λ (p : Player). p.bettor.put) is in
     let mine = put_from-there (first_streets start).last seat now low there in
     let sound_so : IsPlayerSound start (street_after first []) (put_by_seat seat (first_streets start)) seat
@@ -474,10 +496,11 @@ each-first start seat now lawful low there =
       met = omega arith;
       more = refl;
       put = posted_so;
-      behind = multiple-sub start.blind.unit player.stack (posted start player) held stack.1 posted_so;
+      behind = multiple-sub start.blind.unit (playing start player) (posted start player) held
+          (playing-whole start player blinds stack.1) posted_so;
       stack = λ other same.
           let him : player ≡ other = (let both : Some player ≡ Some other = sym found ∙ same in cc) in
-          let his = ap (λ (p : StartSeat). p.stack) him in
+          let his = ap (playing start) him in
           omega arith;
     } in
     subst (λ (p : Player). IsPlayerSound start (street_after first []) (put_by_seat seat (first_streets start)) seat p)
@@ -502,7 +525,8 @@ sound-first start lawful =
     let ten : length (players_by_seat start) * 2 ≡ 20 = refl in
     record {
       right = right;
-      ready = ready-start first (betting_on (first_streets start)) right refl (omega arith);
+      ready = ready-start first (betting_on start (first_streets start)) right refl
+          (let few = few-first start lawful in omega arith) refl some refl;
       unit = ap (λ (s : Street). s.unit) began;
       there = somes-street first [] ∙ somes-made (seated start) (players_by_seat start);
       earlier = tt;

@@ -1,5 +1,5 @@
 -- The first street of a hand that starts lawfully.
-use Rattle.std.proofs.Common.{◌≡◌, ℕ, zero, suc, ◌+◌, ◌*◌, ◌≤◌, ◌^◌, true, List, [], ◌∷◌, map, Some, None, refl, arith}
+use Rattle.std.proofs.Common.{◌≡◌, ℕ, zero, suc, ◌+◌, ◌*◌, ◌≤◌, ◌^◌, Bool, true, false, cond, List, [], ◌∷◌, map, Some, None, refl, arith, ◌<◌}
 use Rattle.std.specs.Prelude.{Option, ◌==◌, nat_le, option_map, sum_by}
 use Rattle.std.specs.List.{list_all}
 use Rattle.std.proofs.Math.Nat.{suc-mul}
@@ -8,12 +8,13 @@ use Rattle.std.proofs.lemmas.Bool.Decides.{nat_tests}
 use Rattle.std.proofs.lemmas.List.Sums.{sum_by-cons}
 use Rattle.rulebook.specs.Seats.{walk}
 use Rattle.rulebook.proofs.Tests.{find-all, find-passes, list_all-follows}
-use Rattle.betting_round.specs.StreetActs.{AreSeated, IsStreetStart, chips_of, sum_over}
+use Rattle.betting_round.specs.StreetActs as acts
+use Rattle.betting_round.specs.StreetActs.{AreSeated, IsStreetStart, sum_over}
 use Rattle.betting_round.proofs.Steps.{sum_map}
 use Rattle.table_engine.specs.declared.start.HandStart.{HandStart}
 use Rattle.table_engine.specs.declared.start.StartSeat.{StartSeat}
-use Rattle.table_engine.specs.Starts.{IsLawfulStart}
-use Rattle.table_engine.specs.Hands.{blind_of, first_street, lacking, player_of, players_by_seat, seated}
+use Rattle.table_engine.specs.Starts.{IsLawfulStart, chips_of}
+use Rattle.table_engine.specs.Hands.{ante_posted, blind_of, dead_chips, first_street, lacking, player_of, players_by_seat, seated}
 use Rattle.table_engine.proofs.Running.{lawful-big, lawful-small, lawful-unit}
 
 -- Who is found at a seat sits there.
@@ -79,17 +80,54 @@ few-lacking start lawful =
     sum-by_seat start (lacking start) 1000000000 10 0
     (λ seat player found. let most = blind-most start player.seat lawful in omega arith)
 
-few-stacks : (start : HandStart) → IsLawfulStart start
-    → sum_over chips_of (map (option_map (seated start)) (players_by_seat start)) ≤ 10 * 2 ^ 53
+pub few-stacks : (start : HandStart) → IsLawfulStart start
+    → sum_over acts.chips_of (map (option_map (seated start)) (players_by_seat start)) ≤ 10 * 2 ^ 53
 few-stacks start lawful =
-    let made = sum_map chips_of (seated start) (players_by_seat start) in
+    let made = sum_map acts.chips_of (seated start) (players_by_seat start) in
     let few = lawful.chips in
-    let most = sum-by_seat start (λ player. chips_of (seated start player)) (2 ^ 53) 10 0 (λ seat player found.
+    let most = sum-by_seat start (λ player. acts.chips_of (seated start player)) (2 ^ 53) 10 0 (λ seat player found.
     let stack = leb-true player.stack _ (find-all (λ (other : StartSeat). other.seat == seat)
     (λ (other : StartSeat). nat_le other.stack (sum_by
     (λ (o : StartSeat). o.stack) start.seats)) start.seats player found
     (each-in_sum (λ (o : StartSeat). o.stack) start.seats)) in
     omega arith) in
+    omega arith
+
+-- The antes are no more than the stacks.
+pub few-dead : (start : HandStart) → dead_chips start ≤ chips_of start.seats
+few-dead start = by_list start.seats
+  where
+    by_list : (players : List StartSeat) → sum_by (ante_posted start) players ≤ sum_by (λ player. player.stack) players
+    by_list [] = omega arith
+    by_list (player ∷ players) =
+        let ante = sum_by-cons (ante_posted start) player players in
+        let stack = sum_by-cons (λ (other : StartSeat). other.stack) player players in
+        let later = by_list players in
+        omega arith
+
+-- Where the level has no ante nobody posts one.
+pub no-dead : (start : HandStart) → start.blind.ante ≡ 0 → dead_chips start ≡ 0
+no-dead start none = by_list start.seats
+  where
+    none_due : (big : Bool) → cond big start.blind.ante 0 ≡ 0
+    none_due true = none
+    none_due false = refl
+
+    by_list : (players : List StartSeat) → sum_by (ante_posted start) players ≡ 0
+    by_list [] = refl
+    by_list (player ∷ players) =
+        let due = none_due (player.seat == start.marks.big) in
+        let all = sum_by-cons (ante_posted start) player players in
+        let later = by_list players in
+        omega (arith, due, all, later)
+
+-- What the players of a hand that starts lawfully have and the antes are far from the end of their type.
+pub few-first : (start : HandStart) → IsLawfulStart start
+    → dead_chips start + sum_over acts.chips_of (first_street start).bettors < 2 ^ 60
+few-first start lawful =
+    let dead = few-dead start in
+    let stacks = few-stacks start lawful in
+    let chips = lawful.chips in
     omega arith
 
 -- The first street of a hand that starts lawfully begins as a street may.

@@ -9,19 +9,19 @@ use Rattle.std.proofs.lemmas.List.Sums.{sum_by-cons}
 use Rattle.button_blinds.specs.SeatSets.{AreSeatsOf, has_seat, no_seats}
 use Rattle.pot_layers.specs.declared.pot_list.Pot.{Pot}
 use Rattle.pot_layers.specs.declared.put.Put.{Put}
-use Rattle.pot_layers.specs.Layers.{is_nobody, layers}
+use Rattle.pot_layers.specs.Layers.{is_nobody}
 use Rattle.pot_layers.specs.PotTests.{are_all_in, are_for, are_others_within, has_put}
 use Rattle.pot_layers.specs.Tallies.{total_put}
-use Rattle.pot_layers.proofs.OwnPot.{own-pot}
+use Rattle.pot_layers.proofs.DeadChips.{own-pot}
 use Rattle.showdown.specs.Hands.{hands_of}
 use Rattle.showdown.proofs.PotAwards.{some-in_play}
 use Rattle.showdown.proofs.SoleWinner.{awards_of-sole}
 use Rattle.showdown.proofs.Writes.{seats-hands_of}
 use Rattle.table_engine.specs.declared.start.StartSeat.{StartSeat}
 use Rattle.table_engine.specs.Deals.{board_of}
-use Rattle.table_engine.specs.Hands.{HandTerms, is_live, is_over, players_by_seat, put_in_hand}
+use Rattle.table_engine.specs.Hands.{HandTerms, dead_chips, is_live, is_over, players_by_seat, put_in_hand}
 use Rattle.table_engine.specs.Plays.{IsLawfulPlay}
-use Rattle.table_engine.specs.Results.{award, is_won_by_folds, live_in_hand, pot, put_at, puts_in_hand, showdown_awards}
+use Rattle.table_engine.specs.Results.{award, is_won_by_folds, live_in_hand, pot, pots_in_hand, put_at, puts_in_hand, showdown_awards}
 use Rattle.table_engine.specs.Starts.{IsLawfulStart}
 use Rattle.table_engine.proofs.Puts.{listed-found}
 use Rattle.table_engine.proofs.Showdowns.{IsShowdown, are-pots, is-showdown, put-pot}
@@ -70,26 +70,26 @@ uncalled-shown : (hand : HandTerms) (index height : ℕ) (player : StartSeat) �
     → are_others_within (puts_in_hand hand) index height ≡ true
     → height < put_in_hand hand player → index < 10
     → put_in_hand hand player ≤ height + slice_index_or (showdown_awards hand) index 0
-unfolding showdown_awards puts_in_hand
+unfolding showdown_awards puts_in_hand pots_in_hand
 uncalled-shown hand index height player lawful showdown listed put others above within =
     let hands = hands_of hand.start.game (board_of hand.start) (live_in_hand hand) in
-    let own = own-pot (puts_in_hand hand) index (put_in_hand hand player) height refl put others above in
+    let own = own-pot (puts_in_hand hand) (dead_chips hand.start) index (put_in_hand hand player) height refl put others above in
     let pots = are-pots hand showdown in
     let seats = sym (seats-hands_of hand.start.game (board_of hand.start) (live_in_hand hand)) in
-    let live = subst (λ (set : List Bool). are_for set (layers (puts_in_hand hand)) ≡ true) seats pots.own in
+    let live = subst (λ (set : List Bool). are_for set (pots_in_hand hand) ≡ true) seats pots.own in
     let gets = awards_of-sole hands hand.start.blind.unit hand.start.marks.button hand.start.seat_count
-    (layers (puts_in_hand hand)) own.below own.pot index own.highest within
+    (pots_in_hand hand) own.below own.pot index own.highest within
     (record {
       most = lawful.most_seats;
       at = lawful.marks.button;
       table = subst (λ (set : List Bool). AreSeatsOf hand.start.seat_count set) seats showdown.table;
       somebody = some-in_play own.pot.eligible hands
-          (last-of (λ pot. not (is_nobody pot.eligible)) (layers (puts_in_hand hand)) own.below own.pot own.highest
+          (last-of (λ pot. not (is_nobody pot.eligible)) (pots_in_hand hand) own.below own.pot own.highest
           pots.somebody)
-          (last-of (λ pot. are_all_in pot.eligible (map is_some hands)) (layers (puts_in_hand hand)) own.below own.pot
+          (last-of (λ pot. are_all_in pot.eligible (map is_some hands)) (pots_in_hand hand) own.below own.pot
           own.highest live);
       whole = eqb-true (own.pot.amount % hand.start.blind.unit) 0
-          (last-of (λ pot. pot.amount % hand.start.blind.unit == 0) (layers (puts_in_hand hand)) own.below own.pot
+          (last-of (λ pot. pot.amount % hand.start.blind.unit == 0) (pots_in_hand hand) own.below own.pot
           own.highest pots.units);
     })
     (λ other differ. ap (λ (set : List Bool). has_seat set (suc other)) own.own

@@ -19,7 +19,7 @@ use Rattle.level_plan.specs.Limits.{greatest_amount}
 use Rattle.table_engine.specs.declared.start.HandStart.{HandStart}
 use Rattle.table_engine.specs.declared.start.StartSeat.{StartSeat}
 use Rattle.table_engine.specs.Starts.{IsLawfulStart, is_playable_stack}
-use Rattle.table_engine.specs.Hands.{blind_of, player_of, posted}
+use Rattle.table_engine.specs.Hands.{ante_of, ante_posted, blind_of, player_of, playing, posted}
 
 is-whole : (n unit : ℕ) → not (not (n % unit == 0)) ≡ true → n % unit ≡ 0
 is-whole n unit so = grind (arith, nat_tests)
@@ -72,6 +72,7 @@ pub record AreBlinds (start : HandStart) : Type 0 where
   pub unit : 0 < start.blind.unit
   pub small : start.blind.small % start.blind.unit ≡ 0
   pub big : start.blind.big % start.blind.unit ≡ 0
+  pub ante : start.blind.ante % start.blind.unit ≡ 0
   pub some : 0 < start.blind.big
 
 -- The blinds of a lawful start are multiples of a unit above 0, and the big blind is above 0.
@@ -81,12 +82,15 @@ blinds-lawful start lawful =
     let b = and_parts (nat_le 1 start.blind.small) _ a.1 in
     let c = and_parts (nat_le start.blind.small start.blind.big) _ b.1 in
     let d = and_parts (nat_le start.blind.big greatest_amount) _ c.1 in
-    let e = and_parts (start.blind.small % start.blind.unit == 0) (start.blind.big % start.blind.unit == 0) d.1 in
+    let e = and_parts (start.blind.small % start.blind.unit == 0) _ d.1 in
+    let f = and_parts (start.blind.big % start.blind.unit == 0) _ e.1 in
+    let g = and_parts (nat_le start.blind.ante greatest_amount) (start.blind.ante % start.blind.unit == 0) f.1 in
     let unit : 0 < start.blind.unit = grind (arith, nat_tests) in
     let some : 0 < start.blind.big = grind (arith, nat_tests) in
     let small : start.blind.small % start.blind.unit ≡ 0 = grind (arith, nat_tests) in
     let big : start.blind.big % start.blind.unit ≡ 0 = grind (arith, nat_tests) in
-    record { unit = unit; small = small; big = big; some = some }
+    let ante : start.blind.ante % start.blind.unit ≡ 0 = grind (arith, nat_tests) in
+    record { unit = unit; small = small; big = big; ante = ante; some = some }
 
 -- A stack that can be played with is above 0 and a multiple of the unit.
 pub playable-parts : (unit stack : ℕ) → is_playable_stack unit stack ≡ true → (0 < stack) × (stack % unit ≡ 0)
@@ -123,3 +127,37 @@ pub posted-whole : (start : HandStart) (player : StartSeat) → AreBlinds start 
     → posted start player % start.blind.unit ≡ 0
 posted-whole start player blinds whole =
     multiple-min start.blind.unit player.stack (blind_of start player.seat) whole (blind-whole start player.seat blinds)
+
+-- An ante is a multiple of the unit.
+ante_of-whole : (start : HandStart) (seat : ℕ) → AreBlinds start → ante_of start seat % start.blind.unit ≡ 0
+ante_of-whole start seat blinds =
+    elim (cases_Bool (seat == start.marks.big)) [
+      | inl is ↦ rw is blinds.ante
+      | inr other ↦ rw other (zero-mod start.blind.unit)
+    ]
+
+-- What a player posts as the ante is a multiple of the unit where his stack is.
+pub ante-whole : (start : HandStart) (player : StartSeat) → AreBlinds start → player.stack % start.blind.unit ≡ 0
+    → ante_posted start player % start.blind.unit ≡ 0
+ante-whole start player blinds whole =
+    multiple-min start.blind.unit (player.stack - posted start player) (ante_of start player.seat)
+    (multiple-sub start.blind.unit player.stack (posted start player) (omega arith) whole
+    (posted-whole start player blinds whole))
+    (ante_of-whole start player.seat blinds)
+
+-- What a player has to play with is a multiple of the unit where his stack is.
+pub playing-whole : (start : HandStart) (player : StartSeat) → AreBlinds start → player.stack % start.blind.unit ≡ 0
+    → playing start player % start.blind.unit ≡ 0
+playing-whole start player blinds whole =
+    multiple-sub start.blind.unit player.stack (ante_posted start player) (omega arith) whole
+    (ante-whole start player blinds whole)
+
+-- A player of a lawful start has something to play with: who owes an ante has posted a blind.
+pub playing-some : (start : HandStart) (player : StartSeat) → AreBlinds start → 0 < player.stack
+    → 0 < playing start player
+playing-some start player blinds some =
+    let big = blinds.some in
+    elim (cases_Bool (player.seat == start.marks.big)) [
+      | inl is ↦ rw is (omega arith)
+      | inr other ↦ rw other (omega arith)
+    ]

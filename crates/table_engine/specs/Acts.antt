@@ -1,5 +1,5 @@
 -- What becomes of an act. The Poker TDA Rules: a player acts in turn.
-use Rattle.std.specs.Prelude.{◌≡◌, ℕ, Bool, true, not, List, [], ◌∷◌, ◌++◌, Option, Some, None, is_none, nat_lt, unwrap_or, Result, Ok, Err, if◌then◌else◌}
+use Rattle.std.specs.Prelude.{◌≡◌, ℕ, Bool, true, not, List, [], ◌∷◌, ◌++◌, Option, Some, None, is_none, option_map, nat_lt, ◌==◌, unwrap_or, Result, Ok, Err, if◌then◌else◌}
 use Rattle.std.specs.List.{list_any}
 use Rattle.std.specs.Str.{bytes_eq}
 use Rattle.rulebook.specs.Checks.{first_that_holds}
@@ -13,6 +13,8 @@ use Rattle.betting_round.specs.declared.act.Done.{Done}
 use Rattle.betting_round.specs.Acts.{done_by}
 use Rattle.betting_round.specs.ActChecks.{act_refusal, facing_in, seat_checks}
 use Rattle.betting_round.specs.Limits.{Limits, no_limit, pot_limit}
+use Rattle.limit_betting.specs.FixedLimits.{LimitTerms}
+use Rattle.limit_betting.specs.Wagers.{limits_after, wagers}
 use Rattle.table_engine.specs.declared.start.HandStart.{HandStart}
 use Rattle.table_engine.specs.declared.record.ActOf.{ActOf}
 use Rattle.table_engine.specs.declared.record.ActFault.{ActFault}
@@ -24,9 +26,19 @@ abbrev pub limits_of : Game → Limits
 limits_of Holdem = no_limit
 limits_of game = pot_limit
 
--- How much may be bet on the last of a hand's streets: on each it goes by the game.
+-- How much may be bet on the last of a hand's streets: by the game, or by fixed limit where there is a cap.
 abbrev pub limits_on : HandStart → Streets → Limits
-limits_on start streets = limits_of start.game
+limits_on start streets =
+    if start.cap == 0 then limits_of start.game else limits_after start.cap streets.last.start streets.last.acts
+
+-- The fixed limit of the player who is due, where there is a cap and somebody is due.
+abbrev pub limit_in_hand : HandTerms → Option LimitTerms
+limit_in_hand hand =
+    let last = (streets_of hand).last in
+    if hand.start.cap == 0 then None
+    else
+    option_map (λ seat. record { bet = last.start.big; cap = hand.start.cap; wagers = wagers last.start last.acts })
+    (due_in_hand hand)
 
 -- Why an act of the player in a seat is refused, if it is.
 abbrev pub refusal_in_seat : HandTerms → Act → ℕ → Option Refusal

@@ -9,6 +9,7 @@ use Rattle.betting_round.specs.declared.bettor.Player.{Player}
 use Rattle.betting_round.specs.declared.street.Street.{Street}
 use Rattle.betting_round.specs.StreetActs.{StreetStart, SeatAct, next_bettors, street_after, sum_over}
 use Rattle.betting_round.specs.WhoIsDue.{due_seat, is_one_live, player_in}
+use Rattle.limit_betting.specs.FixedLimits.{bet_of}
 use Rattle.table_engine.specs.declared.start.HandStart.{HandStart}
 use Rattle.table_engine.specs.declared.start.StartSeat.{StartSeat}
 use Rattle.table_engine.specs.declared.record.ActOf.{ActOf}
@@ -29,6 +30,23 @@ blind_of start seat =
 abbrev pub posted : HandStart → StartSeat → ℕ
 posted start player = min player.stack (blind_of start player.seat)
 
+-- The ante that is due of a seat: the big blind's player owes it for the table.
+abbrev pub ante_of : HandStart → ℕ → ℕ
+ante_of start seat = if seat == start.marks.big then start.blind.ante else 0
+
+-- What a player posts as the ante, once his blind is posted (this project's own): the lesser of what he has left and
+-- the ante that is due of his seat.
+abbrev pub ante_posted : HandStart → StartSeat → ℕ
+ante_posted start player = min (player.stack - posted start player) (ante_of start player.seat)
+
+-- All antes of a hand. They are dead: no player has put them in for himself.
+abbrev pub dead_chips : HandStart → ℕ
+dead_chips start = sum_by (ante_posted start) start.seats
+
+-- What a player has to play with: his stack without the ante that he posts.
+abbrev pub playing : HandStart → StartSeat → ℕ
+playing start player = player.stack - ante_posted start player
+
 -- What a player's blind lacks because his stack is short.
 abbrev pub lacking : HandStart → StartSeat → ℕ
 lacking start player = blind_of start player.seat - posted start player
@@ -38,7 +56,7 @@ abbrev pub seated : HandStart → StartSeat → Bettor
 seated start player = record {
   seat = player.seat;
   put = posted start player;
-  behind = player.stack - posted start player;
+  behind = playing start player - posted start player;
   live = true;
 }
 
@@ -52,7 +70,7 @@ players_by_seat start = map (player_of start) (walk (λ seat. seat + 1) 10 0)
 
 -- The first street, before the flop: the blinds are posted, the search for who is due starts after the big mark's seat,
 -- and the bet level is the big blind even where it was posted short. Beside what was put in, the pot counts what short
--- blinds lack (this project's own).
+-- blinds lack, and not the antes (this project's own).
 abbrev pub first_street : HandStart → StreetStart
 first_street start = record {
   bettors = map (option_map (seated start)) (players_by_seat start);
@@ -82,20 +100,24 @@ street_now streets = street_after streets.last.start streets.last.acts
 abbrev pub put_on : StreetPlayed → ℕ
 put_on played = sum_over (λ (player : Player). player.bettor.put) (street_after played.start played.acts).players
 
--- What was put in on all streets so far.
-abbrev pub put_so_far : Streets → ℕ
-put_so_far streets = put_on streets.last + sum_by put_on streets.before
+-- What was put in on all streets so far, the antes included.
+abbrev pub put_so_far : HandStart → Streets → ℕ
+put_so_far start streets = put_on streets.last + (dead_chips start + sum_by put_on streets.before)
+
+-- The bet of a street with so many streets to come after it: the big blind, or by fixed limit the bet of the street.
+abbrev pub bet_with : HandStart → ℕ → ℕ
+bet_with start left = if start.cap == 0 then start.blind.big else bet_of start.blind.big (3 - left)
 
 -- A later street: nothing is put in, the search for who is due starts after the button's seat, the bet level is 0, and
--- the pot counts what was put in on the streets before.
+-- the pot counts what was put in on the streets before, the antes included.
 abbrev pub later_street : HandStart → Streets → StreetStart
 later_street start streets = record {
   bettors = next_bettors (street_now streets);
   after = start.marks.button;
   opening = 0;
-  big = start.blind.big;
+  big = bet_with start (streets.left - 1);
   unit = start.blind.unit;
-  counted = put_so_far streets;
+  counted = put_so_far start streets;
 }
 
 -- The streets once the next one has begun.
@@ -172,14 +194,14 @@ put_from seat played =
     option_map_or (λ (player : Player). player.bettor.put)
     (player_in (street_after played.start played.acts).players seat) 0
 
--- What a player has put in during the whole hand: the sum over its streets.
+-- What a player has put in during the whole hand, without his ante: the sum over its streets.
 abbrev pub put_in_hand : HandTerms → StartSeat → ℕ
 put_in_hand hand player =
     put_from player.seat (streets_of hand).last + sum_by (put_from player.seat) (streets_of hand).before
 
--- What a player has behind: his stack without what he has put in.
+-- What a player has behind: his stack without his ante and without what he has put in.
 abbrev pub behind : HandTerms → StartSeat → ℕ
-behind hand player = player.stack - put_in_hand hand player
+behind hand player = playing hand.start player - put_in_hand hand player
 
 -- Whether a player is live: he is until he folds.
 abbrev pub is_live : HandTerms → StartSeat → Bool

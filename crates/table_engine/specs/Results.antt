@@ -7,6 +7,7 @@ use Rattle.betting_round.specs.declared.bettor.Player.{Player}
 use Rattle.betting_round.specs.declared.street.Street.{Street}
 use Rattle.betting_round.specs.WhoIsDue.{is_one_live, player_in}
 use Rattle.pot_layers.specs.declared.put.Put.{Put}
+use Rattle.pot_layers.specs.declared.pot_list.Pot.{Pot}
 use Rattle.pot_layers.specs.Layers.{layers}
 use Rattle.showdown.specs.declared.live.Live.{Live}
 use Rattle.showdown.specs.Awards.{awards_of}
@@ -14,24 +15,29 @@ use Rattle.showdown.specs.Hands.{hands_of}
 use Rattle.table_engine.specs.declared.start.HandStart.{HandStart}
 use Rattle.table_engine.specs.declared.start.StartSeat.{StartSeat}
 use Rattle.table_engine.specs.Deals.{board_of, tabled}
-use Rattle.table_engine.specs.Hands.{HandTerms, behind, is_live, players_by_seat, put_in_hand, street_of}
+use Rattle.table_engine.specs.Hands.{HandTerms, behind, dead_chips, is_live, players_by_seat, put_in_hand, street_of}
 
--- All that was put in during the hand.
+-- All that was put in during the hand, the antes included.
 abbrev pub pot : HandTerms → ℕ
-pot hand = sum_by (put_in_hand hand) hand.start.seats
+pot hand = sum_by (put_in_hand hand) hand.start.seats + dead_chips hand.start
 
 -- One player alone is live, so the hand is won without a showdown.
 abbrev pub is_won_by_folds : HandTerms → Bool
 is_won_by_folds hand = is_one_live (street_of hand).players
 
--- What a player has put in during the hand, and whether he is live. Where nobody is dealt in nothing is put in.
+-- What a player has put in during the hand without his ante, and whether he is live. Where nobody is dealt in nothing
+-- is put in.
 abbrev pub put_at : HandTerms → Option StartSeat → Put
 put_at hand None = record { amount = 0; live = false }
 put_at hand (Some player) = record { amount = put_in_hand hand player; live = is_live hand player }
 
--- What was put in during the hand, by the seats 1 to 10.
+-- What was put in during the hand without the antes, by the seats 1 to 10.
 unfoldable pub puts_in_hand : HandTerms → List Put
 puts_in_hand hand = map (put_at hand) (players_by_seat hand.start)
+
+-- The pots of a hand: what was put in, cut by heights, with the antes in the main pot.
+unfoldable pub pots_in_hand : HandTerms → List Pot
+pots_in_hand hand = layers (puts_in_hand hand) (dead_chips hand.start)
 
 -- A player who is live on a street as it stands, with his hole cards.
 abbrev pub live_on : HandStart → Street → Option StartSeat → Option Live
@@ -50,7 +56,7 @@ unfoldable pub showdown_awards : HandTerms → List ℕ
 showdown_awards hand =
     awards_of (hands_of hand.start.game (board_of hand.start) (live_in_hand hand)) hand.start.blind.unit
     hand.start.marks.button
-    hand.start.seat_count (layers (puts_in_hand hand))
+    hand.start.seat_count (pots_in_hand hand)
 
 -- What a player gets: where one player alone is live that one gets everything, else his awards of all pots.
 abbrev pub award : HandTerms → StartSeat → ℕ

@@ -45,7 +45,7 @@ pub record IsLawfulStart (start : HandStart) : Type 0 where
   pub marks : AreMarksOf start.seat_count start.marks
   pub big : list_any (λ player. player.seat == start.marks.big) start.seats ≡ true
   pub small : start.marks.small ≢ start.marks.big
-  -- the blinds and the unit are lawful
+  -- the blinds, the ante and the unit are lawful
   pub blinds : is_blind start.blind ≡ true
   -- no card of the deck comes twice
   pub deck : IsDeck start.deck

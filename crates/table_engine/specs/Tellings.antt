@@ -6,7 +6,7 @@ use Rattle.table_engine.specs.declared.start.HandStart.{HandStart}
 use Rattle.table_engine.specs.declared.start.StartSeat.{StartSeat}
 use Rattle.table_engine.specs.Hands.{posted}
 
--- What was put in at a seat before any act: what its player posted.
+-- What was put in at a seat before any act: the blind that its player posted.
 abbrev pub first_put : HandStart → Option StartSeat → Put
 first_put start None = record { amount = 0; live = false }
 first_put start (Some player) = record { amount = posted start player; live = true }

@@ -1,11 +1,13 @@
 //! The betting of a hand as it stands: its street, and what came before it.
 
-ghost use Rattle.std.specs.Prelude.{◌≡◌, ◌+◌, ◌<◌, ◌≤◌, ◌^◌, None, Some, option_map, map, sum_by, IfOk, OnOk, IfErr};
+ghost use Rattle.std.specs.Prelude.{◌≡◌, ◌+◌, ◌-◌, ◌<◌, ◌≤◌, ◌^◌, None, Some, option_map, map, sum_by, IfOk, OnOk, IfErr};
 ghost use Rattle.std.specs.Option.{is_some};
 ghost use Rattle.betting_round.specs.Acts.{done_by};
 ghost use Rattle.betting_round.specs.ActChecks.{act_refusal, facing_in, IsAllowed};
+ghost use Rattle.limit_betting.specs.FixedLimits.{fixed_limit};
+ghost use Rattle.table_engine.specs.declared.start.HandStart.{HandStart};
 ghost use Rattle.table_engine.specs.Starts.{IsLawfulStart};
-ghost use Rattle.table_engine.specs.Hands.{Streets, lacking, seated, players_by_seat, first_streets, has_ended, with_next_street, dealt_on, with_act};
+ghost use Rattle.table_engine.specs.Hands.{Streets, ante_posted, bet_with, dead_chips, lacking, seated, players_by_seat, first_streets, has_ended, with_next_street, dealt_on, with_act};
 ghost use Rattle.table_engine.specs.Acts.{limits_of, limits_on};
 ghost use Rattle.table_engine.specs.Running.{IsAt, IsReady};
 
@@ -14,16 +16,21 @@ use crate::start::{HandStart, StartSeat};
 use betting_round::{Act, Bettor, Done, NoLimit, PotLimit, Round};
 use card_set::Game;
 use floor_text::Refusal;
+use limit_betting::{FixedLimit, bet_of, wagers_of};
 
 /// The betting of a hand as it stands. Three streets may follow the first.
 #[derive(Clone, Copy)]
 pub struct Betting {
     /// The last street that has begun.
     pub round: Round,
-    /// What was put in on the streets before, in chips.
+    /// What was put in on the streets before, the antes included, in chips.
     pub before: u64,
     /// How many streets may still begin.
     pub left: u8,
+    /// The bet of the street, in chips.
+    pub bet: u64,
+    /// How many wagers the street has had.
+    pub wagers: u64,
 }
 
 /// Tells what a player's blind lacks because his stack is short, in chips.
@@ -43,7 +50,7 @@ fn seated(start: &HandStart, player: &StartSeat) -> Bettor
     Bettor {
         seat: player.seat,
         put,
-        behind: player.stack - put,
+        behind: player.stack - start.ante_posted(player) - put,
         live: true,
     }
 }
@@ -78,6 +85,40 @@ fn all_lacking(start: &HandStart, players: &[StartSeat]) -> u64
     }
 }
 
+/// Tells what these players post as antes, in chips.
+fn all_antes(start: &HandStart, players: &[StartSeat]) -> u64
+    requires { sum_by (ante_posted start.now) players.now < 2 ^ 60 }
+    ensures { result ≡ sum_by (ante_posted start.now) players.now }
+{
+    match players {
+        [] => 0,
+        [player, rest @ ..] => start.ante_posted(player) + all_antes(start, rest),
+    }
+}
+
+/// Tells what the players of a hand post as antes, in chips. Where the level has none nobody is asked.
+fn antes(start: &HandStart) -> u64
+    requires { IsLawfulStart start.now }
+    ensures { result ≡ dead_chips start.now }
+{
+    if start.blind.ante == 0 {
+        return 0;
+    }
+    all_antes(start, start.seats.items())
+}
+
+/// Gives the bet of a street with so many streets to come after it, in chips.
+fn bet_with(start: &HandStart, left: u8) -> u64
+    requires { IsLawfulStart start.now }
+    ensures { result ≡ bet_with start.now left }
+{
+    if start.cap == 0 {
+        start.blind.big
+    } else {
+        bet_of(start.blind.big, 3u8.saturating_sub(left))
+    }
+}
+
 /// Tells whether a street has ended: nobody is due and more than one player is live.
 fn has_ended(round: &Round) -> bool
     ensures { result ≡ has_ended round.now }
@@ -98,13 +139,25 @@ fn check(round: &Round, game: Game, seat: u8, act: Act) -> Result<Done, Refusal>
     }
 }
 
+/// Tells what an act of a seat comes to by fixed limit, or why it is refused. It is a function of its own, since most
+/// hands have no fixed limit.
+#[inline(never)]
+fn check_limited(round: &Round, limit: &FixedLimit, seat: u8, act: Act) -> Result<Done, Refusal>
+    ensures ok { OnOk result (act_refusal (fixed_limit limit.now) round.now seat act ≡ None) }
+    ensures done { IfOk result (λ done. done ≡ done_by (facing_in round.now seat) act) }
+    ensures err { IfErr result (λ refusal. act_refusal (fixed_limit limit.now) round.now seat act ≡ Some refusal) }
+{
+    round.check(limit, seat, act)
+}
+
 impl Betting {
     /// Makes a hand as it stands before the first act, on its first street.
     pub fn first(start: &HandStart) -> Betting
         requires { IsLawfulStart start.now }
-        ensures at { IsAt (first_streets start.now) result }
+        ensures at { IsAt start.now (first_streets start.now) result }
         ensures ready { IsReady result }
         ensures there { map is_some result.round.players ≡ map is_some (players_by_seat start.now) }
+        ensures before { result.before ≡ dead_chips start.now }
     {
         let bettors = all_seated(start);
         let counted = all_lacking(start, start.seats.items());
@@ -118,8 +171,10 @@ impl Betting {
                 start.blind.unit,
                 counted,
             ),
-            before: 0,
+            before: antes(start),
             left: 3,
+            bet: start.blind.big,
+            wagers: 1,
         }
     }
 
@@ -129,24 +184,29 @@ impl Betting {
         requires lawful { IsLawfulStart start.now }
         requires ready { IsReady self.old }
         requires some { 1 ≤ self.old.left }
-        ensures at { (streets : Streets) → IsAt streets self.old → IsAt (with_next_street start.now streets) self.new }
+        ensures at { (streets : Streets) → IsAt start.now streets self.old
+            → IsAt start.now (with_next_street start.now streets) self.new }
         ensures ready { IsReady self.new }
         ensures there { map is_some self.new.round.players ≡ map is_some self.old.round.players }
         ensures left { self.new.left + 1 ≡ self.old.left }
     {
         let counted = self.before + self.round.put();
         let bettors = self.round.next_bettors();
+        let left = self.left - 1;
+        let bet = bet_with(start, left);
         *self = Betting {
             round: Round::start(
                 &bettors,
                 start.marks.button,
                 0,
-                start.blind.big,
+                bet,
                 start.blind.unit,
                 counted,
             ),
             before: counted,
-            left: self.left - 1,
+            left,
+            bet,
+            wagers: 0,
         };
     }
 
@@ -154,8 +214,8 @@ impl Betting {
     pub fn deal_on(&mut self, start: &HandStart)
         requires lawful { IsLawfulStart start.now }
         requires ready { IsReady self.old }
-        ensures at { (streets : Streets) → IsAt streets self.old
-            → IsAt (dealt_on start.now self.old.left streets) self.new }
+        ensures at { (streets : Streets) → IsAt start.now streets self.old
+            → IsAt start.now (dealt_on start.now self.old.left streets) self.new }
         ensures ready { IsReady self.new }
         ensures there { map is_some self.new.round.players ≡ map is_some self.old.round.players }
     {
@@ -169,28 +229,50 @@ impl Betting {
         self.deal_on(start)
     }
 
+    /// Gives the fixed limit of the street as it stands, where so many wagers may be made on it.
+    pub fn limit(&self, cap: u64) -> FixedLimit
+        requires { IsReady self.now }
+        ensures { result ≡ record { bet = self.now.bet; cap = cap; wagers = self.now.wagers } }
+    {
+        FixedLimit {
+            bet: self.bet,
+            cap,
+            wagers: self.wagers,
+        }
+    }
+
     /// Tells what an act of a seat comes to, by the limits of the hand, or why it is refused.
     pub fn check(&self, start: &HandStart, seat: u8, act: Act) -> Result<Done, Refusal>
-        ensures ok { OnOk result ((streets : Streets) → IsAt streets self.now
+        requires { IsReady self.now }
+        ensures ok { OnOk result ((streets : Streets) → IsAt start.now streets self.now
             → act_refusal (limits_on start.now streets) self.now.round seat act ≡ None) }
         ensures allowed { OnOk result (IsAllowed self.now.round seat act) }
         ensures done { IfOk result (λ done. done ≡ done_by (facing_in self.now.round seat) act) }
-        ensures err { IfErr result (λ refusal. (streets : Streets) → IsAt streets self.now
+        ensures err { IfErr result (λ refusal. (streets : Streets) → IsAt start.now streets self.now
             → act_refusal (limits_on start.now streets) self.now.round seat act ≡ Some refusal) }
     {
-        check(&self.round, start.game, seat, act)
+        if start.cap == 0 {
+            return check(&self.round, start.game, seat, act);
+        }
+        check_limited(&self.round, &self.limit(start.cap), seat, act)
     }
 
-    /// Takes an act of a seat that is not refused.
-    pub fn take(&mut self, seat: u8, act: Act)
+    /// Takes an act of a seat that is not refused, and tells what it puts in, in chips.
+    #[inline(always)]
+    pub fn take(&mut self, seat: u8, act: Act) -> u64
         requires ready { IsReady self.old }
         requires allowed { IsAllowed self.old.round seat act }
-        ensures at { (streets : Streets) → IsAt streets self.old
-            → IsAt (with_act streets (record { seat = seat; act = act })) self.new }
-        ensures stand { (streets : Streets) → IsAt streets self.old → IsReady self.new }
-        ensures there { (streets : Streets) → IsAt streets self.old
+        ensures at { (start : HandStart) (streets : Streets) → IsAt start streets self.old
+            → IsAt start (with_act streets (record { seat = seat; act = act })) self.new }
+        ensures stand { (start : HandStart) (streets : Streets) → IsAt start streets self.old → IsReady self.new }
+        ensures there { (start : HandStart) (streets : Streets) → IsAt start streets self.old
             → map is_some self.new.round.players ≡ map is_some self.old.round.players }
+        ensures put { result ≡ (facing_in self.new.round seat).put - (facing_in self.old.round seat).put }
     {
+        let before = self.round.facing(seat);
         self.round.take(seat, act);
+        let after = self.round.facing(seat);
+        self.wagers += wagers_of(self.bet, before.level, after.level);
+        after.put.saturating_sub(before.put)
     }
 }

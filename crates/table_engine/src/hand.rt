@@ -5,7 +5,7 @@ ghost use Rattle.table_engine.specs.Starts.{IsLawfulStart};
 ghost use Rattle.betting_round.specs.ActChecks.{facing_in};
 ghost use Rattle.betting_round.specs.Limits.{AreFewChips};
 ghost use Rattle.table_engine.specs.Hands.{due_in_hand, due_name, is_live, is_over, seat_of_name, street_of, streets_of};
-ghost use Rattle.table_engine.specs.Acts.{act_in_time, done_of_act, done_of_time, hand_after, hand_after_time, refusal_of_act, refusal_of_time, time_act, IsAnswer};
+ghost use Rattle.table_engine.specs.Acts.{act_in_time, done_of_act, done_of_time, limit_in_hand, hand_after, hand_after_time, refusal_of_act, refusal_of_time, time_act, IsAnswer};
 ghost use Rattle.table_engine.specs.Accepted.{IsAccepted};
 ghost use Rattle.table_engine.specs.Awards.{awards_in_hand, most_awarded};
 ghost use Rattle.table_engine.specs.Results.{award, is_won_by_folds, showdown_awards, starting_stacks};
@@ -20,6 +20,7 @@ use crate::start::{HandStart, StartSeat};
 use crate::telling::{first_puts, tell};
 use betting_round::{Act, Done, Facing};
 use floor_text::{List, Name, Refusal};
+use limit_betting::FixedLimit;
 use pot_layers::PotTally;
 use showdown::award as award_pots;
 use std::alloc::{AllocError, Global};
@@ -67,8 +68,10 @@ impl Hand {
             return Err(start);
         };
         let mut betting = Betting::first(&start);
+        let dead = betting.before;
         betting.deal_on(&start);
-        let tally = PotTally::of(&first_puts(&start));
+        let mut tally = PotTally::of(&first_puts(&start));
+        tally.add_dead(dead);
         Ok(Hand {
             start,
             acts: List::from_vec(acts),
@@ -110,6 +113,18 @@ impl Hand {
     {
         let seat = self.due_seat()?;
         Some(self.betting.round.facing(seat))
+    }
+
+    /// Gives the fixed limit of the player who is due. `None` exactly where there is no cap or nobody is due. It takes
+    /// no memory.
+    pub fn limit(&self) -> Option<FixedLimit>
+        ensures { result ≡ limit_in_hand self.now }
+    {
+        if self.start.cap == 0 {
+            return None;
+        }
+        let limit = self.betting.limit(self.start.cap);
+        self.due_seat().map(|_| limit)
     }
 
     /// Gives the seat of the player of this name, if he is dealt in. Who acts is mostly due, and then there is no
@@ -241,9 +256,7 @@ impl Hand {
     {
         let seat = accepted.seat;
         self.acts.push(accepted.entry)?;
-        let before = self.betting.round.facing(seat).put;
-        self.betting.take(seat, accepted.entry.act);
-        let put_in = self.betting.round.facing(seat).put - before;
+        let put_in = self.betting.take(seat, accepted.entry.act);
         tell(&mut self.tally, seat, put_in, accepted.entry.act);
         self.betting.deal_on(&self.start);
         Ok(accepted.done)

@@ -1,37 +1,41 @@
 //! Laws of a hand: over every lawful start and every lawful play of it.
 
-ghost use Rattle.std.specs.Prelude.{◌≡◌, ◌+◌, ◌%◌, ◌==◌, ◌<◌, ◌≤◌, ℕ, List, [], ◌∷◌, ◌++◌, Some, None, IsSome, false, true, map, nat_le, length, slice_index_or, sum, sum_by};
-ghost use Rattle.std.specs.List.{list_all};
+ghost use Rattle.std.specs.Prelude.{◌≡◌, ◌+◌, ◌*◌, ◌%◌, ◌==◌, ◌<◌, ◌≤◌, ℕ, List, [], ◌∷◌, ◌++◌, Some, None, IsSome, false, true, map, nat_le, length, slice_index_or, sum, sum_by};
+ghost use Rattle.std.specs.List.{AllByRecursion, list_all};
 ghost use Rattle.betting_round.specs.declared.act.Act.TheVariants as acts;
 ghost use Rattle.betting_round.specs.declared.act.Act.{Act};
 ghost use Rattle.card_choices.specs.Choices.{AreDistinct};
 ghost use Rattle.card_set.specs.declared.card.Card.{Card};
 ghost use Rattle.card_set.specs.Decks.{IsDeck};
-ghost use Rattle.pot_layers.specs.Layers.{is_contested, layers};
+ghost use Rattle.pot_layers.specs.Layers.{is_contested};
 ghost use Rattle.pot_layers.specs.PotTests.{are_others_within, total_of};
 ghost use Rattle.table_engine.specs.declared.record.ActOf.{ActOf};
 ghost use Rattle.table_engine.specs.declared.start.StartSeat.{StartSeat};
 ghost use Rattle.table_engine.specs.Starts.{IsLawfulStart, chips_of, have_playable_stacks};
 ghost use Rattle.table_engine.specs.Covers.{is_big_next, is_covered};
 ghost use Rattle.table_engine.specs.Deals.{dealt_cards};
-ghost use Rattle.table_engine.specs.Hands.{HandTerms, behind, due_in_hand, due_name, is_live, is_over, player_of, players_by_seat, posted, put_in_hand, street_of, streets_of};
+ghost use Rattle.table_engine.specs.Hands.{HandTerms, ante_posted, behind, dead_chips, due_in_hand, due_name, is_live, is_over, player_of, players_by_seat, posted, put_from, put_in_hand, street_of, streets_of};
 ghost use Rattle.floor_text.specs.Refusals.{refusal_number};
+ghost use Rattle.limit_betting.specs.Wagers.{raises, wagers};
 ghost use Rattle.rulebook.specs.Pairs.{are_rising};
 ghost use Rattle.table_engine.specs.Acts.{act_checks, done_of_act, hand_after_time, refusal_of_act, refusal_of_time, time_act};
-ghost use Rattle.table_engine.specs.Results.{award, is_won_by_folds, players_after, pot, puts_in_hand, stacks_after_hand, starting_stacks};
+ghost use Rattle.table_engine.specs.Results.{award, is_won_by_folds, players_after, pot, pots_in_hand, puts_in_hand, stacks_after_hand, starting_stacks};
 ghost use Rattle.table_engine.specs.Plays.{IsLawfulPlay, are_lawful_after};
 ghost use Rattle.table_engine.specs.declared.start.HandStart.{HandStart};
 
-/// Says that the chips of a hand are kept. At each moment, all that the players have behind and all that they have put
-/// in sum to their starting stacks, and nobody has put in more than his stack. The pots of a hand that is over sum to
-/// all that was put in, what its players get sums to the same, and the stacks after it sum to the starting stacks.
+/// Says that the chips of a hand are kept. At each moment, all that the players have behind, all that they have put in
+/// and the antes sum to their starting stacks, and nobody has put in more than his stack. The pots of a hand that is
+/// over sum to all that was put in and the antes, what its players get sums to the same, and the stacks after it sum to
+/// the starting stacks.
 pub fn chips_of_a_hand()
     ensures in_play { (hand : HandTerms) → IsLawfulStart hand.start → IsLawfulPlay hand
-        → sum_by (behind hand) hand.start.seats + sum_by (put_in_hand hand) hand.start.seats
+        → sum_by (behind hand) hand.start.seats + sum_by (put_in_hand hand) hand.start.seats + dead_chips hand.start
         ≡ sum (starting_stacks hand) }
     ensures within { (hand : HandTerms) → IsLawfulStart hand.start → IsLawfulPlay hand
-        → list_all (λ player. nat_le (put_in_hand hand player) player.stack) hand.start.seats ≡ true }
-    ensures pots { (hand : HandTerms) → IsLawfulStart hand.start → total_of (layers (puts_in_hand hand)) ≡ pot hand }
+        → list_all (λ player. nat_le (put_in_hand hand player + ante_posted hand.start player) player.stack)
+        hand.start.seats ≡ true }
+    ensures pots { (hand : HandTerms) → IsLawfulStart hand.start → IsLawfulPlay hand
+        → total_of (pots_in_hand hand) ≡ pot hand }
     ensures awards { (hand : HandTerms) → IsLawfulStart hand.start → IsLawfulPlay hand → is_over hand ≡ true
         → sum_by (award hand) hand.start.seats ≡ pot hand }
     ensures after { (hand : HandTerms) → IsLawfulStart hand.start → IsLawfulPlay hand → is_over hand ≡ true
@@ -133,6 +137,21 @@ pub fn who_folds_is_covered()
         → player_of hand.start hand.start.marks.big ≡ Some big → is_covered hand player ≡ false
         → (seat ≡ hand.start.marks.small) × (put_in_hand hand player ≤ posted hand.start player)
         × (posted hand.start big < posted hand.start player) }
+{}
+
+/// Says that by fixed limit nobody puts in more on a street than so many bets as the cap says and five more, on no
+/// street of a lawful play, that no street has more wagers than the cap says, and that nobody raises more often than
+/// that on a street but by an all-in.
+pub fn bets_of_a_hand()
+    ensures put { (hand : HandTerms) (seat : ℕ) → IsLawfulStart hand.start → IsLawfulPlay hand → 1 ≤ hand.start.cap
+        → AllByRecursion (λ played. put_from seat played ≤ (hand.start.cap + 5) * played.start.big)
+        ((streets_of hand).last ∷ (streets_of hand).before) }
+    ensures wagers { (hand : HandTerms) → IsLawfulStart hand.start → IsLawfulPlay hand → 1 ≤ hand.start.cap
+        → AllByRecursion (λ played. wagers played.start played.acts ≤ hand.start.cap)
+        ((streets_of hand).last ∷ (streets_of hand).before) }
+    ensures raises { (hand : HandTerms) → IsLawfulStart hand.start → IsLawfulPlay hand → 1 ≤ hand.start.cap
+        → AllByRecursion (λ played. raises played.start played.acts ≤ hand.start.cap)
+        ((streets_of hand).last ∷ (streets_of hand).before) }
 {}
 
 /// Says that betting does not depend on cards.

@@ -1,8 +1,8 @@
 //! How a hand starts.
 
-ghost use Rattle.std.specs.Prelude.{◌≡◌, ◌≤◌, Some, IsTrue, IfOk};
+ghost use Rattle.std.specs.Prelude.{◌≡◌, ◌+◌, ◌≤◌, Some, IsTrue, IfOk};
 ghost use Rattle.std.specs.Option.{option_copied};
-ghost use Rattle.table_engine.specs.Hands.{blind_of, name_in_seat, player_of, posted, seat_of_name};
+ghost use Rattle.table_engine.specs.Hands.{ante_of, ante_posted, blind_of, name_in_seat, player_of, posted, seat_of_name};
 ghost use Rattle.table_engine.specs.Results.{with_stack};
 ghost use Rattle.table_engine.specs.Starts.{IsLawfulStart};
 
@@ -47,8 +47,10 @@ pub struct HandStart {
     pub seat_count: u8,
     /// The seats that have the button, the small and the big blind.
     pub marks: Marks,
-    /// The blinds, and the unit of the chips in play.
+    /// The blinds, the ante, and the unit of the chips in play.
     pub blind: Blind,
+    /// The most wagers of a street by fixed limit; 0 where betting has no fixed limit.
+    pub cap: u64,
     /// Which game is played.
     pub game: Game,
     /// The deck from which the cards are dealt.
@@ -68,6 +70,7 @@ impl HandStart {
             seat_count: self.seat_count,
             marks: self.marks,
             blind: self.blind,
+            cap: self.cap,
             game: self.game,
             deck: self.deck,
         })
@@ -86,7 +89,27 @@ impl HandStart {
         }
     }
 
-    /// Tells what a player posts, in chips: the lesser of his stack and the blind that is due of his seat.
+    /// Gives the ante that is due of a seat, in chips.
+    fn ante_of(&self, seat: u8) -> u64
+        ensures { result ≡ ante_of self.now seat }
+    {
+        if seat == self.marks.big {
+            self.blind.ante
+        } else {
+            0
+        }
+    }
+
+    /// Tells what a player posts as the ante once his blind is posted, in chips: the lesser of what he has left and the
+    /// ante that is due of his seat.
+    pub fn ante_posted(&self, player: &StartSeat) -> u64
+        ensures posted { result ≡ ante_posted self.now player.now }
+        ensures covered { posted self.now player.now + result ≤ player.now.stack }
+    {
+        (player.stack - self.posted(player)).min(self.ante_of(player.seat))
+    }
+
+    /// Tells what a player posts as his blind, in chips: the lesser of his stack and the blind that is due of his seat.
     pub fn posted(&self, player: &StartSeat) -> u64
         ensures posted { result ≡ posted self.now player.now }
         ensures covered { result ≤ player.now.stack }

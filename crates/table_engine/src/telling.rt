@@ -2,7 +2,7 @@
 
 ghost use Rattle.std.specs.Prelude.{◌≡◌, ◌+◌, ◌-◌, ◌≤◌, ◌<◌, ◌^◌, Some, map};
 ghost use Rattle.betting_round.specs.Acts.{is_fold};
-ghost use Rattle.pot_layers.specs.Tallies.{total_put};
+ghost use Rattle.pot_layers.specs.Tallies.{total_told};
 ghost use Rattle.table_engine.specs.Starts.{IsLawfulStart};
 ghost use Rattle.table_engine.specs.Hands.{players_by_seat};
 ghost use Rattle.table_engine.specs.Tellings.{first_put, told};
@@ -35,8 +35,8 @@ pub(crate) fn first_puts(start: &HandStart) -> [Put; 10]
 pub(crate) fn tell(tally: &mut PotTally, seat: u8, put_in: u64, act: Act)
     requires first { 1 ≤ seat }
     requires last { seat ≤ 10 }
-    requires fits { total_put tally.old + put_in < 2 ^ 53 }
-    ensures { tally.new ≡ told tally.old (seat - 1) put_in (is_fold act) }
+    requires fits { total_told tally.old + put_in < 2 ^ 53 }
+    ensures { tally.new ≡ record tally.old { puts = told tally.old.puts (seat - 1) put_in (is_fold act) } }
 {
     tally.add(seat, put_in);
     if matches!(act, Act::Fold) {

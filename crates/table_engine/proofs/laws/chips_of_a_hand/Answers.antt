@@ -1,6 +1,6 @@
 use Rattle.table_engine.proofs.Chips.{chips-in_play, chips-within}
 use Rattle.table_engine.proofs.ChipsAfter.{chips-after, chips-players, gets-pot}
-use Rattle.table_engine.proofs.Showdowns.{pots-sum}
+use Rattle.table_engine.proofs.SomePut.{pots-all}
 use Rattle.table_engine.proofs.laws.chips_of_a_hand.Goals as goal
 
 pub returns-clause-in_play : goal.returns-clause-in_play
@@ -10,7 +10,7 @@ pub returns-clause-within : goal.returns-clause-within
 returns-clause-within c = chips-within
 
 pub returns-clause-pots : goal.returns-clause-pots
-returns-clause-pots c = pots-sum
+returns-clause-pots c = pots-all
 
 pub returns-clause-awards : goal.returns-clause-awards
 returns-clause-awards c = gets-pot
