@@ -1,6 +1,8 @@
 -- A field that is read is spelled so, and a field that is spelled so is read.
-use Rattle.std.proofs.Common.{◌≡◌, ℕ, Bool, true, false, cond, List, [], ◌∷◌, Option, Some, None, refl, sym, ap, ◌∙◌, subst}
+use Rattle.std.proofs.Common.{◌≡◌, ℕ, Bool, true, false, cond, List, [], ◌∷◌, Option, Some, None, refl, sym, ap, ◌∙◌, subst, inl, inr, arith}
+use Rattle.std.specs.Prelude.{◌==◌, nat_lt}
 use Rattle.std.specs.Fmt.{decimal}
+use Rattle.std.proofs.lemmas.Bool.{cases_Bool, eqb-false, eqb-true, lt-ltb, ltb-true, ne_eqb}
 use Rattle.std.specs.List.{list_all, AllByRecursion}
 use Rattle.std.specs.Str.{bytes_eq}
 use Rattle.std.proofs.lemmas.Option.{same_Some, cond_some}
@@ -16,7 +18,7 @@ use Rattle.card_set.proofs.RowReading.{row_found, row_again}
 use Rattle.card_set.proofs.Steps.{bind_found, map_found}
 use Rattle.betting_round.specs.declared.act.Act.{Act}
 use Rattle.betting_round.specs.declared.act.Act.TheVariants.{Fold, Check, Call, AllIn, Bet, Raise}
-use Rattle.line_words.specs.Fields.{meaning, name_of, IsLineName, game_list, game_of, game_word, switch_list, switch_of, switch_word, act_list, amount_list, act_of, act_words, HasLineAmount, next_by, last_by}
+use Rattle.line_words.specs.Fields.{meaning, name_of, IsLineName, game_list, game_of, game_word, switch_list, switch_of, switch_word, act_list, amount_list, act_of, act_words, HasLineAmount, amount_if_any, words_if_any, next_by, last_by}
 use Rattle.line_words.proofs.Spaces.{is_word, number_word, name_word, row_word}
 
 -- a test that let something through
@@ -160,6 +162,47 @@ act_are_words (Raise n) fits = rw (number_word n fits) refl
 -- an act
 pub act_rest : IsRest act_of act_words HasLineAmount
 act_rest = record { found = act_found; again = act_again; words = act_are_words }
+
+-- the amount of the words that are left
+amount_found : (words : List (List ℕ)) (n : ℕ) → amount_if_any words ≡ Some n
+    → (words ≡ words_if_any n) × IsLineNumber n
+unfolding amount_if_any
+amount_found [] n h =
+    let none = same_Some 0 n h in
+    (ap words_if_any none, subst IsLineNumber none (omega arith))
+amount_found (word ∷ []) n h =
+    let read = bind_found (number_of word) (λ n. cond (nat_lt 0 n) (Some n) None) n h in
+    let some = cond_some (nat_lt 0 read.0) read.0 n read.2 in
+    let number = number_found word read.0 read.1 in
+    let above = ltb-true 0 read.0 some.0 in
+    let more : (read.0 == 0) ≡ false = ne_eqb read.0 0 (λ none. omega (arith, above, none)) in
+    let spelled : words_if_any read.0 ≡ decimal read.0 ∷ [] = rw more refl in (
+      ap (λ (w : List ℕ). w ∷ []) number.1 ∙ sym spelled ∙ ap words_if_any some.1,
+      subst IsLineNumber some.1 number.0,
+    )
+amount_found (word ∷ more ∷ words) n h = absurd cc
+
+amount_again : (n : ℕ) → IsLineNumber n → amount_if_any (words_if_any n) ≡ Some n
+unfolding amount_if_any
+amount_again n fits =
+    elim (cases_Bool (n == 0)) [
+      | inl none ↦ let same : 0 ≡ n = sym (eqb-true n 0 none) in rw none (ap Some same)
+      | inr some ↦
+          let differs = eqb-false n 0 some in
+          let above : nat_lt 0 n ≡ true = lt-ltb 0 n (omega (arith, differs)) in
+          rw (some, number_of-decimal n fits, above) refl
+    ]
+
+amount_are_words : (n : ℕ) → IsLineNumber n → list_all is_word (words_if_any n) ≡ true
+amount_are_words n fits =
+    elim (cases_Bool (n == 0)) [
+      | inl none ↦ rw none refl
+      | inr some ↦ rw (some, number_word n fits) refl
+    ]
+
+-- an amount that is left out where it is 0
+pub if_any_rest : IsRest amount_if_any words_if_any IsLineNumber
+if_any_rest = record { found = amount_found; again = amount_again; words = amount_are_words }
 
 -- the first word is the spelling of the field that is read, and the others are left
 pub record IsNext {A : Type 0} (write : A → List ℕ) (Fits : A → Type 0) (words : List (List ℕ))

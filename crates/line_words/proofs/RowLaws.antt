@@ -10,9 +10,9 @@ use Rattle.floor_text.specs.Lines.{HasNoFeed}
 use Rattle.card_set.proofs.Steps.{bind_found, map_found}
 use Rattle.line_words.specs.Limits.{most_members}
 use Rattle.line_words.specs.Words.{words_of_line}
-use Rattle.line_words.specs.Fields.{next_by, last_by, act_of, few_of}
-use Rattle.line_words.specs.Rows.{Field, a_number, a_name, a_row, a_game, a_switch, some_places, some_names, Fields, no_field, last, ◌▸◌, an_act, few, Values, value_of, field_word, IsLawful, field_words, AreLawful, Maker, made, read_fields, Row, row_at, read_at, read_by, read_words, ValuesAt, made_at, words_at, AreLawfulAt, Line, words_of, text_of, IsLawfulLine}
-use Rattle.line_words.proofs.FieldLaws.{IsField, number_field, name_field, row_field, game_field, switch_field, act_rest, next_found, next_again, last_field}
+use Rattle.line_words.specs.Fields.{next_by, last_by, act_of, amount_if_any, few_of}
+use Rattle.line_words.specs.Rows.{Field, a_number, a_name, a_row, a_game, a_switch, some_places, some_names, Fields, no_field, last, ◌▸◌, an_act, if_any, few, Values, value_of, field_word, IsLawful, field_words, AreLawful, Maker, made, read_fields, Row, row_at, read_at, read_by, read_words, ValuesAt, made_at, words_at, AreLawfulAt, Line, words_of, text_of, IsLawfulLine}
+use Rattle.line_words.proofs.FieldLaws.{IsField, number_field, name_field, row_field, game_field, switch_field, act_rest, if_any_rest, next_found, next_again, last_field}
 use Rattle.line_words.proofs.PieceLaws.{few_rest, place_member, name_member, members_field}
 use Rattle.line_words.proofs.Spaces.{is_word, words_lack, pieces_again, line_no_feed}
 
@@ -60,6 +60,10 @@ fields_found an_act make words told h =
     let read = map_found make (act_of words) told h in
     let found = act_rest.found words read.0 read.1 in
     record { values = read.0; spelling = found.0; lawful = found.1; makes = read.2 }
+fields_found if_any make words told h =
+    let read = map_found make (amount_if_any words) told h in
+    let found = if_any_rest.found words read.0 read.1 in
+    record { values = read.0; spelling = found.0; lawful = found.1; makes = read.2 }
 fields_found (few most field) make words told h =
     let read = map_found make (few_of most (value_of field) words) told h in
     let found = (few_rest (field_laws field) most).found words read.0 read.1 in
@@ -76,6 +80,7 @@ fields_again (field ▸ fields) make values lawful =
     (field_words fields values.1) lawful.0 in
     rw first (fields_again fields (make values.0) values.1 lawful.1)
 fields_again an_act make values lawful = rw (act_rest.again values lawful) refl
+fields_again if_any make values lawful = rw (if_any_rest.again values lawful) refl
 fields_again (few most field) make values lawful =
     rw ((few_rest (field_laws field) most).again values lawful) refl
 
@@ -87,6 +92,7 @@ fields_are_words (last field) values lawful = rw ((field_laws field).word values
 fields_are_words (field ▸ fields) values lawful =
     and_from _ _ ((field_laws field).word values.0 lawful.0) (fields_are_words fields values.1 lawful.1)
 fields_are_words an_act values lawful = act_rest.words values lawful
+fields_are_words if_any values lawful = if_any_rest.words values lawful
 fields_are_words (few most field) values lawful = (few_rest (field_laws field) most).words values lawful
 
 module _ {A : Type 0} {rows : List (Row A)} (line_of : (told : A) → Line rows told) where

@@ -1,6 +1,6 @@
 -- The fields of a line: what a word is read as, how it is spelled, and what may be spelled. A field is one word, and
 -- the last field of a line may be all words that are left. This project's own.
-use Rattle.std.specs.Prelude.{ℕ, ◌≤◌, Bool, true, false, ◌&&◌, nat_le, IsTrue, List, [], ◌∷◌, length, map, codes, Option, Some, None, option_map, option_and_then, if◌then◌else◌}
+use Rattle.std.specs.Prelude.{ℕ, ◌≤◌, Bool, true, false, ◌==◌, ◌&&◌, nat_le, nat_lt, IsTrue, List, [], ◌∷◌, length, map, codes, Option, Some, None, option_map, option_and_then, if◌then◌else◌}
 use Rattle.std.specs.Fmt.{decimal}
 use Rattle.std.specs.List.{join_with_byte, AllByRecursion}
 use Rattle.std.specs.Str.{bytes_eq}
@@ -103,6 +103,16 @@ HasLineAmount Call = Unit {0}
 HasLineAmount AllIn = Unit {0}
 HasLineAmount (Bet n) = IsLineNumber n
 HasLineAmount (Raise n) = IsLineNumber n
+
+-- the amount that the words left say: no word says 0, and one word a number above 0
+unfoldable pub amount_if_any : List (List ℕ) → Option ℕ
+amount_if_any [] = Some 0
+amount_if_any (word ∷ []) = option_and_then (λ n. if nat_lt 0 n then Some n else None) (number_of word)
+amount_if_any (word ∷ more ∷ words) = None
+
+-- the words of an amount that is left out where it is 0
+abbrev pub words_if_any : ℕ → List (List ℕ)
+words_if_any n = if n == 0 then [] else decimal n ∷ []
 
 -- what all words are, where each is something
 abbrev pub each_of : {A : Type 0} → (List ℕ → Option A) → List (List ℕ) → Option (List A)

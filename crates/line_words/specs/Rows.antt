@@ -14,7 +14,7 @@ use Rattle.betting_round.specs.declared.act.Act.{Act}
 use Rattle.seat_book.specs.declared.place.Place.{Place}
 use Rattle.line_words.specs.Limits.{most_members}
 use Rattle.line_words.specs.Words.{no_word}
-use Rattle.line_words.specs.Fields.{name_of, IsLineName, game_of, game_word, switch_of, switch_word, next_by, last_by, act_of, act_words, HasLineAmount, few_of, AreFew, place_of, place_text, IsLinePlace, members_of, list_text}
+use Rattle.line_words.specs.Fields.{name_of, IsLineName, game_of, game_word, switch_of, switch_word, next_by, last_by, act_of, act_words, HasLineAmount, amount_if_any, words_if_any, few_of, AreFew, place_of, place_text, IsLinePlace, members_of, list_text}
 
 -- a field that is one word
 pub data Field : Type 0 where
@@ -26,14 +26,15 @@ pub data Field : Type 0 where
   some_places : Field
   some_names : Field
 
--- the fields of a line: none; one in the only word that is left; one word, and fields behind it; and an act, or at
--- least one and at most so many of a kind, in all words that are left
+-- the fields of a line: none; one in the only word that is left; one word, and fields behind it; and an act, an amount
+-- that is left out where it is 0, or at least one and at most so many of a kind, in all words that are left
 infixr 5 ◌▸◌
 pub data Fields : Type 0 where
   no_field : Fields
   last : Field → Fields
   ◌▸◌ : Field → Fields → Fields
   an_act : Fields
+  if_any : Fields
   few : ℕ → Field → Fields
 
 -- what a field says
@@ -52,6 +53,7 @@ Values no_field = Unit {0}
 Values (last field) = Value field
 Values (field ▸ fields) = Value field × Values fields
 Values an_act = Act
+Values if_any = ℕ
 Values (few most field) = List (Value field)
 
 -- how a word is read as a field
@@ -90,6 +92,7 @@ field_words no_field values = []
 field_words (last field) value = field_word field value ∷ []
 field_words (field ▸ fields) values = field_word field values.0 ∷ field_words fields values.1
 field_words an_act act = act_words act
+field_words if_any n = words_if_any n
 field_words (few most field) values = map (field_word field) values
 
 -- what may stand in the fields of a line
@@ -98,6 +101,7 @@ AreLawful no_field values = Unit {0}
 AreLawful (last field) value = IsLawful field value
 AreLawful (field ▸ fields) values = IsLawful field values.0 × AreLawful fields values.1
 AreLawful an_act act = HasLineAmount act
+AreLawful if_any n = IsLineNumber n
 AreLawful (few most field) values = AreFew most (IsLawful field) values
 
 -- what makes something of the fields of a line
@@ -106,6 +110,7 @@ Maker no_field A = A
 Maker (last field) A = Value field → A
 Maker (field ▸ fields) A = Value field → Maker fields A
 Maker an_act A = Act → A
+Maker if_any A = ℕ → A
 Maker (few most field) A = List (Value field) → A
 
 -- what is made of what the fields say
@@ -114,6 +119,7 @@ made no_field make values = make
 made (last field) make value = make value
 made (field ▸ fields) make values = made fields (make values.0) values.1
 made an_act make act = make act
+made if_any make n = make n
 made (few most field) make values = make values
 
 -- what is made of the words that are left, read as these fields, where they are such
@@ -123,6 +129,7 @@ read_fields (last field) make words = option_map make (last_by (value_of field) 
 read_fields (field ▸ fields) make words =
     option_and_then (λ read. read_fields fields (make read.0) read.1) (next_by (value_of field) words)
 read_fields an_act make words = option_map make (act_of words)
+read_fields if_any make words = option_map make (amount_if_any words)
 read_fields (few most field) make words = option_map make (few_of most (value_of field) words)
 
 -- A row of a grammar: the first word of a line, the fields behind it, and what they make.

@@ -4,7 +4,7 @@ ghost use Rattle.std.specs.Prelude.{◌≡◌, ◌==◌, Some, None, [], ◌∷�
 ghost use Rattle.std.specs.List.{position};
 ghost use Rattle.std.specs.Str.{bytes_eq};
 ghost use Rattle.line_words.specs.Words.{pieces_of, words_of_line, no_word};
-ghost use Rattle.line_words.specs.Fields.{act_of, next_by, last_by};
+ghost use Rattle.line_words.specs.Fields.{act_of, amount_if_any, next_by, last_by};
 
 use crate::fields::{Spelled, read_act, read_act_with};
 use betting_round::Act;
@@ -150,5 +150,21 @@ impl<'a> LineWords<'a> {
         };
         let act = read_act_with(word, read_number(amount)?)?;
         if self.is_done() { Some(act) } else { None }
+    }
+
+    /// Takes all words that are left as an amount: no word is 0, and one word is a number above 0.
+    #[tactic(auto, unfolding(crate::specs::Fields::amount_if_any))]
+    pub fn amount_if_any(&mut self) -> Option<u64>
+        ensures { result ≡ amount_if_any self.old }
+    {
+        let Some(word) = self.next_word() else {
+            return Some(0);
+        };
+        let amount = read_number(word)?;
+        if self.is_done() && amount > 0 {
+            Some(amount)
+        } else {
+            None
+        }
     }
 }
