@@ -44,6 +44,7 @@ fn plan_line(item: PlanItem) -> &'static [u8]
         PlanItem::Late => b"plan late\n",
         PlanItem::Blinds => b"plan blinds\n",
         PlanItem::Shares => b"plan shares\n",
+        PlanItem::Limit => b"plan limit\n",
         PlanItem::FloorWord => b"plan floor_word\n",
         PlanItem::Words => b"plan words\n",
     }

@@ -1,12 +1,12 @@
 -- Values are read one after another, and so are the members of a table.
-use Rattle.std.proofs.Common.{◌≡◌, ℕ, ◌+◌, ◌<◌, ◌≤◌, List, [], ◌∷◌, ◌++◌, length, drop, get_or, Option, Some, None, option_map, refl, sym, ap, ◌∙◌, arith, append_assoc, string_bytes}
+use Rattle.std.proofs.Common.{◌≡◌, ℕ, ◌+◌, ◌<◌, ◌≤◌, false, List, [], ◌∷◌, ◌++◌, length, drop, get_or, Option, Some, None, option_map, refl, sym, ap, ◌∙◌, arith, append_assoc, string_bytes}
 use Rattle.std.specs.Prelude.{option_and_then}
 use Rattle.toml.specs.Data.{Data}
 use Rattle.toml.specs.View.{view, items_view, members_view}
 use Rattle.toml.specs.declared.value.Value.{Value}
 use Rattle.toml.proofs.Views.{Entry, items_view-drop}
 use Rattle.plan_files.specs.declared.words.PlayerWord.{PlayerWord}
-use Rattle.plan_files.specs.FileValues.{each_item, level_of_items}
+use Rattle.plan_files.specs.FileValues.{each_item, has_no_item, level_of_items}
 use Rattle.plan_files.specs.Words.{player_of, each_player}
 
 -- what is found behind a list, with the list before it
@@ -36,6 +36,11 @@ pub each_none : {A : Type 0} (said : Data → Option A) (values : List Value) (i
 each_none said values i value list inside is says before =
     sym before ∙ rw (items_view-drop values i value inside, is, says)
 
+-- a list that has a value
+pub has_one : (seen values : List Value) → seen ≡ values → 1 ≤ length seen → false ≡ has_no_item (items_view values)
+has_one seen [] is some = absurd (omega (arith, some, ap length is))
+has_one seen (first ∷ values) is some = refl
+
 -- too few values for a level
 pub too_few : (seen values : List Value) → seen ≡ values → length seen < 3
     → None ≡ level_of_items (items_view values)
@@ -45,13 +50,14 @@ too_few seen (first ∷ second ∷ []) is few = refl
 too_few seen (first ∷ second ∷ third ∷ values) is few = absurd (omega (arith, ap length is))
 
 -- too many values for a level
-pub too_many : (seen values : List Value) → seen ≡ values → 4 ≤ length seen
+pub too_many : (seen values : List Value) → seen ≡ values → 5 ≤ length seen
     → None ≡ level_of_items (items_view values)
 too_many seen [] is many = refl
 too_many seen (first ∷ []) is many = refl
 too_many seen (first ∷ second ∷ []) is many = refl
 too_many seen (first ∷ second ∷ third ∷ []) is many = absurd (omega (arith, ap length is))
-too_many seen (first ∷ second ∷ third ∷ fourth ∷ values) is many = refl
+too_many seen (first ∷ second ∷ third ∷ fourth ∷ []) is many = absurd (omega (arith, ap length is))
+too_many seen (first ∷ second ∷ third ∷ fourth ∷ fifth ∷ values) is many = refl
 
 -- one player more
 pub player_more : (entry : Entry) (entries : List Entry) (player : PlayerWord) (list : List PlayerWord)

@@ -9,8 +9,8 @@ use Rattle.level_plan.specs.declared.line.PlanLine.{PlanLine}
 use Rattle.level_plan.specs.declared.line.PlanLine.TheVariants as lines
 use Rattle.level_plan.specs.declared.plan.Blind.{Blind}
 use Rattle.level_plan.specs.Drafts.{Draft, empty_draft, is_wrong_line, item_of_line, draft_after}
-use Rattle.plan_files.specs.PlanFiles.{◌>>=◌, unless, given, is_wrong_item, are_wrong_levels, item_checks, items_in}
-use Rattle.plan_files.specs.Steps.{after_line, after_blinds, after_room, after_entry, after_lists, after_items}
+use Rattle.plan_files.specs.PlanFiles.{◌>>=◌, unless, given, is_wrong_item, is_wrong_limit, are_wrong_levels, item_checks, items_in}
+use Rattle.plan_files.specs.Steps.{after_line, after_blinds, after_limit, after_room, after_entry, after_lists, after_items}
 use Rattle.plan_files.proofs.LevelRules.{after_blinds-is_rule}
 
 -- a step that may find an item wrong, and what follows
@@ -54,19 +54,17 @@ levels_step draft blinds next later end rest =
     rw (after_blinds-is_rule draft blinds)
     (branch (are_wrong_levels blinds) items.Blinds (record draft { blinds = blinds }) next later end rest)
 
--- the last item
-last_step : (said : Option (List ℕ)) (draft : Draft) (after : Option (List ℕ) → Draft)
-    → Sets items.Shares lines.Shares draft after
-    → after_line items.Shares (option_map lines.Shares said) draft
-    ≡ unless (if is_wrong_item lines.Shares said then Some items.Shares else None) (after said)
-unfolding after_line
-last_step None draft after is = refl
-last_step (Some shares) draft after is =
-    rw (is.alike shares, is.sets shares)
-    (by_test (is_wrong_line empty_draft (lines.Shares shares)) (after (Some shares)))
+-- the fixed limit, which is the last item
+limit_step : (said : Option ℕ) (draft : Draft)
+    → after_limit said (record draft { cap = None })
+    ≡ unless (if is_wrong_limit said then Some items.Limit else None) (record draft { cap = said })
+unfolding after_limit after_line
+limit_step None draft = refl
+limit_step (Some n) draft =
+    by_test (is_wrong_line empty_draft (lines.Limit n)) (record draft { cap = Some n })
   where
     by_test : (wrong : Bool) (end : Draft)
-        → (if wrong then Err items.Shares else Ok end) ≡ unless (if wrong then Some items.Shares else None) end
+        → (if wrong then Err items.Limit else Ok end) ≡ unless (if wrong then Some items.Limit else None) end
     by_test true end = refl
     by_test false end = refl
 
@@ -128,18 +126,23 @@ entry_step said next later end rest =
     (step items.Late lines.Late said.late d5 (λ n. record d5 { late = n }) next later end
     (record { alike = λ value. refl; sets = λ value. refl; names = λ value. refl }) rest))
 
--- the levels and the shares
+-- the levels, the shares and the fixed limit
 lists_step : (said : Draft) → after_lists said (with_entry said)
     ≡ unless (if are_wrong_levels said.blinds then Some items.Blinds
-    else (if is_wrong_item lines.Shares said.shares then Some items.Shares else None)) said
+    else (if is_wrong_item lines.Shares said.shares then Some items.Shares
+    else (if is_wrong_limit said.cap then Some items.Limit else None))) said
 unfolding after_lists
 lists_step said =
     let d6 : Draft = with_entry said in
     let d7 : Draft = record d6 { blinds = said.blinds } in
-    levels_step d6 said.blinds (after_line items.Shares (option_map lines.Shares said.shares))
-    (if is_wrong_item lines.Shares said.shares then Some items.Shares else None) said
-    (last_step said.shares d7 (λ shares. record d7 { shares = shares })
-    (record { alike = λ value. refl; sets = λ value. refl; names = λ value. refl }))
+    let d8 : Draft = record d7 { shares = said.shares } in
+    let shares : Draft → Result Draft PlanItem = after_line items.Shares (option_map lines.Shares said.shares) in
+    let later2 : Option PlanItem = if is_wrong_limit said.cap then Some items.Limit else None in
+    let later1 : Option PlanItem = if is_wrong_item lines.Shares said.shares then Some items.Shares else later2 in
+    levels_step d6 said.blinds (λ d. shares d >>= after_limit said.cap) later1 said
+    (step items.Shares lines.Shares said.shares d7 (λ shares. record d7 { shares = shares }) (after_limit said.cap)
+    later2 said (record { alike = λ value. refl; sets = λ value. refl; names = λ value. refl })
+    (limit_step said.cap d8))
 
 -- All items given one after another are the items of the file, unless one alone is wrong.
 pub after_items-is_rule : (said : Draft) → after_items said ≡ unless (first_that_holds (item_checks said)) said
@@ -147,7 +150,8 @@ unfolding after_items
 after_items-is_rule said =
     let last : Option PlanItem =
     if are_wrong_levels said.blinds then Some items.Blinds
-    else (if is_wrong_item lines.Shares said.shares then Some items.Shares else None) in
+    else (if is_wrong_item lines.Shares said.shares then Some items.Shares
+    else (if is_wrong_limit said.cap then Some items.Limit else None)) in
     let entry : Option PlanItem =
     if is_wrong_item lines.Stack said.stack then Some items.Stack
     else (if is_wrong_item lines.Buyin said.buyin then Some items.Buyin

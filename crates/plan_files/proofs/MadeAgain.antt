@@ -1,8 +1,9 @@
 -- The lines of a right plan, and then `go`, make this plan.
-use Rattle.std.proofs.Common.{◌≡◌, ℕ, refl, sym, ap, ◌∙◌, true, false, List, [], ◌∷◌, ◌++◌, length, map, append_assoc, append-nil, arith}
-use Rattle.std.specs.Prelude.{Bool, ◌&&◌, ◌||◌, ◌==◌, ◌%◌, not, nat_le, nat_lt, Option, Some, None, Result, Ok}
+use Rattle.std.proofs.Common.{◌≡◌, ◌≤◌, ◌+◌, ℕ, refl, sym, ap, ◌∙◌, true, false, List, [], ◌∷◌, ◌++◌, length, length-append, map, append_assoc, append-nil, arith}
+use Rattle.std.specs.Prelude.{Bool, ◌&&◌, ◌||◌, ◌==◌, ◌%◌, not, nat_le, nat_lt, Option, Some, None, Result, Ok, unwrap_or, if◌then◌else◌}
 use Rattle.std.proofs.lemmas.Bool.{and_parts, and_from, not_from_true}
 use Rattle.std.proofs.lemmas.Bool.Decides.{nat_tests}
+use Rattle.std.proofs.lemmas.List.{length-map}
 use Rattle.toml.specs.Data.{Members}
 use Rattle.rulebook.specs.Checks.{first_that_holds}
 use Rattle.rulebook.specs.Limits.{most_seats, most_tables}
@@ -11,11 +12,11 @@ use Rattle.level_plan.specs.declared.line.PlanLine.{PlanLine}
 use Rattle.level_plan.specs.declared.line.PlanLine.TheVariants as lines
 use Rattle.level_plan.specs.declared.plan.Blind.{Blind}
 use Rattle.level_plan.specs.Items.{is_between, are_levels, are_shares}
-use Rattle.level_plan.specs.Limits.{fewest_seats, greatest_amount}
-use Rattle.level_plan.specs.Drafts.{Draft, empty_draft, is_wrong_line, draft_after, go_fault}
+use Rattle.level_plan.specs.Limits.{fewest_seats, greatest_amount, most_wagers}
+use Rattle.level_plan.specs.Drafts.{Draft, empty_draft, is_wrong_line, draft_after, go_fault, plan_of}
 use Rattle.level_plan.specs.Plans.{PlanTerms, is_right, unit_of_level}
-use Rattle.plan_files.specs.PlanFiles.{unless, given, item_checks, items_in, plan_in}
-use Rattle.plan_files.specs.PlanLines.{whole_draft, lines_of_plan, plan_of_lines}
+use Rattle.plan_files.specs.PlanFiles.{unless, given, is_wrong_limit, item_checks, items_in, plan_in}
+use Rattle.plan_files.specs.PlanLines.{limit_given, limit_lines, whole_draft, lines_of_plan, plan_of_lines}
 use Rattle.plan_files.proofs.LevelRules.{all_fit, fits, all_fit-are_right}
 
 -- a line that is taken is followed by the others
@@ -34,6 +35,7 @@ pub record IsRight (plan : PlanTerms) : Type 0 where
   pub few : nat_le (length plan.blinds) 40 ≡ true
   pub levels : are_levels plan.blinds ≡ true
   pub shares : are_shares plan.shares ≡ true
+  pub cap : nat_le plan.cap most_wagers ≡ true
   pub whole : (plan.stack % unit_of_level plan.blinds plan.late == 0) ≡ true
 
 parts_of : (plan : PlanTerms) → is_right plan ≡ true → IsRight plan
@@ -46,6 +48,7 @@ parts_of plan right =
     let few = and_parts _ _ late.1 in
     let levels = and_parts _ _ few.1 in
     let shares = and_parts _ _ levels.1 in
+    let cap = and_parts _ _ shares.1 in
     record {
       tables = tables.0;
       seats = seats.0;
@@ -55,7 +58,8 @@ parts_of plan right =
       few = few.0;
       levels = levels.0;
       shares = shares.0;
-      whole = shares.1;
+      cap = cap.0;
+      whole = cap.1;
     }
 
 -- levels that fit are taken one after another
@@ -82,8 +86,44 @@ no_fault plan is =
 no_longer : (n : ℕ) → nat_le n 1000000000 ≡ true → nat_lt 1000000000 n ≡ false
 no_longer n few = grind (arith, nat_tests)
 
+-- the cap that a draft gives of which the fixed limit of a plan is given
+cap_given : (cap : ℕ) → unwrap_or (limit_given cap) 0 ≡ cap
+cap_given cap = by_test (nat_lt 0 cap) refl
+  where
+    by_test : (some : Bool) → nat_lt 0 cap ≡ some → unwrap_or (if some then Some cap else None) 0 ≡ cap
+    by_test true is = refl
+    by_test false is = grind (arith, nat_tests, is)
+
+-- the plan of a draft of which all is given
+whole_plan : (plan : PlanTerms) → plan_of (whole_draft plan) ≡ plan
+whole_plan plan = ap (λ (cap : ℕ). record plan { cap = cap }) (cap_given plan.cap)
+
 ends : (plan : PlanTerms) → IsRight plan → plan_of_lines (whole_draft plan) [] ≡ Ok plan
-ends plan is = rw (no_fault plan is)
+ends plan is = rw (no_fault plan is) (ap Ok (whole_plan plan))
+
+limit_lawful : (cap : ℕ) → nat_lt 0 cap ≡ true → nat_le cap most_wagers ≡ true → is_between 1 most_wagers cap ≡ true
+limit_lawful cap some few = grind (arith, nat_tests)
+
+-- the fixed limit is given last, where there is one
+limit_taken : (cap : ℕ) (draft : Draft) (made : Result PlanTerms PlanItem) → nat_le cap most_wagers ≡ true
+    → plan_of_lines (record draft { cap = limit_given cap }) [] ≡ made
+    → plan_of_lines (record draft { cap = None }) (limit_lines cap) ≡ made
+limit_taken cap draft made few rest = by_test (nat_lt 0 cap) refl rest
+  where
+    by_test : (some : Bool) → nat_lt 0 cap ≡ some
+        → plan_of_lines (record draft { cap = if some then Some cap else None }) [] ≡ made
+        → plan_of_lines (record draft { cap = None }) (if some then lines.Limit cap ∷ [] else []) ≡ made
+    by_test true is rest =
+        taken (record draft { cap = None }) (lines.Limit cap) [] made (not_from_true _ (limit_lawful cap is few)) rest
+    by_test false is rest = rest
+
+-- the fixed limit of a right plan is not wrong
+right_limit : (cap : ℕ) → nat_le cap most_wagers ≡ true → is_wrong_limit (limit_given cap) ≡ false
+right_limit cap few = by_test (nat_lt 0 cap) refl
+  where
+    by_test : (some : Bool) → nat_lt 0 cap ≡ some → is_wrong_limit (if some then Some cap else None) ≡ false
+    by_test true is = not_from_true _ (limit_lawful cap is few)
+    by_test false is = refl
 
 late_lawful : (late count : ℕ) → is_between 1 count late ≡ true → nat_le count 40 ≡ true → is_between 1 40 late ≡ true
 late_lawful late count level few = grind (arith, nat_tests)
@@ -101,7 +141,9 @@ made_again plan right =
     let d7 : Draft = record d6 { blinds = plan.blinds } in
     let fit : all_fit [] plan.blinds ≡ true =
     all_fit-are_right [] plan.blinds refl ∙ and_from _ _ is.few is.levels in
-    let after7 : List PlanLine = lines.Shares plan.shares ∷ [] in
+    let d8 : Draft = record d7 { shares = Some plan.shares } in
+    let after8 : List PlanLine = limit_lines plan.cap in
+    let after7 : List PlanLine = lines.Shares plan.shares ∷ after8 in
     let after6 : List PlanLine = map lines.Blinds plan.blinds ++ after7 in
     let after5 : List PlanLine = lines.Late plan.late ∷ after6 in
     let after4 : List PlanLine = lines.Buyin plan.buyin ∷ after5 in
@@ -116,8 +158,8 @@ made_again plan right =
     (taken d5 (lines.Late plan.late) after6 (Ok plan)
     (not_from_true _ (late_lawful plan.late (length plan.blinds) is.late is.few))
     (levels_taken d6 [] plan.blinds after7 (Ok plan) fit
-    (taken d7 (lines.Shares plan.shares) [] (Ok plan) (not_from_true _ is.shares)
-    (ends plan is))))))))
+    (taken d7 (lines.Shares plan.shares) after8 (Ok plan) (not_from_true _ is.shares)
+    (limit_taken plan.cap d8 (Ok plan) is.cap (ends plan is)))))))))
 
 some_levels : (levels late : ℕ) → is_between 1 levels late ≡ true → nat_le levels 40 ≡ true → is_between 1 40 levels ≡ true
 some_levels levels late level few = grind (arith, nat_tests)
@@ -134,6 +176,7 @@ no_wrong_item plan is =
       some_levels (length plan.blinds) plan.late is.late is.few,
       is.levels,
       is.shares,
+      right_limit plan.cap is.cap,
     )
 
 right_items : (file : Members) (plan : PlanTerms) → IsRight plan → given file ≡ whole_draft plan
@@ -149,4 +192,35 @@ pub right_file : (file : Members) (plan : PlanTerms) → is_right plan ≡ true 
 unfolding plan_in
 right_file file plan right says =
     rw (right_items file plan (parts_of plan right) says)
-    (ap (λ (found : Option PlanItem). unless found plan) (no_fault plan (parts_of plan right)))
+    (rw (no_fault plan (parts_of plan right)) (ap Ok (whole_plan plan)))
+
+-- the lines of a plan without that of its fixed limit
+abbrev pub item_lines : PlanTerms → List PlanLine
+item_lines plan =
+    lines.Game plan.game ∷
+    lines.Tables plan.tables ∷
+    lines.Seats plan.seats ∷
+    lines.Stack plan.stack ∷
+    lines.Buyin plan.buyin ∷
+    lines.Late plan.late ∷
+    map lines.Blinds plan.blinds ++ lines.Shares plan.shares ∷ []
+
+-- the line of the fixed limit behind them
+pub limit_behind : (plan : PlanTerms) → item_lines plan ++ limit_lines plan.cap ≡ lines_of_plan plan
+limit_behind plan =
+    rw (append_assoc (map lines.Blinds plan.blinds) (lines.Shares plan.shares ∷ []) (limit_lines plan.cap))
+
+few_limit_lines : (cap : ℕ) → length (limit_lines cap) ≤ 1
+few_limit_lines cap = by_test (nat_lt 0 cap)
+  where
+    by_test : (some : Bool) → length (if some then lines.Limit cap ∷ [] else []) ≤ 1
+    by_test true = omega arith
+    by_test false = omega arith
+
+-- a plan has a line for each of its levels, and at most eight others
+pub few_lines : (plan : PlanTerms) → length (lines_of_plan plan) ≤ length plan.blinds + 8
+few_lines plan =
+    let limit = few_limit_lines plan.cap in
+    let levels = length-map plan.blinds lines.Blinds in
+    let all = length-append (map lines.Blinds plan.blinds) (lines.Shares plan.shares ∷ limit_lines plan.cap) in
+    omega (arith, limit, levels, all)

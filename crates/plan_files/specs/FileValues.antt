@@ -1,5 +1,6 @@
 -- What the values of a plan file say: a number, a game, a level, a list of these. This project's own.
-use Rattle.std.specs.Prelude.{ℕ, ℤ, pos, negsuc, List, [], ◌∷◌, Option, Some, None, option_and_then}
+use Rattle.std.specs.Prelude.{ℕ, ℤ, pos, negsuc, Bool, true, false, List, [], ◌∷◌, Option, Some, None, nat_lt, option_and_then, if◌then◌else◌}
+use Rattle.std.specs.Option.{option_map_or}
 use Rattle.toml.specs.Data.{Data, Items, no_items, item, Members, get_member, as_integer, as_str, as_array}
 use Rattle.card_set.specs.declared.game.Game.{Game}
 use Rattle.line_words.specs.Fields.{◌>>=◌, game_of}
@@ -18,19 +19,38 @@ natural_of value = option_and_then natural (as_integer value)
 abbrev pub game_named : Data → Option Game
 game_named value = option_and_then game_of (as_str value)
 
--- three numbers, as those of a level: its small blind, its big blind and its unit
+-- a whole number that is at least 1
+abbrev pub ante_of : Data → Option ℕ
+ante_of value = option_and_then (λ n. if nat_lt 0 n then Some n else None) (natural_of value)
+
+-- whether there is no member
+abbrev pub has_no_item : Items → Bool
+has_no_item no_items = true
+has_no_item (item first items) = false
+
+-- whether a value is a list with no member
+abbrev pub is_empty_list : Data → Bool
+is_empty_list value = option_map_or has_no_item (as_array value) false
+
+-- three numbers, as those of a level: its small blind, its big blind and its unit; and its ante, where it has one
 abbrev pub level_of_items : Items → Option Blind
 level_of_items (item first (item second (item third no_items))) = do
   small ← natural_of first
   big ← natural_of second
   unit ← natural_of third
-  Some (record { small = small; big = big; unit = unit })
-level_of_items (item first (item second (item third (item fourth items)))) = None
+  Some (record { small = small; big = big; unit = unit; ante = 0 })
+level_of_items (item first (item second (item third (item fourth no_items)))) = do
+  small ← natural_of first
+  big ← natural_of second
+  unit ← natural_of third
+  ante ← ante_of fourth
+  Some (record { small = small; big = big; unit = unit; ante = ante })
+level_of_items (item first (item second (item third (item fourth (item fifth items))))) = None
 level_of_items (item first (item second no_items)) = None
 level_of_items (item first no_items) = None
 level_of_items no_items = None
 
--- a level: a list of its three numbers
+-- a level: a list of its three or four numbers
 abbrev pub level_of : Data → Option Blind
 level_of value = option_and_then level_of_items (as_array value)
 

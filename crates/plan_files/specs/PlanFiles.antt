@@ -1,8 +1,8 @@
 -- What a plan file says, and which item of it is wrong first. This project's own.
-use Rattle.std.specs.Prelude.{◌≡◌, ℕ, Bool, true, ◌&&◌, not, List, [], ◌∷◌, length, codes, Option, Some, None, Result, Ok, Err, unwrap_or, if◌then◌else◌}
+use Rattle.std.specs.Prelude.{◌≡◌, ℕ, Bool, true, false, ◌&&◌, not, List, [], ◌∷◌, length, codes, Option, Some, None, Result, Ok, Err, option_and_then, unwrap_or, if◌then◌else◌}
 use Rattle.std.specs.Option.{ok_or, option_map_or}
 use Rattle.std.specs.Str.{is_utf8}
-use Rattle.toml.specs.Data.{Members}
+use Rattle.toml.specs.Data.{Data, Members, get_member}
 use Rattle.toml.specs.Parse.{parse_document}
 use Rattle.rulebook.specs.Checks.{first_that_holds}
 use Rattle.level_plan.specs.declared.line.PlanItem.{PlanItem}
@@ -16,7 +16,7 @@ use Rattle.level_plan.specs.Items.{is_between, are_levels}
 use Rattle.level_plan.specs.Limits.{most_levels}
 use Rattle.level_plan.specs.Drafts.{Draft, empty_draft, is_wrong_line, go_fault, plan_of}
 use Rattle.level_plan.specs.Plans.{PlanTerms}
-use Rattle.plan_files.specs.FileValues.{natural_of, game_named, level_of, list_of, said_at}
+use Rattle.plan_files.specs.FileValues.{is_empty_list, natural_of, game_named, level_of, list_of, said_at}
 
 -- what is read where nothing is wrong, and what is read of it
 infixl 10 ◌>>=◌
@@ -33,7 +33,13 @@ unless (Some item) value = Err item
 unfoldable pub document_of : List ℕ → Result Members PlanItem
 document_of bytes = ok_or (if is_utf8 bytes then parse_document bytes else None) items.Toml
 
--- what a file gives of each item: nothing where it is missing or of another kind
+-- the number that a value gives for the most wagers of a street: nothing where it is a list with no member, which
+-- counts as missing, and 0, which is not lawful, where it is of another kind
+abbrev pub wagers_of : Data → Option ℕ
+wagers_of value = if is_empty_list value then None else Some (unwrap_or (natural_of value) 0)
+
+-- what a file gives of each item: nothing where it is missing or of another kind. The fixed limit alone may be missing,
+-- and a number is given of it wherever the file has something else than a list with no member at its key.
 abbrev pub given : Members → Draft
 given file = record {
   game = said_at game_named (codes "game") file;
@@ -44,6 +50,7 @@ given file = record {
   late = said_at natural_of (codes "late") file;
   blinds = unwrap_or (said_at (list_of level_of) (codes "blinds") file) [];
   shares = said_at (list_of natural_of) (codes "shares") file;
+  cap = option_and_then wagers_of (get_member (codes "limit") file);
 }
 
 -- an item is wrong where nothing is given of it, or where a plan of which nothing is given would not take its line
@@ -53,6 +60,10 @@ is_wrong_item line given = option_map_or (λ value. is_wrong_line empty_draft (l
 -- levels are wrong where there are none or more than 40, or where one is not lawful or does not follow the one before
 abbrev pub are_wrong_levels : List Blind → Bool
 are_wrong_levels blinds = not (is_between 1 most_levels (length blinds) && are_levels blinds)
+
+-- a fixed limit is wrong only where one is given
+abbrev pub is_wrong_limit : Option ℕ → Bool
+is_wrong_limit given = option_map_or (λ n. is_wrong_line empty_draft (lines.Limit n)) given false
 
 -- what is wrong with the items of a file, each alone, in their order
 abbrev pub item_checks : Draft → List (PlanItem × Bool)
@@ -64,7 +75,8 @@ item_checks draft =
     (items.Buyin, is_wrong_item lines.Buyin draft.buyin) ∷
     (items.Late, is_wrong_item lines.Late draft.late) ∷
     (items.Blinds, are_wrong_levels draft.blinds) ∷
-    (items.Shares, is_wrong_item lines.Shares draft.shares) ∷ []
+    (items.Shares, is_wrong_item lines.Shares draft.shares) ∷
+    (items.Limit, is_wrong_limit draft.cap) ∷ []
 
 -- the items of a file, unless one alone is wrong
 unfoldable pub items_in : Members → Result Draft PlanItem

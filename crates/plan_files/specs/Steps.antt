@@ -1,5 +1,5 @@
 -- A draft that is given the items of a file one after another, as the code does it. This project's own.
-use Rattle.std.specs.Prelude.{List, [], ◌∷◌, Option, Some, None, Result, Ok, Err, option_map, if◌then◌else◌}
+use Rattle.std.specs.Prelude.{ℕ, List, [], ◌∷◌, Option, Some, None, Result, Ok, Err, option_map, if◌then◌else◌}
 use Rattle.level_plan.specs.declared.line.PlanItem.{PlanItem}
 use Rattle.level_plan.specs.declared.line.PlanItem.TheVariants as items
 use Rattle.level_plan.specs.declared.line.PlanLine.{PlanLine}
@@ -38,11 +38,17 @@ after_entry said draft = do
   second ← after_line items.Buyin (option_map lines.Buyin said.buyin) first
   after_line items.Late (option_map lines.Late said.late) second
 
--- a draft that is given the levels and the shares
+-- a draft that is given the line of a fixed limit, where there is one
+unfoldable pub after_limit : Option ℕ → Draft → Result Draft PlanItem
+after_limit None draft = Ok draft
+after_limit (Some n) draft = after_line items.Limit (Some (lines.Limit n)) draft
+
+-- a draft that is given the levels, the shares and the fixed limit
 unfoldable pub after_lists : Draft → Draft → Result Draft PlanItem
 after_lists said draft = do
   first ← after_blinds said.blinds draft
-  after_line items.Shares (option_map lines.Shares said.shares) first
+  second ← after_line items.Shares (option_map lines.Shares said.shares) first
+  after_limit said.cap second
 
 -- a draft that is given all items
 unfoldable pub after_items : Draft → Result Draft PlanItem

@@ -3,7 +3,7 @@
 ghost use Rattle.std.specs.Prelude.{◌≡◌, Option, IfOk, option_map, option_and_then};
 ghost use Rattle.toml.specs.Data.{Data, as_array, get_member};
 ghost use Rattle.toml.specs.View.{view, items_view, array_view, table_view};
-ghost use Rattle.plan_files.specs.FileValues.{natural_of, game_named, level_of, each_item, list_of, said_at};
+ghost use Rattle.plan_files.specs.FileValues.{ante_of, is_empty_list, natural_of, game_named, level_of, each_item, list_of, said_at};
 
 use card_set::Game;
 use floor_text::List;
@@ -41,19 +41,44 @@ impl FileValue for Game {
     }
 }
 
-/// The three numbers of a level.
+/// Reads an ante: a whole number that is at least 1.
+fn read_ante(value: &Value) -> Option<u64>
+    ensures { result ≡ ante_of (view value.now) }
+{
+    let ante = u64::of_value(value)?;
+    if ante > 0 { Some(ante) } else { None }
+}
+
+/// The three numbers of a level, or four where it has an ante.
 impl FileValue for Blind {
     ghost said = { level_of };
 
     fn of_value(value: &Value) -> Option<Blind> {
-        let [small, big, unit] = value.as_array()?.as_slice() else {
-            return None;
-        };
-        Some(Blind {
-            small: u64::of_value(small)?,
-            big: u64::of_value(big)?,
-            unit: u64::of_value(unit)?,
-        })
+        match value.as_array()?.as_slice() {
+            [small, big, unit] => Some(Blind {
+                small: u64::of_value(small)?,
+                big: u64::of_value(big)?,
+                unit: u64::of_value(unit)?,
+                ante: 0,
+            }),
+            [small, big, unit, ante] => Some(Blind {
+                small: u64::of_value(small)?,
+                big: u64::of_value(big)?,
+                unit: u64::of_value(unit)?,
+                ante: read_ante(ante)?,
+            }),
+            _ => None,
+        }
+    }
+}
+
+/// Tells whether a value is a list with no member.
+pub fn is_empty_list(value: &Value) -> bool
+    ensures { result ≡ is_empty_list (view value.now) }
+{
+    match value.as_array() {
+        Some(array) => matches!(array.as_slice(), []),
+        None => false,
     }
 }
 

@@ -2,14 +2,14 @@
 
 ghost use Rattle.std.specs.Prelude.{◌≡◌, ◌++◌, map, Ok, IfOk, OnOk};
 ghost use Rattle.level_plan.specs.Drafts.{empty_draft};
-ghost use Rattle.plan_files.specs.PlanLines.{lines_of_plan, plan_of_lines};
+ghost use Rattle.plan_files.specs.PlanLines.{limit_lines, lines_of_plan, plan_of_lines};
 
 use floor_text::List;
 use level_plan::{Blind, Plan, PlanLine};
 use std::alloc::{AllocError, Global};
 
-/// Gives the lines of a plan in the order of its items. A draft that is given these lines, and then the end of the
-/// plan, makes this plan again.
+/// Gives the lines of a plan in the order of its items, and last that of its fixed limit, if it has one. A draft that
+/// is given these lines, and then the end of the plan, makes this plan again.
 pub fn plan_lines(alloc: Global, plan: &Plan) -> Result<Vec<PlanLine>, AllocError>
     ensures lines { IfOk result (λ lines. lines.items ≡ lines_of_plan plan.now) }
     ensures again { IfOk result (λ lines. plan_of_lines empty_draft lines.items ≡ Ok plan.now) }
@@ -24,6 +24,7 @@ pub fn plan_lines(alloc: Global, plan: &Plan) -> Result<Vec<PlanLine>, AllocErro
     push_levels(&mut lines, plan.blinds.items())?;
     let shares = Vec::from_slice(alloc, plan.shares.items())?;
     lines.push(PlanLine::Shares(List::from_vec(shares)))?;
+    push_limit(&mut lines, plan.cap)?;
     Ok(lines)
 }
 
@@ -33,6 +34,16 @@ fn push_levels(lines: &mut Vec<PlanLine>, blinds: &[Blind]) -> Result<(), AllocE
 {
     for blind in blinds {
         lines.push(PlanLine::Blinds(*blind))?;
+    }
+    Ok(())
+}
+
+/// Puts a line for the fixed limit behind the lines, where there is one.
+fn push_limit(lines: &mut Vec<PlanLine>, cap: u64) -> Result<(), AllocError>
+    ensures { OnOk result (lines.new.items ≡ lines.old.items ++ limit_lines cap) }
+{
+    if cap > 0 {
+        lines.push(PlanLine::Limit(cap))?;
     }
     Ok(())
 }

@@ -1,22 +1,22 @@
 //! The plan of a file.
 
 ghost use Rattle.std.specs.Prelude.{◌≡◌, Ok, IfOk, IfErr, OnOk, IsTrue};
-ghost use Rattle.toml.specs.View.{table_view};
+ghost use Rattle.toml.specs.View.{table_view, view};
 ghost use Rattle.level_plan.specs.Plans.{is_right};
-ghost use Rattle.plan_files.specs.PlanFiles.{given, document_of, plan_in, plan_of_file, IsWrong};
-ghost use Rattle.plan_files.specs.Steps.{after_line, after_levels, after_blinds, after_room, after_entry, after_lists, after_items};
+ghost use Rattle.plan_files.specs.PlanFiles.{given, document_of, plan_in, plan_of_file, wagers_of, IsWrong};
+ghost use Rattle.plan_files.specs.Steps.{after_line, after_levels, after_blinds, after_limit, after_room, after_entry, after_lists, after_items};
 ghost use Rattle.plan_files.specs.Words.{served_of_file};
 
-use crate::file_value::{list_at, said_at};
+use crate::file_value::{FileValue, is_empty_list, list_at, said_at, value_at};
 use crate::words::{Words, words_in};
 use floor_text::List;
 use level_plan::{Blind, Plan, PlanDraft, PlanFault, PlanItem, PlanLine};
 use std::alloc::{AllocError, Global};
-use toml::Table;
+use toml::{Table, Value};
 
 /// Reads the plan of a file's bytes, or names its first wrong item: the text, where it is no TOML; then each item that
-/// is missing, of another kind or not lawful, in the order of a plan's items; then `Late` and `Stack` by the end of a
-/// plan. Other keys are ignored. `NoMemory` is want of memory.
+/// is missing, of another kind or not lawful, in the order of a plan's items, where the fixed limit alone may be
+/// missing; then `Late` and `Stack` by the end of a plan. Other keys are ignored. `NoMemory` is want of memory.
 pub fn plan_from_toml(alloc: Global, bytes: &[u8]) -> Result<Plan, PlanFault>
     ensures plan { IfOk result (λ plan. plan_of_file bytes.now ≡ Ok plan) }
     ensures right { IfOk result (λ plan. IsTrue (is_right plan)) }
@@ -98,7 +98,7 @@ fn give_entry(draft: &mut PlanDraft, file: &Table) -> Result<(), PlanFault>
     give(draft, PlanItem::Late, late)
 }
 
-/// Gives a draft the levels and the shares.
+/// Gives a draft the levels, the shares and the fixed limit.
 fn give_lists(alloc: Global, draft: &mut PlanDraft, file: &Table) -> Result<(), PlanFault>
     ensures given { OnOk result (after_lists (given (table_view file.now)) draft.old ≡ Ok draft.new) }
     ensures wrong { IfErr result (IsWrong (after_lists (given (table_view file.now)) draft.old)) }
@@ -106,7 +106,8 @@ fn give_lists(alloc: Global, draft: &mut PlanDraft, file: &Table) -> Result<(), 
     let levels = levels_at(alloc, file)?;
     give_blinds(draft, levels.items())?;
     let shares = list_at(alloc, file, "shares")?.map(PlanLine::Shares);
-    give(draft, PlanItem::Shares, shares)
+    give(draft, PlanItem::Shares, shares)?;
+    give_limit(draft, limit_at(file))
 }
 
 /// Reads the levels of a file, of which there are none where they are missing or of another kind.
@@ -116,6 +117,38 @@ fn levels_at(alloc: Global, file: &Table) -> Result<List<Blind>, AllocError>
     match list_at(alloc, file, "blinds")? {
         Some(levels) => Ok(levels),
         None => Ok(List::new(alloc)),
+    }
+}
+
+/// Reads the most wagers of a street: nothing where there is a list with no member, which counts as missing, and 0,
+/// which is not lawful, where there is something of another kind.
+fn read_wagers(value: &Value) -> Option<u64>
+    ensures { result ≡ wagers_of (view value.now) }
+{
+    if is_empty_list(value) {
+        return None;
+    }
+    Some(u64::of_value(value).unwrap_or(0))
+}
+
+/// Reads the fixed limit of a file, if it has one.
+fn limit_at(file: &Table) -> Option<u64>
+    ensures { result ≡ (given (table_view file.now)).cap }
+{
+    match value_at(file, "limit") {
+        Some(value) => read_wagers(value),
+        None => None,
+    }
+}
+
+/// Gives a draft the line of a fixed limit, where there is one.
+fn give_limit(draft: &mut PlanDraft, cap: Option<u64>) -> Result<(), PlanFault>
+    ensures given { OnOk result (after_limit cap draft.old ≡ Ok draft.new) }
+    ensures wrong { IfErr result (IsWrong (after_limit cap draft.old)) }
+{
+    match cap {
+        Some(cap) => give(draft, PlanItem::Limit, Some(PlanLine::Limit(cap))),
+        None => Ok(()),
     }
 }
 

@@ -6,7 +6,7 @@ use Rattle.plan_files.proofs.Wrong.{handed_on}
 use Rattle.plan_files.proofs.plan_file.give_levels.Goals as goal
 
 none : Blind
-none = record { small = 0; big = 0; unit = 0 }
+none = record { small = 0; big = 0; unit = 0; ante = 0 }
 
 pub returns-in_err-give-clause-wrong : goal.returns-in_err-give-clause-wrong
 unfolding none
