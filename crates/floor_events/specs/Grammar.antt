@@ -6,7 +6,7 @@ use Rattle.floor_text.specs.Limits.{longest_line}
 use Rattle.level_plan.specs.Limits.{most_shares}
 use Rattle.level_plan.specs.declared.line.PlanLine.TheVariants as lines
 use Rattle.line_words.specs.Words.{words_of_line}
-use Rattle.line_words.specs.Rows.{a_number, a_name, a_row, a_game, a_switch, some_places, some_names, no_field, last, ◌▸◌, an_act, few, Row, row, read_words, Line, line}
+use Rattle.line_words.specs.Rows.{a_number, a_name, a_row, a_game, a_switch, some_places, some_names, no_field, last, ◌▸◌, an_act, if_any, few, Row, row, read_words, Line, line}
 use Rattle.tournament_events.specs.declared.event.Event.{Event}
 use Rattle.tournament_events.specs.declared.event.Event.TheVariants as events
 use Rattle.tournament_events.specs.declared.event.Item.{Item}
@@ -27,8 +27,10 @@ plan_rows =
     row (codes "stack") (last a_number) (λ n. events.Plan (lines.Stack n)) ∷
     row (codes "buyin") (last a_number) (λ n. events.Plan (lines.Buyin n)) ∷
     row (codes "late") (last a_number) (λ n. events.Plan (lines.Late n)) ∷
-    row (codes "blinds") (a_number ▸ a_number ▸ last a_number)
-    (λ small big unit. events.Plan (lines.Blinds (record { small = small; big = big; unit = unit }))) ∷
+    row (codes "blinds") (a_number ▸ a_number ▸ a_number ▸ if_any)
+    (λ small big unit ante. events.Plan
+    (lines.Blinds (record { small = small; big = big; unit = unit; ante = ante }))) ∷
+    row (codes "limit") (last a_number) (λ n. events.Plan (lines.Limit n)) ∷
     row (codes "go") no_field events.Go ∷ []
 
 -- the rows of all other events
@@ -38,6 +40,7 @@ play_rows =
     row (codes "begin") (a_number ▸ last a_row) events.Begin ∷
     row (codes "settle") (last a_number) events.Settle ∷
     row (codes "enter") (a_name ▸ a_number ▸ last a_number) events.Enter ∷
+    row (codes "reenter") (a_name ▸ a_number ▸ last a_number) events.Reenter ∷
     row (codes "time") (last a_number) events.Time ∷
     row (codes "balance") (a_number ▸ last a_number) events.Balance ∷
     row (codes "level") no_field events.Level ∷
@@ -62,10 +65,13 @@ line_of (events.Plan (lines.Seats n)) = line grammar (codes "seats") n
 line_of (events.Plan (lines.Stack n)) = line grammar (codes "stack") n
 line_of (events.Plan (lines.Buyin n)) = line grammar (codes "buyin") n
 line_of (events.Plan (lines.Late n)) = line grammar (codes "late") n
-line_of (events.Plan (lines.Blinds blind)) = line grammar (codes "blinds") (blind.small, (blind.big, blind.unit))
+line_of (events.Plan (lines.Blinds blind)) =
+    line grammar (codes "blinds") (blind.small, (blind.big, (blind.unit, blind.ante)))
 line_of (events.Plan (lines.Shares shares)) = line grammar (codes "shares") shares
+line_of (events.Plan (lines.Limit n)) = line grammar (codes "limit") n
 line_of events.Go = line grammar (codes "go") tt
 line_of (events.Enter name table seat) = line grammar (codes "enter") (name, (table, seat))
+line_of (events.Reenter name table seat) = line grammar (codes "reenter") (name, (table, seat))
 line_of (events.Begin table cards) = line grammar (codes "begin") (table, cards)
 line_of (events.Act table name act) = line grammar (codes "act") (table, (name, act))
 line_of (events.Time table) = line grammar (codes "time") table

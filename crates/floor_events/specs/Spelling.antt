@@ -29,6 +29,7 @@ item_word items.Buyin = codes "buyin"
 item_word items.Late = codes "late"
 item_word items.Blinds = codes "blinds"
 item_word items.Shares = codes "shares"
+item_word items.Limit = codes "limit"
 item_word items.FloorWord = codes "floor_word"
 item_word items.Words = codes "words"
 

@@ -22,6 +22,7 @@ fn item_word(item: PlanItem) -> &'static [u8]
         PlanItem::Late => b"late",
         PlanItem::Blinds => b"blinds",
         PlanItem::Shares => b"shares",
+        PlanItem::Limit => b"limit",
         PlanItem::FloorWord => b"floor_word",
         PlanItem::Words => b"words",
     }

@@ -8,7 +8,7 @@ ghost use Rattle.line_words.specs.Words.{Extends};
 
 use betting_round::Act;
 use floor_text::Name;
-use level_plan::PlanLine;
+use level_plan::{Blind, PlanLine};
 use line_words::{
     Word, act_word, game_word, push_behind, push_words, switch_word, whole_or_nothing,
 };
@@ -23,6 +23,21 @@ fn push_shares(shares: &[u64], out: &mut Vec<u8>) -> Result<(), AllocError>
 {
     push_words(out, &[Word::Text(b"shares")])?;
     push_behind(b' ', shares, out)
+}
+
+/// Writes a level. An ante of 0 is left out.
+fn push_blinds(blind: Blind, out: &mut Vec<u8>) -> Result<(), AllocError>
+    ensures ok { OnOk result (out.new.items ≡ out.old.items ++ event_text (events.Plan (lines.Blinds blind))) }
+    ensures kept { Extends out.old.items out.new.items }
+{
+    let first = Word::Text(b"blinds");
+    let small = Word::Number(blind.small);
+    let big = Word::Number(blind.big);
+    let unit = Word::Number(blind.unit);
+    if blind.ante == 0 {
+        return push_words(out, &[first, small, big, unit]);
+    }
+    push_words(out, &[first, small, big, unit, Word::Number(blind.ante)])
 }
 
 /// Writes a line of a plan.
@@ -43,16 +58,9 @@ fn push_plan_line(line: &PlanLine, out: &mut Vec<u8>) -> Result<(), AllocError>
         PlanLine::Stack(stack) => push_words(out, &[Word::Text(b"stack"), Word::Number(*stack)]),
         PlanLine::Buyin(buyin) => push_words(out, &[Word::Text(b"buyin"), Word::Number(*buyin)]),
         PlanLine::Late(late) => push_words(out, &[Word::Text(b"late"), Word::Number(*late)]),
-        PlanLine::Blinds(blind) => push_words(
-            out,
-            &[
-                Word::Text(b"blinds"),
-                Word::Number(blind.small),
-                Word::Number(blind.big),
-                Word::Number(blind.unit),
-            ],
-        ),
+        PlanLine::Blinds(blind) => push_blinds(*blind, out),
         PlanLine::Shares(shares) => push_shares(shares.items(), out),
+        PlanLine::Limit(n) => push_words(out, &[Word::Text(b"limit"), Word::Number(*n)]),
     }
 }
 
@@ -84,6 +92,15 @@ fn push_event(event: &Event, out: &mut Vec<u8>) -> Result<(), AllocError>
             out,
             &[
                 Word::Text(b"enter"),
+                Word::Text(name.bytes()),
+                Word::Number(*table),
+                Word::Number(*seat),
+            ],
+        ),
+        Event::Reenter { name, table, seat } => push_words(
+            out,
+            &[
+                Word::Text(b"reenter"),
                 Word::Text(name.bytes()),
                 Word::Number(*table),
                 Word::Number(*seat),

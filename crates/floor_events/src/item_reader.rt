@@ -22,7 +22,23 @@ fn plan_item(line: PlanLine) -> Item
     Item::Event(Event::Plan(line))
 }
 
-/// Reads a line of a plan that has no list by its first word.
+/// Reads a level of a plan. It is a function of its own, since its numbers take much room.
+#[inline(never)]
+#[tactic(auto, unfolding(line_words::specs::Rows::read_fields))]
+fn read_blinds(line: &mut LineWords<'_>) -> Option<Item>
+    ensures { result ≡ option_map items.Event (read_by plan_rows (codes "blinds") line.old) }
+{
+    Some(plan_item(PlanLine::Blinds(Blind {
+        small: line.field()?,
+        big: line.field()?,
+        unit: line.field()?,
+        ante: line.amount_if_any()?,
+    })))
+}
+
+/// Reads a line of a plan that has no list by its first word. It is a function of its own, since few lines are a
+/// plan's.
+#[inline(never)]
 #[tactic(auto, unfolding(line_words::specs::Rows::read_fields))]
 fn read_plan_fields(word: &[u8], line: &mut LineWords<'_>) -> Option<Item>
     ensures { result ≡ option_map items.Event (read_by plan_rows word.now line.old) }
@@ -34,11 +50,8 @@ fn read_plan_fields(word: &[u8], line: &mut LineWords<'_>) -> Option<Item>
         _ if is(word, b"stack") => Some(plan_item(PlanLine::Stack(line.last_field()?))),
         _ if is(word, b"buyin") => Some(plan_item(PlanLine::Buyin(line.last_field()?))),
         _ if is(word, b"late") => Some(plan_item(PlanLine::Late(line.last_field()?))),
-        _ if is(word, b"blinds") => Some(plan_item(PlanLine::Blinds(Blind {
-            small: line.field()?,
-            big: line.field()?,
-            unit: line.last_field()?,
-        }))),
+        _ if is(word, b"blinds") => read_blinds(line),
+        _ if is(word, b"limit") => Some(plan_item(PlanLine::Limit(line.last_field()?))),
         _ if is(word, b"go") => line.is_done().then_some(Item::Event(Event::Go)),
         _ => None,
     }
@@ -68,6 +81,19 @@ fn read_race(line: &mut LineWords<'_>) -> Option<Item>
     }))
 }
 
+/// Reads who enters again and where. It is a function of its own, since few do.
+#[inline(never)]
+#[tactic(auto, unfolding(line_words::specs::Rows::read_fields))]
+fn read_reenter(line: &mut LineWords<'_>) -> Option<Item>
+    ensures { result ≡ option_map items.Event (read_by plain_rows (codes "reenter") line.old) }
+{
+    Some(Item::Event(Event::Reenter {
+        name: line.field()?,
+        table: line.field()?,
+        seat: line.last_field()?,
+    }))
+}
+
 /// Reads an event without a list by its first word, the most frequent words first.
 #[tactic(auto, unfolding(line_words::specs::Rows::read_fields))]
 fn read_fields(word: &[u8], line: &mut LineWords<'_>) -> Option<Item>
@@ -88,6 +114,7 @@ fn read_fields(word: &[u8], line: &mut LineWords<'_>) -> Option<Item>
             table: line.field()?,
             seat: line.last_field()?,
         })),
+        _ if is(word, b"reenter") => read_reenter(line),
         _ if is(word, b"time") => Some(Item::Event(Event::Time {
             table: line.last_field()?,
         })),

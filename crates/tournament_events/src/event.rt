@@ -22,6 +22,15 @@ pub enum Event {
         /// The number of the seat. Any number of the grammar may stand here.
         seat: u64,
     },
+    /// A player who is out enters again, under his name.
+    Reenter {
+        /// His name.
+        name: Name,
+        /// The number of the table where he sits down. Any number of the grammar may stand here.
+        table: u64,
+        /// The number of the seat. Any number of the grammar may stand here.
+        seat: u64,
+    },
     /// A hand begins.
     Begin {
         /// The number of the table. Any number of the grammar may stand here.

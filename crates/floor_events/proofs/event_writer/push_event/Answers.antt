@@ -39,6 +39,10 @@ pub returns-in-Enter-clause-ok : goal.returns-in-Enter-clause-ok
 returns-in-Enter-clause-ok c =
     rw c.in-Enter.is (unfold event_text in rw (← c.bytes.ensures.same) c.push_words-in-Enter.ensures.ok)
 
+pub returns-in-Reenter-clause-ok : goal.returns-in-Reenter-clause-ok
+returns-in-Reenter-clause-ok c = rw c.in-Reenter.is
+    (unfold event_text in rw (← c.bytes-in-Reenter.ensures.same) c.push_words-in-Reenter.ensures.ok)
+
 pub returns-in-Break-clause-ok : goal.returns-in-Break-clause-ok
 returns-in-Break-clause-ok c = rw c.in-Break.is
     (unfold event_text in rw (← c.items.ensures, ← c.items-in-Break.ensures) c.push_words-in-Break.ensures.ok)

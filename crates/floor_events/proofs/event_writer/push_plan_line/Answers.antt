@@ -21,7 +21,10 @@ pub returns-in-Late-clause-ok : goal.returns-in-Late-clause-ok
 returns-in-Late-clause-ok c = rw c.in-Late.is (unfold event_text in c.push_words-in-Late.ensures.ok)
 
 pub returns-in-Blinds-clause-ok : goal.returns-in-Blinds-clause-ok
-returns-in-Blinds-clause-ok c = rw c.in-Blinds.is (unfold event_text in c.push_words-in-Blinds.ensures.ok)
+returns-in-Blinds-clause-ok c = rw c.in-Blinds.is c.push_blinds.ensures.ok
 
 pub returns-in-Shares-clause-ok : goal.returns-in-Shares-clause-ok
 returns-in-Shares-clause-ok c = rw c.in-Shares.is (rw (← c.items.ensures) c.push_shares.ensures.ok)
+
+pub returns-in-Limit-clause-ok : goal.returns-in-Limit-clause-ok
+returns-in-Limit-clause-ok c = rw c.in-Limit.is (unfold event_text in c.push_words-in-Limit.ensures.ok)
