@@ -1,5 +1,5 @@
 -- How a simulated tournament begins: its plan is accepted, and it is on its course with few steps to come.
-use Rattle.std.proofs.Common.{◌≡◌, ◌≤◌, ◌+◌, ◌∙◌, refl, sym, ap, subst, ℕ, zero, suc, length, length-append, true, false, inl, inr, arith}
+use Rattle.std.proofs.Common.{◌≡◌, ◌≤◌, ◌+◌, ◌∙◌, refl, sym, ap, subst, ℕ, zero, suc, [], ◌∷◌, map, length, length-append, true, false, inl, inr, arith}
 use Rattle.std.specs.Prelude.{◌||◌, if◌then◌else◌, Option, None, is_some, replicate}
 use Rattle.std.specs.List.{All, list_any}
 use Rattle.std.specs.Option.{ForSome, option_map_or}
@@ -8,8 +8,9 @@ use Rattle.std.proofs.lemmas.List.{length-map}
 use Rattle.level_plan.specs.Drafts.{empty_draft}
 use Rattle.level_plan.specs.Plans.{PlanTerms, is_right}
 use Rattle.plan_files.specs.PlanLines.{lines_of_plan}
-use Rattle.plan_files.proofs.MadeAgain.{made_again}
+use Rattle.plan_files.proofs.MadeAgain.{few_lines, made_again}
 use Rattle.tournament_events.specs.declared.answer.Answer.TheVariants.{Ok}
+use Rattle.tournament_events.specs.declared.event.Event.TheVariants as events
 use Rattle.seat_book.specs.declared.table_status.TableStatus.{TableStatus}
 use Rattle.tournament_rules.specs.Effects.{first_book, first_status}
 use Rattle.tournament_rules.specs.States.{PlayState, first_play, first_state, run, answers}
@@ -57,7 +58,7 @@ under_way_first plan right = record {
   between = λ is. absurd cc;
   over = λ is. absurd cc;
   over_at_table = λ is. refl;
-  entering = λ few. record { first = refl; begun = refl; busts = refl; level = refl; names = refl };
+  entering = λ few. record { first = refl; begun = refl; busts = refl; once = refl; level = refl; names = refl };
 }
 
 -- Behind the lines of a right plan and their end a simulated tournament is on its course.
@@ -72,10 +73,13 @@ begins_on_course plan right = record {
       (λ going. under_way_first plan right));
 }
 
-few_lines : (plan : PlanTerms) → is_right plan ≡ true → length (plan_events plan) ≤ 48
-few_lines plan right =
-    let few = (right_has plan right).level_count in
-    simp (length-append, length-map) (omega (arith, few))
+few_events : (plan : PlanTerms) → is_right plan ≡ true → length (plan_events plan) ≤ 49
+few_events plan right =
+    let levels = (right_has plan right).level_count in
+    let lines = few_lines plan in
+    let plans = length-map (lines_of_plan plan) events.Plan in
+    let all = length-append (map events.Plan (lines_of_plan plan)) (events.Go ∷ []) in
+    omega (arith, levels, lines, plans, all)
 
 -- It has fewer steps than most_steps, counting the lines.
 pub begins_with_few : (plan : PlanTerms) → is_right plan ≡ true
@@ -85,7 +89,7 @@ unfolding most_steps
 begins_with_few plan right =
     let begins = plan_begins plan right in
     let counted = begins.counted in
-    let lines = few_lines plan right in
+    let lines = few_events plan right in
     let steps = few_steps plan right in
     let all : effort (run first_state (plan_events plan)) first_place ≡ effort_in_play (first_play plan) first_place =
     ap (λ (found : Option PlayState).

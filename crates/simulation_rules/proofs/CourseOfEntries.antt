@@ -51,6 +51,7 @@ entered_on book place table seat under few =
         first = were.first;
         begun = were.begun;
         busts = were.busts;
+        once = were.once;
         level = were.level;
         names = next_name book.entries were.names;
       };

@@ -15,7 +15,7 @@ use Rattle.rulebook.specs.Limits.{most_entries}
 use Rattle.rulebook.proofs.Found.{some-found}
 use Rattle.rulebook.proofs.Tests.{find-passes}
 use Rattle.rulebook.specs.Seats.{clockwise_after}
-use Rattle.entry_list.specs.Entries.{is_full, is_known}
+use Rattle.entry_list.specs.Entries.{is_known}
 use Rattle.seat_book.specs.Counts.{count_at}
 use Rattle.seat_book.specs.Players.{player_at, taken_seats}
 use Rattle.seat_book.specs.Seatings.{Seating, IsSeating}
@@ -27,7 +27,7 @@ use Rattle.floor_text.specs.declared.refusal.Refusal.TheVariants.{Stopped, NameK
 use Rattle.tournament_events.specs.declared.event.Event.TheVariants.{Enter}
 use Rattle.floor_director.proofs.FirstTables.{tables-none}
 use Rattle.tournament_rules.specs.Books.{BookState, has_seat_number, has_table}
-use Rattle.tournament_rules.specs.Checks.{book_refusal, is_late, is_not_fewest, is_over_for_all, is_taken, may_be_entered}
+use Rattle.tournament_rules.specs.Checks.{book_refusal, is_late, is_not_fewest, is_over_for_all, is_sold_out, is_taken, may_be_entered}
 use Rattle.tournament_rules.specs.States.{PlayState, refusal_of}
 use Rattle.tournament_rules.specs.Valid.{IsValid}
 use Rattle.tournament_rules.proofs.Entries.{right_has}
@@ -102,7 +102,7 @@ record IsFreeEntry (book : BookState) (name : List ℕ) (table seat : ℕ) : Typ
   fewest : is_not_fewest book table ≡ false
   early : is_late book ≡ false
   goes : is_over_for_all book ≡ false
-  room : is_full book.entries ≡ false
+  room : is_sold_out book ≡ false
 
 entry-free : (book : BookState) (name : List ℕ) (table seat : ℕ) → IsFreeEntry book name table seat
     → book_refusal book (Enter name table seat) ≡ None
@@ -110,7 +110,7 @@ unfolding book_refusal
 entry-free book name table seat is =
     nine-free book.stopped (is_known book.entries name) (not (may_be_entered book table))
     (not (has_seat_number book seat)) (is_taken book table seat) (is_not_fewest book table) (is_late book)
-    (is_over_for_all book) (is_full book.entries) is.going is.new (ap not is.there) (ap not is.within) is.free
+    (is_over_for_all book) (is_sold_out book) is.going is.new (ap not is.there) (ap not is.within) is.free
     is.fewest is.early is.goes is.room
 
 not-lower : (one other : ℕ) → other ≤ one → nat_lt one other ≡ false
@@ -153,7 +153,8 @@ entry_accepted play place valid going entering few room =
           (next.least other (record { first = omega (arith, above); last = omega (arith, within, tables) }))));
       early = le-ltb book.plan.late book.level (omega (arith, level, late));
       goes = ap (λ busts. nat_lt 0 (length busts) && length seating.players == 1) entering.busts;
-      room = not-full (length book.entries) room;
+      room = not-full (length book.entries + book.reentries)
+          (let once = entering.once in omega (arith, room, once));
     }))
   where
     not_taken : {A : Type 0} (found : Option A) → is_none found ≡ true → is_some found ≡ false

@@ -19,7 +19,7 @@ few_in_play : (book : BookState) → IsValid book → play_of book ≤ most_chip
 unfolding most_chips
 few_in_play book valid =
     let has = right_has book.plan valid.plan.right in
-    let sold = mul-le (length book.entries) book.plan.stack most_entries greatest_amount valid.entries.few
+    let sold = mul-le (length book.entries + book.reentries) book.plan.stack most_entries greatest_amount valid.entries.few
     has.most_stack in
     let few = valid.units.few in
     let last = valid.plan.last in

@@ -12,12 +12,13 @@ use Rattle.simulation_rules.specs.Entrants.{entrants, entrant_name}
 use Rattle.simulation_rules.specs.Limits.{most_hands}
 use Rattle.simulation_rules.specs.Places.{first_place}
 
--- While players enter no hand has begun, nobody is out, the level is the first, and they entered by their names in
--- order.
+-- While players enter no hand has begun, nobody is out or has re-entered, the level is the first, and they entered by
+-- their names in order.
 pub record IsEntering (book : BookState) (place : SimPlace) : Type 0 where
   pub first : place ≡ first_place
   pub begun : book.begun ≡ 0
   pub busts : book.busts ≡ []
+  pub once : book.reentries ≡ 0
   pub level : book.level ≡ 1
   pub names : book.entries ≡ map entrant_name (range_with_len 0 (length book.entries))
 

@@ -19,7 +19,7 @@ use Rattle.card_set.proofs.DeckLaws.{AllPairs-from_repeats_none}
 use Rattle.card_set.specs.declared.card.Card.{Card}
 use Rattle.card_set.specs.declared.card.CardRow.{CardRow}
 use Rattle.level_plan.specs.Items.{is_between, is_blind}
-use Rattle.level_plan.specs.Plans.{unit_of_level}
+use Rattle.level_plan.specs.Plans.{no_level, unit_of_level}
 use Rattle.level_plan.specs.declared.plan.Blind.{Blind}
 use Rattle.level_plan.proofs.Levels.{is_blind_level}
 use Rattle.button_blinds.specs.Marks.{AreMarksOf}
@@ -127,7 +127,7 @@ product_small entries stack few small = grind arith
 pub few_chips : (book : BookState) → IsValid book → sold_by book + book.added < 2 ^ 53
 few_chips book valid =
     let has = right_has book.plan valid.plan.right in
-    let most = product_small (length book.entries) book.plan.stack valid.entries.few has.most_stack in
+    let most = product_small (length book.entries + book.reentries) book.plan.stack valid.entries.few has.most_stack in
     let few = valid.units.few in
     let last = valid.plan.last in
     let levels = has.level_count in
@@ -163,7 +163,7 @@ pub unit_now : (book : BookState) → (blind_now book).unit ≡ unit_of_level bo
 unit_now book = by_find (slice_get book.plan.blinds (book.level - 1))
   where
     by_find : (found : Option Blind)
-        → (unwrap_or found (record { small = 0; big = 0; unit = 1 })).unit ≡ option_map_or (λ blind. blind.unit) found 1
+        → (unwrap_or found no_level).unit ≡ option_map_or (λ blind. blind.unit) found 1
     by_find None = refl
     by_find (Some blind) = refl
 
@@ -265,7 +265,7 @@ valid_begun book table row valid free =
     (dealt-stacks table next.waiting) players in
     record {
       plan = valid.plan;
-      entries = entered_changed book.entries players book.busts (as_dealt table next.waiting)
+      entries = entered_changed book.entries book.reentries players book.busts (as_dealt table next.waiting)
           (dealt-stacks table next.waiting)
           valid.entries;
       tables = fitting_changed book.plan book.seating book.started table

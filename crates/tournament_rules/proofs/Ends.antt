@@ -109,8 +109,8 @@ valid_closed book table start payees busts group accepted valid is back once gro
     start.seats apart those began.lawful.stacks began.lawful.two back.kept in
     record {
       plan = valid.plan;
-      entries = entered_left book.entries players book.busts busts (is_lent table)
-          (entered_changed book.entries book.seating.players book.busts (paid payees) (paid-stacks payees)
+      entries = entered_left book.entries book.reentries players book.busts busts (is_lent table)
+          (entered_changed book.entries book.reentries book.seating.players book.busts (paid payees) (paid-stacks payees)
           valid.entries) once;
       tables = fitting_left book.plan (record book.seating {
         players = players;
@@ -172,7 +172,7 @@ valid_ended book table start payees valid is back above =
     let none = none_lent table book.seating.players payees valid.tables.lawful.apart those above in
     let all : left_with book table payees ≡ players =
     filter-all (λ player. not (is_lent table player)) players (none-filter (is_lent table) players none) in
-    let entered = entered_changed book.entries book.seating.players book.busts (paid payees) (paid-stacks payees)
+    let entered = entered_changed book.entries book.reentries book.seating.players book.busts (paid payees) (paid-stacks payees)
     valid.entries in
     let once = subst (λ (players : List Seated). AreOnce book.entries players book.busts) (sym all) entered.once in
     subst (λ (players : List Seated). IsValid (closed book table players book.busts book.group book.accepted)) all
@@ -245,7 +245,7 @@ valid_settled book hand valid is play over =
     let players = put_back payees book.seating.players in
     let those = payees_lent book start.table start payees valid is back.same in
     let same = broke_numbers hand start.seats ∙ lent_after start.table book.seating.players payees apart those in
-    let entered = entered_changed book.entries book.seating.players book.busts (paid payees) (paid-stacks payees)
+    let entered = entered_changed book.entries book.reentries book.seating.players book.busts (paid payees) (paid-stacks payees)
     valid.entries in
     let once = once_left book.entries start.table book.group (busted_by hand) players book.busts entered.once same in
     let stay = stayed-lent start.table (busted_by hand) players

@@ -1,6 +1,6 @@
 -- A book is valid before any entry, and after each.
-use Rattle.std.proofs.Common.{◌≡◌, ◌∙◌, refl, sym, ap, ℕ, zero, suc, ◌+◌, ◌%◌, ◌<◌, ◌≤◌, ◌⊎◌, inl, inr, true, false, cond, ◌==◌, eq-eqb, List, [], ◌∷◌, ◌++◌, map, length, arith, length-append}
-use Rattle.std.specs.Prelude.{nat_lt, count_by, sum, sum_by, replicate, slice_get, Option, Some, None, is_some}
+use Rattle.std.proofs.Common.{◌≡◌, ◌∙◌, refl, sym, ap, ℕ, zero, suc, ◌+◌, ◌*◌, ◌%◌, ◌<◌, ◌≤◌, ◌⊎◌, inl, inr, Bool, true, false, cond, ◌==◌, eq-eqb, List, [], ◌∷◌, ◌++◌, map, length, arith, length-append}
+use Rattle.std.specs.Prelude.{not, nat_lt, nat_le, count_by, sum, sum_by, replicate, slice_get, Option, Some, None, is_some, option_map}
 use Rattle.std.specs.Option.{ForSome}
 use Rattle.std.proofs.lemmas.Bool.{and_parts, and_from, and_right, cases_lt, eqb-true, leb-true, lt-ltb, ltb-false, ne_eqb}
 use Rattle.std.proofs.lemmas.Bool.Decides.{nat_tests}
@@ -8,34 +8,40 @@ use Rattle.std.proofs.lemmas.List.{get_or-replicate, get_or_past, length-replica
 use Rattle.std.proofs.lemmas.List.Folds.{sum_by-replicate}
 use Rattle.std.proofs.lemmas.List.Sums.{sum_by-insert}
 use Rattle.std.proofs.lemmas.List.Elements.{All-nil, All-weaker}
+use Rattle.std.proofs.lemmas.Option.{slice_get_within}
 use Rattle.rulebook.specs.Limits.{most_entries}
-use Rattle.rulebook.proofs.Tests.{none_by_count}
+use Rattle.rulebook.proofs.Pairs.{is_pairwise-kept}
+use Rattle.rulebook.proofs.Passing.{count_by-none, none-find}
+use Rattle.rulebook.proofs.Tests.{list_all-kept, none_by_count}
 use Rattle.rulebook.proofs.Repeats.{get_or-repeated}
 use Rattle.place_list.specs.declared.bust.Bust.{Bust}
+use Rattle.place_list.specs.Places.{taken_back}
 use Rattle.level_plan.specs.Items.{is_between, are_levels}
 use Rattle.level_plan.specs.Limits.{greatest_amount, most_shares, whole_pool}
 use Rattle.level_plan.specs.Plans.{PlanTerms, is_right, unit_of_level}
 use Rattle.entry_list.specs.Entries.{is_known}
 use Rattle.entry_list.proofs.Added.{names-added}
-use Rattle.tournament_events.specs.declared.event.Event.TheVariants.{Enter}
+use Rattle.tournament_events.specs.declared.event.Event.TheVariants.{Enter, Reenter}
 use Rattle.level_plan.proofs.Levels.{unit_of_level_above}
 use Rattle.seat_book.specs.declared.seated.Seated.{Seated}
 use Rattle.seat_book.specs.declared.table_status.TableStatus.{TableStatus}
 use Rattle.seat_book.specs.Places.{comes_before}
-use Rattle.seat_book.specs.Players.{sits_at, is_numbered, sit_down}
+use Rattle.seat_book.specs.Players.{sits_at, is_numbered, player_of, place_of, sit_down}
 use Rattle.seat_book.specs.Counts.{count_at}
 use Rattle.seat_book.specs.Tables.{status_at, fresh_status, IsStatusOf}
-use Rattle.tournament_rules.specs.Books.{BookState, start_at, starters_of}
+use Rattle.tournament_rules.specs.Books.{BookState, number_in, start_at, starters_of}
 use Rattle.tournament_rules.specs.Checks.{book_refusal}
+use Rattle.tournament_rules.specs.Chips.{rest_in, play_of}
 use Rattle.tournament_rules.specs.Players.{start_seat}
-use Rattle.tournament_rules.specs.Effects.{first_book, first_status, newcomer, entered}
+use Rattle.tournament_rules.specs.Effects.{first_book, first_status, starter, sold_to, newcomer, entered, returner, reentered}
 use Rattle.tournament_rules.specs.Units.{IsUnitOf, is_due}
-use Rattle.tournament_rules.specs.Valid.{IsValid, AreEntered, rows_owed, without_stack, is_lent}
+use Rattle.tournament_rules.specs.Valid.{IsValid, AreEntered, AreGrouped, rows_owed, is_bust_of, without_stack, is_lent}
 use Rattle.tournament_rules.proofs.Fitting.{table_range, marked_more, due_more}
 use Rattle.tournament_rules.proofs.Insertions.{list_all-insert, All-insert, filter-insert_no}
 use Rattle.tournament_rules.proofs.SitDown.{seating-sit_down}
-use Rattle.tournament_rules.proofs.Passed.{entry_passed}
-use Rattle.tournament_rules.proofs.Names.{IsNamed}
+use Rattle.tournament_rules.proofs.InOrBust.{one_owed, taken-count}
+use Rattle.tournament_rules.proofs.Passed.{MayBuy, entry_passed, reentry_passed}
+use Rattle.tournament_rules.proofs.Names.{IsNamed, number_named}
 use Rattle.tournament_rules.proofs.Units.{next_times, whole_times, whole_earlier}
 
 -- What a right plan has.
@@ -66,6 +72,7 @@ right_has plan right =
     let six = and_parts _ _ five.1 in
     let seven = and_parts _ _ six.1 in
     let eight = and_parts _ _ seven.1 in
+    let nine = and_parts _ _ eight.1 in
     let shares = and_parts _ _ eight.0 in
     let tables = table_range 1 64 plan.tables one.0 in
     let seats = table_range 2 10 plan.seats two.0 in
@@ -85,7 +92,7 @@ right_has plan right =
       levels = seven.0;
       some_shares = (table_range 1 most_shares (length plan.shares) shares.0).0;
       most_shared = leb-true (sum plan.shares) whole_pool (and_parts _ _ (and_parts _ _ shares.1).1).1;
-      whole = eqb-true (plan.stack % unit_of_level plan.blinds plan.late) 0 eight.1;
+      whole = eqb-true (plan.stack % unit_of_level plan.blinds plan.late) 0 nine.1;
     }
 
 -- What is so of a fresh table and of one that stands so, is so of each of many that do.
@@ -196,18 +203,30 @@ owed_more : (count number : ℕ)
     → cond (nat_lt number count) 1 0 + cond (count == number) 1 0 ≡ cond {A = ℕ} (nat_lt number (count + 1)) 1 0
 owed_more count number = grind (arith, nat_tests)
 
+-- Who has no place has no seat.
+pub none_counted_of : (players : List Seated) (number : ℕ) → place_of players number ≡ None
+    → count_by (is_numbered number) players ≡ 0
+none_counted_of players number none =
+    count_by-none (is_numbered number) players
+    (none-find (is_numbered number) players (no_option (player_of players number) none))
+  where
+    no_option : (found : Option Seated) → option_map (λ seated. seated.place) found ≡ None → found ≡ None
+    no_option None none = refl
+    no_option (Some seated) none = absurd cc
+
 nobody_yet : (count : ℕ) → cond {A = ℕ} (nat_lt count count) 1 0 ≡ 0
 nobody_yet count = grind (arith, nat_tests)
 
 -- The entries, the players and those who are out agree once one more entered.
-entered-agree : (entries : List (List ℕ)) (players : List Seated) (busts : List Bust) (new : Seated)
-    → AreEntered entries players busts → length entries < most_entries → is_known entries new.name ≡ false
-    → new.player ≡ length entries → AreEntered (entries ++ new.name ∷ []) (sit_down new players) busts
-entered-agree entries players busts new agree room unknown number =
+entered-agree : (entries : List (List ℕ)) (reentries : ℕ) (players : List Seated) (busts : List Bust) (new : Seated)
+    → AreEntered entries reentries players busts → length entries + reentries < most_entries
+    → is_known entries new.name ≡ false → new.player ≡ length entries
+    → AreEntered (entries ++ new.name ∷ []) reentries (sit_down new players) busts
+entered-agree entries reentries players busts new agree room unknown number =
     let behind = count_by (λ other. comes_before other.place new.place) players in
     let added = length-append entries (new.name ∷ []) in
     record {
-      few = omega (arith, added);
+      few = omega (arith, added, room);
       names = names-added entries new.name unknown agree.names;
       once = λ n.
           let counted = sum_by-insert (λ player. cond (is_numbered n player) 1 0) players behind new in
@@ -223,27 +242,88 @@ entered-agree entries players busts new agree room unknown number =
           (rw number (slice_get-new entries new.name));
     }
 
--- A book is valid after an entry that is not refused.
-pub valid_entered : (book : BookState) (name : List ℕ) (table seat : ℕ) → IsValid book
-    → book_refusal book (Enter name table seat) ≡ None → IsValid (entered book name table seat)
-valid_entered book name table seat valid none =
-    let may = entry_passed book name table seat none in
+-- They agree once a player who has no seat sat down again, and his row left the list.
+reentered-agree : (entries : List (List ℕ)) (reentries : ℕ) (players : List Seated) (busts : List Bust) (new : Seated)
+    → AreEntered entries reentries players busts → length entries + reentries < most_entries
+    → slice_get entries new.player ≡ Some new.name → count_by (is_numbered new.player) players ≡ 0
+    → AreEntered entries (reentries + 1) (sit_down new players) (taken_back new.player busts)
+reentered-agree entries reentries players busts new agree room named out =
+    let behind = count_by (λ other. comes_before other.place new.place) players in
+    record {
+      few = omega (arith, room);
+      names = agree.names;
+      once = λ n.
+          let counted = sum_by-insert (λ player. cond (is_numbered n player) 1 0) players behind new in
+          let old = agree.once n in
+          let taken = taken-count n new.player busts in
+          let his = agree.once new.player in
+          let one = one_owed new.player (length entries) (slice_get_within entries new.player new.name named) in
+          by_number n (new.player == n) refl counted old taken (omega (arith, his, one, out));
+      named = All-insert (IsNamed entries) players behind new agree.named named;
+    }
+  where
+    by_number : (n : ℕ) (b : Bool) → (new.player == n) ≡ b
+        → count_by (is_numbered n) (sit_down new players)
+        ≡ count_by (is_numbered n) players + cond {A = ℕ} (new.player == n) 1 0
+        → count_by (is_numbered n) players + count_by (is_bust_of n) busts ≡ rows_owed entries n
+        → count_by (is_bust_of n) (taken_back new.player busts)
+        + cond (new.player == n) (count_by (is_bust_of n) busts) 0 ≡ count_by (is_bust_of n) busts
+        → count_by (is_bust_of new.player) busts ≡ 1
+        → count_by (is_numbered n) (sit_down new players) + count_by (is_bust_of n) (taken_back new.player busts)
+        ≡ rows_owed entries n
+    by_number n true is counted old taken one =
+        let same = eqb-true new.player n is in
+        let here = rw same at one in
+        let sits = rw is at counted in
+        let left = rw is at taken in
+        omega (arith, sits, old, left, here)
+    by_number n false is counted old taken one =
+        let sits = rw is at counted in
+        let left = rw is at taken in
+        omega (arith, sits, old, left)
+
+-- The groups rise once a player was taken back.
+grouped-taken : (number : ℕ) (busts : List Bust) (group : ℕ) → AreGrouped busts group
+    → AreGrouped (taken_back number busts) group
+grouped-taken number busts group grouped = record {
+  groups = is_pairwise-kept (λ (earlier later : Bust). nat_le earlier.group later.group)
+      (λ bust. not (is_bust_of number bust)) busts grouped.groups;
+  past = list_all-kept (λ (bust : Bust). nat_le bust.group group) (λ bust. not (is_bust_of number bust)) busts
+      grouped.past;
+}
+
+sold_more : (n m stack before after play removed added : ℕ) → m ≡ n + 1 → after ≡ before + stack
+    → before + play + removed ≡ n * stack + added → after + play + removed ≡ m * stack + added
+sold_more n m stack before after play removed added more sits kept = rw more (omega (arith, sits, kept))
+
+-- A book is valid once a player sat down with the stack that a player starts with, where the entries, the players and
+-- those who are out agree then.
+valid_sold : (book : BookState) (number : ℕ) (name : List ℕ) (table seat : ℕ) (entries : List (List ℕ))
+    (reentries : ℕ) (busts : List Bust) → IsValid book → MayBuy book table seat → number < most_entries
+    → count_by (is_numbered number) book.seating.players ≡ 0
+    → AreEntered entries reentries (sit_down (starter book number name table seat) book.seating.players) busts
+    → AreGrouped busts book.group
+    → length entries + reentries ≡ length book.entries + book.reentries + 1
+    → IsValid (record (sold_to book (starter book number name table seat)) {
+      entries = entries;
+      reentries = reentries;
+      busts = busts;
+    })
+valid_sold book number name table seat entries reentries busts valid may small stands agree grouped one_more =
     let has = right_has book.plan valid.plan.right in
-    let new = newcomer book name table seat in
+    let new = starter book number name table seat in
     let behind = count_by (λ other. comes_before other.place new.place) book.seating.players in
     let some = has.some_stack in
     let rests = ne_eqb book.plan.stack 0 (λ nothing. omega (arith, some, nothing)) in
     record {
       plan = valid.plan;
-      entries = entered-agree book.entries book.seating.players book.busts new valid.entries may.room may.new refl;
+      entries = agree;
       tables = record {
         lawful = seating-sit_down book.seating new valid.tables.lawful
             (rw (valid.tables.tables, valid.tables.seats) (and_from _ _ may.there may.within))
-            (lt-ltb (length book.entries) most_entries may.room)
+            (lt-ltb number most_entries small)
             may.free
-            (none_by_count (is_numbered (length book.entries)) book.seating.players
-            (let his = valid.entries.once (length book.entries) in
-            omega (arith, his, nobody_yet (length book.entries))));
+            (none_by_count (is_numbered number) book.seating.players stands);
         tables = valid.tables.tables;
         seats = valid.tables.seats;
         room = valid.tables.room;
@@ -256,7 +336,10 @@ valid_entered book name table seat valid none =
             (filter-insert_no (is_lent number) book.seating.players behind new
             (and_right (table == number) (book.plan.stack == 0) rests)) ∙ valid.hands.lent number;
       };
-      chips = simp (length-append, sum_by-insert) (omega (arith, valid.chips));
+      chips =
+          sold_more (length book.entries + book.reentries) (length entries + reentries) book.plan.stack (rest_in book)
+          _ (play_of book) book.removed book.added one_more
+          (sum_by-insert (λ (player : Seated). player.stack) book.seating.players behind new) valid.chips;
       units = record {
         units = valid.units.units;
         whole = list_all-insert _ book.seating.players behind new valid.units.whole
@@ -270,15 +353,15 @@ valid_entered book name table seat valid none =
       };
       marked = marked_more book.seating.tables book.seating.players
           (sit_down new book.seating.players) valid.marked more;
-      busts = valid.busts;
+      busts = grouped;
       counted = omega (arith, valid.counted);
       raised = omega (arith, valid.raised);
     }
   where
     more : (other : ℕ) → count_at book.seating.players other
-        ≤ count_at (sit_down (newcomer book name table seat) book.seating.players) other
+        ≤ count_at (sit_down (starter book number name table seat) book.seating.players) other
     more other =
-        let new = newcomer book name table seat in
+        let new = starter book number name table seat in
         let one = sum_by-insert (λ player. cond {A = ℕ} (sits_at other player) 1 0) book.seating.players
         (count_by (λ other. comes_before other.place new.place) book.seating.players) new in
         omega (arith, one)
@@ -291,3 +374,46 @@ valid_entered book name table seat valid none =
         by_race None none = ap (λ (unit : ℕ). stack % unit) (is.own none) ∙ whole
         by_race (Some new) at = whole_times stack status.unit new (next_times status.unit new (is.from new at).next)
             (ap (λ (unit : ℕ). stack % unit) (is.new new at) ∙ whole)
+
+-- A book is valid after an entry that is not refused.
+pub valid_entered : (book : BookState) (name : List ℕ) (table seat : ℕ) → IsValid book
+    → book_refusal book (Enter name table seat) ≡ None → IsValid (entered book name table seat)
+valid_entered book name table seat valid none =
+    let may = entry_passed book name table seat none in
+    let new = newcomer book name table seat in
+    let room = may.buys.room in
+    let added = length-append book.entries (name ∷ []) in
+    let his = valid.entries.once (length book.entries) in
+    let nobody = nobody_yet (length book.entries) in
+    valid_sold book (length book.entries) name table seat (book.entries ++ name ∷ []) book.reentries book.busts valid
+    may.buys (omega (arith, room)) (omega (arith, his, nobody))
+    (entered-agree book.entries book.reentries book.seating.players book.busts new valid.entries room may.new refl)
+    valid.busts (omega (arith, added))
+
+-- A book is valid after a re-entry that is not refused.
+pub valid_reentered : (book : BookState) (name : List ℕ) (table seat : ℕ) → IsValid book
+    → book_refusal book (Reenter name table seat) ≡ None → IsValid (reentered book name table seat)
+valid_reentered book name table seat valid none =
+    let may = reentry_passed book name table seat none in
+    let number = number_in book name in
+    let new = returner book name table seat in
+    let room = may.buys.room in
+    let named = number_named book.entries name may.known in
+    let within = slice_get_within book.entries number name named in
+    let out = none_counted_of book.seating.players number may.out in
+    valid_sold book number name table seat book.entries (book.reentries + 1) (taken_back number book.busts) valid
+    may.buys (omega (arith, room, within)) out
+    (reentered-agree book.entries book.reentries book.seating.players book.busts new valid.entries room named out)
+    (grouped-taken number book.busts book.group valid.busts) (omega arith)
+
+-- A player who may re-enter is out, once.
+pub one_out : (book : BookState) (name : List ℕ) (table seat : ℕ) → IsValid book
+    → book_refusal book (Reenter name table seat) ≡ None → count_by (is_bust_of (number_in book name)) book.busts ≡ 1
+one_out book name table seat valid none =
+    let may = reentry_passed book name table seat none in
+    let number = number_in book name in
+    let within = slice_get_within book.entries number name (number_named book.entries name may.known) in
+    let out = none_counted_of book.seating.players number may.out in
+    let his = valid.entries.once number in
+    let one = one_owed number (length book.entries) within in
+    omega (arith, out, his, one)

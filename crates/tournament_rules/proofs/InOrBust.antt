@@ -1,6 +1,6 @@
 -- Everyone who entered is in or out, once: how many there are, and what is so once one leaves his seat.
 use Rattle.std.proofs.Common.{◌≡◌, refl, ap, ℕ, zero, suc, ◌+◌, ◌<◌, ◌≤◌, Bool, true, false, cond, ◌==◌, List, [], ◌∷◌, ◌++◌, length, arith, ◌∙◌}
-use Rattle.std.specs.Prelude.{not, nat_lt, count_by, find, option_map, is_some}
+use Rattle.std.specs.Prelude.{not, nat_lt, count_by, filter, find, option_map, is_some}
 use Rattle.std.specs.List.{list_any}
 use Rattle.std.proofs.lemmas.Bool.{eqb-true, not-true}
 use Rattle.std.proofs.lemmas.Bool.Decides.{nat_tests}
@@ -10,6 +10,7 @@ use Rattle.rulebook.specs.Limits.{most_entries}
 use Rattle.rulebook.proofs.Passing.{count_by-none, not-any}
 use Rattle.rulebook.proofs.Tests.{at_most_one, count_by-cons, list_all-always, none_by_count}
 use Rattle.place_list.specs.declared.bust.Bust.{Bust}
+use Rattle.place_list.specs.Places.{taken_back}
 use Rattle.place_list.proofs.Counts.{count_by-some}
 use Rattle.seat_book.specs.declared.seated.Seated.{Seated}
 use Rattle.seat_book.specs.Players.{is_numbered, place_of, lifted}
@@ -151,18 +152,18 @@ may_leave entries players busts number once few sits =
       room = omega (arith, all, some, seats, few);
     }
 
--- Who of the players has a number once one has left.
-lifted-count : (number gone : ℕ) (players : List Seated)
-    → count_by (is_numbered number) (lifted gone players)
-    + cond (gone == number) (count_by (is_numbered number) players) 0
-    ≡ count_by (is_numbered number) players
-lifted-count number gone [] = nothing (gone == number)
+-- Who of a list has a number once those with another left it.
+left-count : {A : Type 0} (key : A → ℕ) (number gone : ℕ) (items : List A)
+    → count_with key number (filter (λ item. not (key item == gone)) items)
+    + cond (gone == number) (count_with key number items) 0
+    ≡ count_with key number items
+left-count key number gone [] = nothing (gone == number)
   where
     nothing : (b : Bool) → 0 + cond {A = ℕ} b 0 0 ≡ 0
     nothing true = refl
     nothing false = refl
-lifted-count number gone (player ∷ players) =
-    by_test (is_numbered gone player) refl (lifted-count number gone players)
+left-count {A = A} key number gone (item ∷ items) =
+    by_test (key item == gone) refl (left-count key number gone items)
   where
     leaves : (k kept all : ℕ) → (k == gone) ≡ true → kept + cond {A = ℕ} (gone == number) all 0 ≡ all
         → kept + cond {A = ℕ} (gone == number) (cond {A = ℕ} (k == number) 1 0 + all) 0
@@ -175,21 +176,36 @@ lifted-count number gone (player ∷ players) =
         ≡ cond {A = ℕ} (k == number) 1 0 + all
     stays k kept all his rest = grind (arith, nat_tests)
 
-    by_test : (b : Bool) → is_numbered gone player ≡ b
-        → count_by (is_numbered number) (lifted gone players)
-        + cond (gone == number) (count_by (is_numbered number) players) 0 ≡ count_by (is_numbered number) players
-        → count_by (is_numbered number) (cond (not b) (player ∷ lifted gone players) (lifted gone players))
-        + cond (gone == number) (count_by (is_numbered number) (player ∷ players)) 0
-        ≡ count_by (is_numbered number) (player ∷ players)
-    by_test true is rest = rw (count_by-cons (is_numbered number) player players)
-        (leaves player.player (count_by (is_numbered number) (lifted gone players))
-        (count_by (is_numbered number) players) is rest)
+    others : List A
+    others = filter (λ other. not (key other == gone)) items
+
+    by_test : (b : Bool) → (key item == gone) ≡ b
+        → count_with key number others + cond (gone == number) (count_with key number items) 0
+        ≡ count_with key number items
+        → count_with key number (cond (not b) (item ∷ others) others)
+        + cond (gone == number) (count_with key number (item ∷ items)) 0
+        ≡ count_with key number (item ∷ items)
+    by_test true is rest = rw (count_by-cons (λ other. key other == number) item items)
+        (leaves (key item) (count_with key number others) (count_with key number items) is rest)
     by_test false is rest = rw (
-      count_by-cons (is_numbered number) player players,
-      count_by-cons (is_numbered number) player (lifted gone players),
+      count_by-cons (λ other. key other == number) item items,
+      count_by-cons (λ other. key other == number) item others,
     )
-        (stays player.player (count_by (is_numbered number) (lifted gone players))
-        (count_by (is_numbered number) players) is rest)
+        (stays (key item) (count_with key number others) (count_with key number items) is rest)
+
+-- Who of the players has a number once one has left.
+lifted-count : (number gone : ℕ) (players : List Seated)
+    → count_by (is_numbered number) (lifted gone players)
+    + cond (gone == number) (count_by (is_numbered number) players) 0
+    ≡ count_by (is_numbered number) players
+lifted-count number gone players = left-count seat_number number gone players
+
+-- Who of those who are out has a number once one was taken back.
+pub taken-count : (number gone : ℕ) (busts : List Bust)
+    → count_by (is_bust_of number) (taken_back gone busts)
+    + cond (gone == number) (count_by (is_bust_of number) busts) 0
+    ≡ count_by (is_bust_of number) busts
+taken-count number gone busts = left-count bust_number number gone busts
 
 -- Everyone who entered is still in or out, once, when one who sits leaves his seat and is out.
 pub once-leaves : (entries : List (List ℕ)) (players : List Seated) (busts : List Bust) (bust : Bust)

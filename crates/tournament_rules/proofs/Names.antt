@@ -1,14 +1,17 @@
 -- Names of those who entered: no two are the same, and so no two who sit have one name.
-use Rattle.std.proofs.Common.{◌≡◌, ap, subst, refl, ℕ, zero, suc, true, false, ◌==◌, List, [], ◌∷◌, map, arith}
-use Rattle.std.specs.Prelude.{not, slice_get, Some}
-use Rattle.std.specs.List.{list_all, All}
+use Rattle.std.proofs.Common.{◌≡◌, ◌∙◌, ap, sym, subst, refl, ℕ, zero, suc, Bool, true, false, ◌==◌, List, [], ◌∷◌, length, map, arith}
+use Rattle.std.specs.Prelude.{not, ◌||◌, find, slice_get, unwrap_or, Some}
+use Rattle.std.specs.List.{list_all, position_or_len, All}
 use Rattle.std.specs.Str.{bytes_eq}
-use Rattle.std.proofs.lemmas.Bool.{and_parts, and_from, not-true}
+use Rattle.std.proofs.lemmas.Bool.{and_parts, and_from, lt-ltb, not-true}
 use Rattle.std.proofs.lemmas.Bool.Decides.{nat_tests}
 use Rattle.std.proofs.lemmas.List.Elements.{All-head, All-tail}
-use Rattle.std.proofs.lemmas.Option.{same_Some}
+use Rattle.std.proofs.lemmas.List.Folds.{find_at}
+use Rattle.std.proofs.lemmas.Option.{same_Some, slice_get_within}
+use Rattle.std.proofs.lemmas.Slice.Eq.{bytes_eq-Decides}
 use Rattle.rulebook.specs.Pairs.{are_distinct}
 use Rattle.rulebook.proofs.Passing.{list_all-get}
+use Rattle.entry_list.specs.Entries.{is_known, number_of}
 use Rattle.entry_list.proofs.Added.{other_way}
 use Rattle.seat_book.specs.declared.seated.Seated.{Seated}
 use Rattle.seat_book.specs.Players.{is_numbered, are_apart}
@@ -72,3 +75,23 @@ seated_names entries (player ∷ players) distinct named apart =
         let differ = names_differ entries other.player player.player other.name player.name distinct hers his
         (not-true _ parts.0) in
         and_from _ _ (ap not (other_way other.name player.name differ)) (all_differ players his later parts.1)
+
+-- A name that entered is found among the entries.
+found_known : (entries : List (List ℕ)) (name : List ℕ) → is_known entries name ≡ true
+    → find (bytes_eq name) entries ≡ Some name
+found_known [] name known = absurd cc
+found_known (first ∷ entries) name known = by_test (bytes_eq name first) refl known (found_known entries name)
+  where
+    by_test : (b : Bool) → bytes_eq name first ≡ b → (bytes_eq name first || is_known entries name) ≡ true
+        → (is_known entries name ≡ true → find (bytes_eq name) entries ≡ Some name)
+        → find (bytes_eq name) (first ∷ entries) ≡ Some name
+    by_test true is some rest = rw is (ap Some (sym ((bytes_eq-Decides name first).0 is)))
+    by_test false is some rest = rw is (rest (rw is at some))
+
+-- The number of a name that entered is that of the entry.
+pub number_named : (entries : List (List ℕ)) (name : List ℕ) → is_known entries name ≡ true
+    → slice_get entries (unwrap_or (number_of entries name) 0) ≡ Some name
+number_named entries name known =
+    let there = sym (find_at (bytes_eq name) entries) ∙ found_known entries name known in
+    let within = slice_get_within entries (position_or_len (bytes_eq name) entries) name there in
+    rw (lt-ltb (position_or_len (bytes_eq name) entries) (length entries) within) there

@@ -1,12 +1,13 @@
 -- What an event that is not refused tells of its checks.
-use Rattle.std.proofs.Common.{◌≡◌, ◌∙◌, refl, sym, ap, ℕ, ◌<◌, Bool, true, false, List, [], length}
+use Rattle.std.proofs.Common.{◌≡◌, ◌∙◌, refl, sym, ap, ℕ, ◌+◌, ◌<◌, Bool, true, false, List, [], ◌++◌, length}
 use Rattle.std.specs.Prelude.{not, Option, Some, None}
 use Rattle.std.specs.Prelude.{option_and_then}
+use Rattle.std.specs.List.{list_all}
 use Rattle.std.specs.Option.{option_map_or, option_or}
 use Rattle.std.proofs.lemmas.Bool.{and_parts, leb-false, not-true}
 use Rattle.rulebook.proofs.Found.{none-by_test}
 use Rattle.rulebook.specs.Checks.{first_that_holds}
-use Rattle.seat_book.specs.Players.{player_at}
+use Rattle.seat_book.specs.Players.{player_at, place_of}
 use Rattle.entry_list.specs.Entries.{is_known}
 use Rattle.rulebook.proofs.Checks.{first_that_holds-append, none_holds}
 use Rattle.rulebook.specs.Limits.{most_entries}
@@ -14,9 +15,9 @@ use Rattle.level_plan.specs.declared.line.PlanLine.{PlanLine}
 use Rattle.betting_round.specs.declared.act.Act.{Act}
 use Rattle.table_engine.specs.Hands.{HandTerms, is_over}
 use Rattle.tournament_events.specs.declared.event.Event.{Event}
-use Rattle.tournament_events.specs.declared.event.Event.TheVariants.{Plan, Go, Enter, Act as Acts, Time, Settle}
-use Rattle.tournament_rules.specs.Books.{BookState, has_table, has_seat_number}
-use Rattle.tournament_rules.specs.Checks.{book_checks, hand_checks, before_hand_checks, end_checks, book_refusal, is_not_fewest, is_late, is_playing}
+use Rattle.tournament_events.specs.declared.event.Event.TheVariants.{Plan, Go, Enter, Reenter, Act as Acts, Time, Settle}
+use Rattle.tournament_rules.specs.Books.{BookState, has_table, has_seat_number, number_in}
+use Rattle.tournament_rules.specs.Checks.{Check, book_checks, buy_checks, out_checks, hand_checks, before_hand_checks, end_checks, book_refusal, is_not_fewest, is_late, is_over_for_all, is_playing}
 use Rattle.tournament_rules.specs.States.{PlayState, hand_about, refusal_of}
 use Rattle.tournament_rules.specs.Apart.{hand_refusal}
 
@@ -25,15 +26,50 @@ pub is_so : (b : Bool) → not (not b) ≡ true → b ≡ true
 is_so true so = refl
 is_so false so = so
 
--- What is so of an entry that is not refused.
-pub record MayEnter (book : BookState) (name : List ℕ) (table seat : ℕ) : Type 0 where
-  pub new : is_known book.entries name ≡ false
+-- What is so of a place where a player may sit down with a stack that he buys.
+pub record MayBuy (book : BookState) (table seat : ℕ) : Type 0 where
   pub there : has_table book table ≡ true
   pub within : has_seat_number book seat ≡ true
   pub free : player_at book.seating.players (record { table = table; seat = seat }) ≡ None
   pub fewest : is_not_fewest book table ≡ false
   pub early : is_late book ≡ false
-  pub room : length book.entries < most_entries
+  pub going : is_over_for_all book ≡ false
+  pub room : length book.entries + book.reentries < most_entries
+
+-- What is so of an entry that is not refused.
+pub record MayEnter (book : BookState) (name : List ℕ) (table seat : ℕ) : Type 0 where
+  pub new : is_known book.entries name ≡ false
+  pub buys : MayBuy book table seat
+
+-- What is so of a re-entry that is not refused.
+pub record MayReenter (book : BookState) (name : List ℕ) (table seat : ℕ) : Type 0 where
+  pub known : is_known book.entries name ≡ true
+  pub buys : MayBuy book table seat
+  pub out : place_of book.seating.players (number_in book name) ≡ None
+
+-- Where a stack may be bought there is an empty seat at a table with the fewest players, and room in the lists.
+bought : (book : BookState) (table seat : ℕ) (behind : List Check)
+    → list_all (λ check. not check.1) (buy_checks book table seat ++ behind) ≡ true
+    → MayBuy book table seat × (list_all (λ check. not check.1) behind ≡ true)
+bought book table seat behind all =
+    let there = and_parts _ _ all in
+    let seated = and_parts _ _ there.1 in
+    let free = and_parts _ _ seated.1 in
+    let fewest = and_parts _ _ free.1 in
+    let early = and_parts _ _ fewest.1 in
+    let over = and_parts _ _ early.1 in
+    let room = and_parts _ _ over.1 in (
+      record {
+        there = (and_parts _ _ (is_so _ there.0)).0;
+        within = is_so _ seated.0;
+        free = none-by_test _ free.0;
+        fewest = not-true _ fewest.0;
+        early = not-true _ early.0;
+        going = not-true _ over.0;
+        room = leb-false most_entries (length book.entries + book.reentries) (not-true _ room.0);
+      },
+      room.1,
+    )
 
 -- An entry that the book does not refuse has a new name, and an empty seat at a table with the fewest players.
 pub entry_passed : (book : BookState) (name : List ℕ) (table seat : ℕ)
@@ -43,22 +79,19 @@ entry_passed book name table seat none =
     let all = none_holds (book_checks book (Enter name table seat)) none in
     let going = and_parts _ _ all in
     let new = and_parts _ _ going.1 in
-    let there = and_parts _ _ new.1 in
-    let seated = and_parts _ _ there.1 in
-    let free = and_parts _ _ seated.1 in
-    let fewest = and_parts _ _ free.1 in
-    let early = and_parts _ _ fewest.1 in
-    let over = and_parts _ _ early.1 in
-    let room = and_parts _ _ over.1 in
-    record {
-      new = not-true _ new.0;
-      there = (and_parts _ _ (is_so _ there.0)).0;
-      within = is_so _ seated.0;
-      free = none-by_test _ free.0;
-      fewest = not-true _ fewest.0;
-      early = not-true _ early.0;
-      room = leb-false most_entries (length book.entries) (not-true _ room.0);
-    }
+    record { new = not-true _ new.0; buys = (bought book table seat [] new.1).0 }
+
+-- A re-entry that the book does not refuse is of who entered and has no seat, with an empty seat of that kind.
+pub reentry_passed : (book : BookState) (name : List ℕ) (table seat : ℕ)
+    → book_refusal book (Reenter name table seat) ≡ None → MayReenter book name table seat
+unfolding book_refusal
+reentry_passed book name table seat none =
+    let all = none_holds (book_checks book (Reenter name table seat)) none in
+    let going = and_parts _ _ all in
+    let known = and_parts _ _ going.1 in
+    let buys = bought book table seat (out_checks book name) known.1 in
+    let out = and_parts _ _ buys.1 in
+    record { known = is_so _ known.0; buys = buys.0; out = none-by_test _ out.0 }
 
 -- Where one refusal or else another tells of none, neither does.
 pub none_of_two : {A : Type 0} (one other : Option A) → option_or one other ≡ None → (one ≡ None) × (other ≡ None)

@@ -29,7 +29,7 @@ use Rattle.tournament_rules.specs.Apart.{hand_refusal}
 use Rattle.tournament_rules.proofs.Fitting.{table_range, other_number, table_started}
 use Rattle.tournament_rules.proofs.Ends.{left-void_first, valid_settled, valid_stopped, none_started-stopped}
 use Rattle.tournament_rules.proofs.Passed.{passed-parts, act_passed, time_passed, settle_passed, end_passed, plan_late, go_late}
-use Rattle.tournament_rules.proofs.Entries.{valid_first, valid_entered, start_none}
+use Rattle.tournament_rules.proofs.Entries.{valid_first, valid_entered, valid_reentered, start_none}
 use Rattle.tournament_rules.proofs.Begins.{may_begin, valid_begun}
 use Rattle.tournament_rules.proofs.Balances.{valid_balanced}
 use Rattle.tournament_rules.proofs.Breaks.{valid_broken}
@@ -234,6 +234,9 @@ play_keeps play events.Go valid none = absurd (go_late play.book (passed-parts p
 play_keeps play (events.Enter name table seat) valid none =
     ordered play (events.Enter name table seat) _ valid none
     (valid_entered play.book name table seat valid.book) refl refl
+play_keeps play (events.Reenter name table seat) valid none =
+    ordered play (events.Reenter name table seat) _ valid none
+    (valid_reentered play.book name table seat valid.book) refl refl
 play_keeps play (events.Begin table row) valid none =
     play_begun play table row valid (passed-parts play (events.Begin table row) none).0
 play_keeps play (events.Act table name act) valid none =

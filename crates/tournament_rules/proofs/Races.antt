@@ -449,7 +449,7 @@ module _ (book : BookState) (table : ℕ) (cards : List Card) (valid : IsValid b
       let none = none_started book table valid may.rests in
       record {
         plan = valid.plan;
-        entries = entered_changed book.entries players book.busts (restacked table after) (raced-stacks table after)
+        entries = entered_changed book.entries book.reentries players book.busts (restacked table after) (raced-stacks table after)
             valid.entries;
         tables = record {
           lawful = seating_changed book.seating table (raced_off status) (restacked table after) lawful range.0

@@ -73,9 +73,11 @@ apart_changed change stacks (player ∷ players) =
     rw (number, others, rest) refl
 
 -- The entries, the players and those who are out agree where they did.
-pub entered_changed : (entries : List (List ℕ)) (players : List Seated) (busts : List Bust) (change : Seated → Seated)
-    → ChangesStacks change → AreEntered entries players busts → AreEntered entries (map change players) busts
-entered_changed entries players busts change stacks entered = record {
+pub entered_changed : (entries : List (List ℕ)) (reentries : ℕ) (players : List Seated) (busts : List Bust)
+    (change : Seated → Seated)
+    → ChangesStacks change → AreEntered entries reentries players busts
+    → AreEntered entries reentries (map change players) busts
+entered_changed entries reentries players busts change stacks entered = record {
   few = entered.few;
   names = entered.names;
   once = λ number. ap (λ (count : ℕ). count + count_by (is_bust_of number) busts)

@@ -13,7 +13,7 @@ use Rattle.place_list.specs.Standings.{comes_before, put_in_order, ordered, stan
 use Rattle.seat_book.specs.declared.seated.Seated.{Seated}
 use Rattle.tournament_rules.specs.Books.{BookState}
 use Rattle.tournament_rules.specs.Checks.{is_over_for_all}
-use Rattle.tournament_rules.specs.Report.{standings_in}
+use Rattle.tournament_rules.specs.Report.{pool_in, standings_in}
 use Rattle.tournament_rules.specs.Valid.{IsValid, rows_owed, is_bust_of}
 use Rattle.tournament_rules.proofs.Names.{IsNamed}
 
@@ -39,13 +39,13 @@ ordered_keeps P (standing ∷ standings) all =
     (ordered_keeps P standings (All-tail P standing standings all))
 
 -- What is so of the winner's standing and of that of each who is out is so of all standings.
-pub standings_are : (P : Standing → Type 0) (entries : ℕ) (last : Option ℕ) (buyin : ℕ) (shares : List ℕ)
-    (busts : List Bust) → All P (winner_of (prizes_of entries buyin shares) last)
-    → All (λ bust. P (standing_of entries (prizes_of entries buyin shares) busts bust)) busts
-    → All P (standings_of entries last buyin shares busts)
+pub standings_are : (P : Standing → Type 0) (entries : ℕ) (last : Option ℕ) (pool : ℕ) (shares : List ℕ)
+    (busts : List Bust) → All P (winner_of (prizes_of entries pool shares) last)
+    → All (λ bust. P (standing_of entries (prizes_of entries pool shares) busts bust)) busts
+    → All P (standings_of entries last pool shares busts)
 unfolding standings_of
-standings_are P entries last buyin shares busts first others =
-    let prizes = prizes_of entries buyin shares in
+standings_are P entries last pool shares busts first others =
+    let prizes = prizes_of entries pool shares in
     All-append P (winner_of prizes last) (ordered (map (standing_of entries prizes busts) busts)) first
     (ordered_keeps P (map (standing_of entries prizes busts) busts)
     (All-map P (standing_of entries prizes busts) busts others))
@@ -86,8 +86,8 @@ winner_entered entries prizes players false named = All-nil (λ standing. standi
 pub standings_entered : (book : BookState) → IsValid book
     → All (λ standing. standing.player < length book.entries) (standings_in book)
 standings_entered book valid =
-    standings_are (λ standing. standing.player < length book.entries) (length book.entries) _ book.plan.buyin
+    standings_are (λ standing. standing.player < length book.entries) (length book.entries) _ (pool_in book)
     book.plan.shares book.busts
-    (winner_entered book.entries (prizes_of (length book.entries) book.plan.buyin book.plan.shares)
+    (winner_entered book.entries (prizes_of (length book.entries) (pool_in book) book.plan.shares)
     book.seating.players (is_over_for_all book) valid.entries.named)
     (outs_entered book.entries book.busts (λ number. let once = valid.entries.once number in omega (arith, once)))

@@ -92,10 +92,11 @@ fitting_left plan seating started gone fits = record {
 }
 
 -- The entries, the players who stay and those who are out agree where each entered player is in or out once.
-pub entered_left : (entries : List (List ℕ)) (players : List Seated) (before after : List Bust) (gone : Seated → Bool)
-    → AreEntered entries players before → AreOnce entries (without gone players) after
-    → AreEntered entries (without gone players) after
-entered_left entries players before after gone entered once = record {
+pub entered_left : (entries : List (List ℕ)) (reentries : ℕ) (players : List Seated) (before after : List Bust)
+    (gone : Seated → Bool)
+    → AreEntered entries reentries players before → AreOnce entries (without gone players) after
+    → AreEntered entries reentries (without gone players) after
+entered_left entries reentries players before after gone entered once = record {
   few = entered.few;
   names = entered.names;
   once = once;

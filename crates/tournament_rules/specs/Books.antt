@@ -3,7 +3,8 @@ use Rattle.std.specs.Prelude.{ℕ, ◌+◌, ◌-◌, Bool, List, [], replicate, 
 use Rattle.std.specs.Option.{option_map_or}
 use Rattle.level_plan.specs.declared.plan.Blind.{Blind}
 use Rattle.level_plan.specs.Items.{is_between}
-use Rattle.level_plan.specs.Plans.{PlanTerms}
+use Rattle.level_plan.specs.Plans.{PlanTerms, no_level}
+use Rattle.entry_list.specs.Entries.{number_of}
 use Rattle.place_list.specs.declared.bust.Bust.{Bust}
 use Rattle.seat_book.specs.Seatings.{Seating}
 use Rattle.table_engine.specs.declared.start.HandStart.{HandStart}
@@ -14,6 +15,8 @@ pub record BookState : Type 0 where
   pub plan : PlanTerms
   -- the names of those who entered, in order: a player's number is the index of his name, from 0
   pub entries : List (List ℕ)
+  -- how often a player who was out entered again
+  pub reentries : ℕ
   -- who sits where, and how the tables stand
   pub seating : Seating
   -- by table number, the start of the hand that is played; there is no table 0, and no hand
@@ -34,6 +37,10 @@ pub record BookState : Type 0 where
   -- whether `stop` is accepted
   pub stopped : Bool
 
+-- the number of the player who entered under a name
+abbrev pub number_in : BookState → List ℕ → ℕ
+number_in book name = unwrap_or (number_of book.entries name) 0
+
 -- whether the plan has a table of this number
 abbrev pub has_table : BookState → ℕ → Bool
 has_table book table = is_between 1 book.plan.tables table
@@ -52,7 +59,7 @@ starters_of start = option_map_or (λ start. start.seats) start []
 
 -- the blinds and the unit of the current level
 abbrev pub blind_now : BookState → Blind
-blind_now book = unwrap_or (slice_get book.plan.blinds (book.level - 1)) (record { small = 0; big = 0; unit = 1 })
+blind_now book = unwrap_or (slice_get book.plan.blinds (book.level - 1)) no_level
 
 -- no hand is played, at any of so many tables
 abbrev pub no_hands : {A : Type 0} → ℕ → List (Option A)

@@ -1,16 +1,17 @@
 -- The checks of an event, in groups, each said once. This project's own.
-use Rattle.std.specs.Prelude.{ℕ, Bool, true, false, not, nat_lt, nat_le, ◌==◌, ◌&&◌, ◌||◌, List, [], ◌∷◌, ◌++◌, length, Option, is_some}
+use Rattle.std.specs.Prelude.{ℕ, ◌+◌, Bool, true, false, not, nat_lt, nat_le, ◌==◌, ◌&&◌, ◌||◌, List, [], ◌∷◌, ◌++◌, length, Option, is_some}
 use Rattle.std.specs.List.{list_any}
 use Rattle.std.specs.Option.{option_map_or}
 use Rattle.rulebook.specs.Checks.{first_that_holds}
+use Rattle.rulebook.specs.Limits.{most_entries}
 use Rattle.floor_text.specs.declared.refusal.Refusal.{Refusal}
-use Rattle.floor_text.specs.declared.refusal.Refusal.TheVariants.{PlanLate, Stopped, NameKnown, NameUnknown, NoTable, NoSeat, SeatTaken, NotFewest, LateClosed, Playing, NotPlaying, Lone, Halted, RaceDue, DeckWrong, NotOver, NotNextToBreak, NoRoom, DrawWrong, LastLevel, RoundOpen, NoRace, Over, ListFull}
+use Rattle.floor_text.specs.declared.refusal.Refusal.TheVariants.{PlanLate, Stopped, NameKnown, NameUnknown, NoTable, NoSeat, SeatTaken, NotFewest, LateClosed, Playing, NotPlaying, Lone, Halted, RaceDue, DeckWrong, NotOver, NotNextToBreak, NoRoom, DrawWrong, LastLevel, RoundOpen, NoRace, Over, ListFull, StillIn}
 use Rattle.card_set.specs.declared.card.CardRow.{CardRow}
 use Rattle.card_set.specs.Decks.{repeats_a_card}
-use Rattle.entry_list.specs.Entries.{is_known, is_full}
+use Rattle.entry_list.specs.Entries.{is_known}
 use Rattle.seat_book.specs.declared.place.Place.{Place}
 use Rattle.seat_book.specs.Counts.{count_at, table_numbers}
-use Rattle.seat_book.specs.Players.{player_at}
+use Rattle.seat_book.specs.Players.{player_at, place_of}
 use Rattle.seat_book.specs.Tables.{status_at}
 use Rattle.seat_book.specs.Seatings.{is_race_pending, is_round_open, is_not_last}
 use Rattle.balance_rule.specs.Halting.{is_halted}
@@ -22,7 +23,7 @@ use Rattle.table_engine.specs.Hands.{HandTerms, is_over}
 use Rattle.table_engine.specs.Acts.{act_checks, time_checks}
 use Rattle.tournament_events.specs.declared.event.Event.{Event}
 use Rattle.tournament_events.specs.declared.event.Event.TheVariants as events
-use Rattle.tournament_rules.specs.Books.{BookState, has_table, has_seat_number}
+use Rattle.tournament_rules.specs.Books.{BookState, has_table, has_seat_number, number_in}
 
 -- a refusal, and whether its check holds
 abbrev pub Check : Type 0
@@ -82,14 +83,21 @@ over_checks book = (Over, is_over_for_all book) ∷ []
 abbrev pub entry_checks : BookState → List Check
 entry_checks book = (LateClosed, is_late book) ∷ over_checks book
 
--- there is room in the entry list
-abbrev pub room_checks : List (List ℕ) → List Check
-room_checks entries = (ListFull, is_full entries) ∷ []
+-- whether there were as many entries and re-entries as there can be
+abbrev pub is_sold_out : BookState → Bool
+is_sold_out book = nat_le most_entries (length book.entries + book.reentries)
 
--- all checks of an entry before that of the list's room
+-- there is room for one entry or re-entry more
+abbrev pub room_checks : BookState → List Check
+room_checks book = (ListFull, is_sold_out book) ∷ []
+
+-- a player may buy a stack and sit down with it at that table, in that seat
+abbrev pub buy_checks : BookState → ℕ → ℕ → List Check
+buy_checks book table seat = seat_checks book table seat ++ entry_checks book ++ room_checks book
+
+-- all checks of an entry
 abbrev pub enter_checks : BookState → List ℕ → ℕ → ℕ → List Check
-enter_checks book name table seat = going_checks book ++ newcomer_checks book name ++ seat_checks book table seat
-    ++ entry_checks book
+enter_checks book name table seat = going_checks book ++ newcomer_checks book name ++ buy_checks book table seat
 
 -- the table is open
 abbrev pub open_table_checks : BookState → ℕ → List Check
@@ -133,6 +141,19 @@ begin_checks book table row =
 -- somebody of that name entered
 abbrev pub known_checks : BookState → List ℕ → List Check
 known_checks book name = (NameUnknown, not (is_known book.entries name)) ∷ []
+
+-- whether the player of a name has a seat
+abbrev pub is_still_in : BookState → List ℕ → Bool
+is_still_in book name = is_some (place_of book.seating.players (number_in book name))
+
+-- the player of a name has no seat
+abbrev pub out_checks : BookState → List ℕ → List Check
+out_checks book name = (StillIn, is_still_in book name) ∷ []
+
+-- all checks of a re-entry
+abbrev pub reenter_checks : BookState → List ℕ → ℕ → ℕ → List Check
+reenter_checks book name table seat =
+    going_checks book ++ known_checks book name ++ buy_checks book table seat ++ out_checks book name
 
 -- there is such a table, and a hand is played there
 abbrev pub playing_checks : BookState → ℕ → List Check
@@ -215,7 +236,8 @@ end_round_checks book = going_checks book ++ close_checks book.seating ++ over_c
 abbrev pub book_checks : BookState → Event → List Check
 book_checks book (events.Plan line) = (PlanLate, true) ∷ []
 book_checks book events.Go = (PlanLate, true) ∷ []
-book_checks book (events.Enter name table seat) = enter_checks book name table seat ++ room_checks book.entries
+book_checks book (events.Enter name table seat) = enter_checks book name table seat
+book_checks book (events.Reenter name table seat) = reenter_checks book name table seat
 book_checks book (events.Begin table row) = begin_checks book table row
 book_checks book (events.Act table name act) = before_act_checks book table name
 book_checks book (events.Time table) = before_hand_checks book table

@@ -1,14 +1,14 @@
 -- The chips of a tournament. This project's own.
-use Rattle.std.specs.Prelude.{ℕ, ◌*◌, length, sum_by}
+use Rattle.std.specs.Prelude.{ℕ, ◌+◌, ◌*◌, length, sum_by}
 use Rattle.std.specs.Option.{option_map_or}
 use Rattle.seat_book.specs.Players.{players_at}
 use Rattle.table_engine.specs.Starts.{chips_of}
 use Rattle.tournament_rules.specs.Books.{BookState, starters_of}
 use Rattle.tournament_rules.specs.States.{State}
 
--- the chips sold by a book: a starting stack for each entry
+-- the chips sold by a book: a starting stack for each entry and each re-entry
 abbrev pub sold_by : BookState → ℕ
-sold_by book = length book.entries * book.plan.stack
+sold_by book = (length book.entries + book.reentries) * book.plan.stack
 
 -- the chips at rest in a book: the stacks of those who are in
 abbrev pub rest_in : BookState → ℕ

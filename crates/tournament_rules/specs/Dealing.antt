@@ -24,6 +24,7 @@ next_start book table cards = record {
   seat_count = book.plan.seats;
   marks = (next_at book table).marks;
   blind = blind_now book;
+  cap = book.plan.cap;
   game = book.plan.game;
   deck = cards;
 }

@@ -5,6 +5,7 @@ use Rattle.card_set.specs.declared.card.Card.{Card}
 use Rattle.level_plan.specs.Plans.{PlanTerms, unit_of_level}
 use Rattle.button_blinds.specs.declared.marks.Marks.{Marks}
 use Rattle.place_list.specs.declared.bust.Bust.{Bust}
+use Rattle.place_list.specs.Places.{taken_back}
 use Rattle.seat_book.specs.declared.place.Place.{Place}
 use Rattle.seat_book.specs.declared.seated.Seated.{Seated}
 use Rattle.seat_book.specs.declared.table_status.TableStatus.{TableStatus}
@@ -18,7 +19,7 @@ use Rattle.table_engine.specs.Hands.{HandTerms}
 use Rattle.table_engine.specs.Results.{stack_after_hand, players_after}
 use Rattle.tournament_events.specs.declared.event.Event.{Event}
 use Rattle.tournament_events.specs.declared.event.Event.TheVariants as events
-use Rattle.tournament_rules.specs.Books.{BookState, start_at, no_hands}
+use Rattle.tournament_rules.specs.Books.{BookState, number_in, start_at, no_hands}
 use Rattle.tournament_rules.specs.Players.{dealt_in, put_back, stayed}
 use Rattle.tournament_rules.specs.Dealing.{next_at, next_start}
 use Rattle.tournament_rules.specs.Moving.{after_all}
@@ -38,6 +39,7 @@ abbrev pub first_book : PlanTerms → BookState
 first_book plan = record {
   plan = plan;
   entries = [];
+  reentries = 0;
   seating = first_seating plan;
   started = no_hands plan.tables;
   busts = [];
@@ -50,21 +52,40 @@ first_book plan = record {
   stopped = false;
 }
 
--- a player as he sits down, with the stack that a player starts with
-abbrev pub newcomer : BookState → List ℕ → ℕ → ℕ → Seated
-newcomer book name table seat = record {
+-- the player of a number as he sits down, with the stack that a player starts with
+abbrev pub starter : BookState → ℕ → List ℕ → ℕ → ℕ → Seated
+starter book number name table seat = record {
   place = record { table = table; seat = seat };
-  player = length book.entries;
+  player = number;
   name = name;
   stack = book.plan.stack;
 }
 
--- the book once a player entered: he sits down with the stack that a player starts with, which is sold to him
-abbrev pub entered : BookState → List ℕ → ℕ → ℕ → BookState
-entered book name table seat = record book {
-  entries = book.entries ++ name ∷ [];
-  seating = record book.seating { players = sit_down (newcomer book name table seat) book.seating.players };
+-- the book once a player sat down with that stack, which is sold to him
+abbrev pub sold_to : BookState → Seated → BookState
+sold_to book player = record book {
+  seating = record book.seating { players = sit_down player book.seating.players };
   accepted = book.accepted + 1;
+}
+
+-- a player who enters as he sits down: he has the next number
+abbrev pub newcomer : BookState → List ℕ → ℕ → ℕ → Seated
+newcomer book name table seat = starter book (length book.entries) name table seat
+
+-- the book once a player entered: he sits down, and his name is the last in the list
+abbrev pub entered : BookState → List ℕ → ℕ → ℕ → BookState
+entered book name table seat =
+    record (sold_to book (newcomer book name table seat)) { entries = book.entries ++ name ∷ [] }
+
+-- a player who re-enters as he sits down: he has the number that he had
+abbrev pub returner : BookState → List ℕ → ℕ → ℕ → Seated
+returner book name table seat = starter book (number_in book name) name table seat
+
+-- the book once a player re-entered: he sits down, and his row leaves the list of those who are out
+abbrev pub reentered : BookState → List ℕ → ℕ → ℕ → BookState
+reentered book name table seat = record (sold_to book (returner book name table seat)) {
+  reentries = book.reentries + 1;
+  busts = taken_back (number_in book name) book.busts;
 }
 
 -- a table once a hand has begun: the new marks are kept, the table plays, and where hand-for-hand is on it has begun in
@@ -202,6 +223,7 @@ abbrev pub book_effect : BookState → Option HandTerms → Event → BookState
 book_effect book hand (events.Plan line) = book
 book_effect book hand events.Go = book
 book_effect book hand (events.Enter name table seat) = entered book name table seat
+book_effect book hand (events.Reenter name table seat) = reentered book name table seat
 book_effect book hand (events.Begin table row) = begun_book book table row.cards
 book_effect book hand (events.Act table name act) = book
 book_effect book hand (events.Time table) = book

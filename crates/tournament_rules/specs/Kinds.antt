@@ -18,6 +18,7 @@ abbrev pub kind_of : Event → Kind
 kind_of (events.Plan line) = Planning
 kind_of events.Go = Planning
 kind_of (events.Enter name table seat) = Order
+kind_of (events.Reenter name table seat) = Order
 kind_of (events.Begin table row) = Begin
 kind_of (events.Act table name act) = Play
 kind_of (events.Time table) = Play
@@ -36,8 +37,8 @@ is_book_alone Order = true
 is_book_alone Stop = true
 is_book_alone _ = false
 
--- whether the book takes an event by itself: a player enters, two tables are balanced, a table breaks, a level, a race,
--- a switch or an end of a round comes, or the tournament is stopped
+-- whether the book takes an event by itself: a player enters or re-enters, two tables are balanced, a table breaks, a
+-- level, a race, a switch or an end of a round comes, or the tournament is stopped
 abbrev pub is_order : Event → Bool
 is_order event = is_book_alone (kind_of event)
 
@@ -55,10 +56,16 @@ abbrev pub is_played : Kind → Bool
 is_played Play = true
 is_played _ = false
 
--- whether a player enters
+-- whether a player enters, for the first time or again
 abbrev pub is_entry : Event → Bool
 is_entry (events.Enter name table seat) = true
+is_entry (events.Reenter name table seat) = true
 is_entry _ = false
+
+-- whether a player who was out enters again
+abbrev pub is_reentry : Event → Bool
+is_reentry (events.Reenter name table seat) = true
+is_reentry _ = false
 
 -- whether a hand begins
 abbrev pub is_begin : Event → Bool

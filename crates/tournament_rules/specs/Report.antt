@@ -5,6 +5,7 @@ use Rattle.tournament_events.specs.declared.report.Report.{Report}
 use Rattle.tournament_events.specs.declared.report.ReportSeat.{ReportSeat}
 use Rattle.tournament_events.specs.declared.report.ReportOut.{ReportOut}
 use Rattle.place_list.specs.declared.standing.Standing.{Standing}
+use Rattle.place_list.specs.Prizes.{pool_of}
 use Rattle.place_list.specs.Standings.{standings_of}
 use Rattle.seat_book.specs.declared.seated.Seated.{Seated}
 use Rattle.table_engine.specs.declared.start.HandStart.{HandStart}
@@ -27,9 +28,13 @@ abbrev pub winner : BookState → Option ℕ
 winner book =
     if is_over_for_all book then option_map (λ player. player.player) (slice_get book.seating.players 0) else None
 
+-- the pool of the prizes
+abbrev pub pool_in : BookState → ℕ
+pool_in book = pool_of (length book.entries) book.reentries book.plan.buyin
+
 -- where the players stand who are out, and the winner where the tournament is over: by place, and then by entry
 abbrev pub standings_in : BookState → List Standing
-standings_in book = standings_of (length book.entries) (winner book) book.plan.buyin book.plan.shares book.busts
+standings_in book = standings_of (length book.entries) (winner book) (pool_in book) book.plan.shares book.busts
 
 -- a player who is out, or the winner, as he is reported: under the name with which he entered
 abbrev pub reported_out : List (List ℕ) → Standing → ReportOut

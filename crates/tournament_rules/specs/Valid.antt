@@ -8,6 +8,7 @@ use Rattle.level_plan.specs.Plans.{PlanTerms, is_right}
 use Rattle.level_plan.specs.Drafts.{IsLawful}
 use Rattle.rulebook.specs.Limits.{most_entries}
 use Rattle.place_list.specs.declared.bust.Bust.{Bust}
+pub use Rattle.place_list.specs.Places.{is_bust_of}
 use Rattle.seat_book.specs.declared.seated.Seated.{Seated}
 use Rattle.seat_book.specs.declared.table_status.TableStatus.{TableStatus}
 use Rattle.seat_book.specs.Players.{sits_at, is_numbered}
@@ -34,19 +35,16 @@ pub record IsPlanned (plan : PlanTerms) (level : ℕ) : Type 0 where
 abbrev pub rows_owed : List (List ℕ) → ℕ → ℕ
 rows_owed entries number = if nat_lt number (length entries) then 1 else 0
 
--- whether a player who is out has this number
-abbrev pub is_bust_of : ℕ → Bust → Bool
-is_bust_of number bust = bust.player == number
-
 -- Each entered player has exactly one seat or exactly one row of those who are out, and nobody else has any.
 abbrev pub AreOnce : List (List ℕ) → List Seated → List Bust → Type 0
 AreOnce entries players busts = (number : ℕ)
     → count_by (is_numbered number) players + count_by (is_bust_of number) busts ≡ rows_owed entries number
 
 -- The entries, the players who sit and those who are out agree.
-pub record AreEntered (entries : List (List ℕ)) (players : List Seated) (busts : List Bust) : Type 0 where
-  -- the entry list is not overfull
-  pub few : length entries ≤ most_entries
+pub record AreEntered (entries : List (List ℕ)) (reentries : ℕ) (players : List Seated) (busts : List Bust)
+    : Type 0 where
+  -- there are not too many entries and re-entries
+  pub few : length entries + reentries ≤ most_entries
   -- no two entered under one name
   pub names : are_distinct bytes_eq entries ≡ true
   -- everyone who entered is in or out, once
@@ -101,7 +99,7 @@ AreMarked tables players = (table : ℕ) → ForSome (status_at tables table).ma
 -- What holds of a book at every moment.
 pub record IsValid (book : BookState) : Type 0 where
   pub plan : IsPlanned book.plan book.level
-  pub entries : AreEntered book.entries book.seating.players book.busts
+  pub entries : AreEntered book.entries book.reentries book.seating.players book.busts
   pub tables : IsFitting book.plan book.seating book.started
   pub hands : AreStarted book.plan book.seating.tables book.seating.players book.started
   pub busts : AreGrouped book.busts book.group
