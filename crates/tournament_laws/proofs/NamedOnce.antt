@@ -22,7 +22,7 @@ use Rattle.seat_book.specs.Players.{is_numbered}
 use Rattle.tournament_events.specs.declared.report.ReportOut.{ReportOut}
 use Rattle.tournament_events.specs.declared.report.ReportSeat.{ReportSeat}
 use Rattle.tournament_rules.specs.Books.{BookState}
-use Rattle.tournament_rules.specs.Report.{winner, reported, reported_out, standings_in, book_report}
+use Rattle.tournament_rules.specs.Report.{winner, pool_in, reported, reported_out, standings_in, book_report}
 use Rattle.tournament_rules.specs.Valid.{IsValid, is_bust_of}
 use Rattle.tournament_rules.proofs.Names.{IsNamed, names_differ}
 use Rattle.tournament_laws.proofs.Holds.{in_or_bust}
@@ -77,32 +77,32 @@ seats_known book valid =
     (get_or book.seating.players k d).name (valid.entries.named k d within))
 
 -- What is so of the numbers of those who are out, and of the winner's, is so of the number of each standing.
-all-standings : (P : ℕ → Type 0) (entries : ℕ) (last : Option ℕ) (buyin : ℕ) (shares : List ℕ) (busts : List Bust)
+all-standings : (P : ℕ → Type 0) (entries : ℕ) (last : Option ℕ) (pool : ℕ) (shares : List ℕ) (busts : List Bust)
     → ForSome last P → All (λ bust. P bust.player) busts
-    → All (λ standing. P standing.player) (standings_of entries last buyin shares busts)
+    → All (λ standing. P standing.player) (standings_of entries last pool shares busts)
 unfolding standings_of
-all-standings P entries None buyin shares busts won out =
-    all-ordered (λ standing. P standing.player) (map (standing_of entries (prizes_of entries buyin shares) busts) busts)
-    (All-map (λ (standing : Standing). P standing.player) (standing_of entries (prizes_of entries buyin shares) busts)
+all-standings P entries None pool shares busts won out =
+    all-ordered (λ standing. P standing.player) (map (standing_of entries (prizes_of entries pool shares) busts) busts)
+    (All-map (λ (standing : Standing). P standing.player) (standing_of entries (prizes_of entries pool shares) busts)
     busts out)
-all-standings P entries (Some last) buyin shares busts won out =
+all-standings P entries (Some last) pool shares busts won out =
     All-cons (λ standing. P standing.player)
-    (record { player = last; place = 1; prize = prizes_together (prizes_of entries buyin shares) 1 1 })
-    (ordered (map (standing_of entries (prizes_of entries buyin shares) busts) busts)) (won last refl)
+    (record { player = last; place = 1; prize = prizes_together (prizes_of entries pool shares) 1 1 })
+    (ordered (map (standing_of entries (prizes_of entries pool shares) busts) busts)) (won last refl)
     (all-ordered (λ standing. P standing.player)
-    (map (standing_of entries (prizes_of entries buyin shares) busts) busts)
-    (All-map (λ (standing : Standing). P standing.player) (standing_of entries (prizes_of entries buyin shares) busts)
+    (map (standing_of entries (prizes_of entries pool shares) busts) busts)
+    (All-map (λ (standing : Standing). P standing.player) (standing_of entries (prizes_of entries pool shares) busts)
     busts out))
 
 -- Of the numbers of standings as many pass a test as of those who are out and of the winner.
-count-standings : (test : ℕ → Bool) (entries : ℕ) (last : Option ℕ) (buyin : ℕ) (shares : List ℕ) (busts : List Bust)
-    → count_by (λ standing. test standing.player) (standings_of entries last buyin shares busts)
+count-standings : (test : ℕ → Bool) (entries : ℕ) (last : Option ℕ) (pool : ℕ) (shares : List ℕ) (busts : List Bust)
+    → count_by (λ standing. test standing.player) (standings_of entries last pool shares busts)
     ≡ count_by (λ bust. test bust.player) busts + count_by test (option_to_list last)
 unfolding standings_of
-count-standings test entries last buyin shares busts = by_winner last
+count-standings test entries last pool shares busts = by_winner last
   where
     prizes : List ℕ
-    prizes = prizes_of entries buyin shares
+    prizes = prizes_of entries pool shares
 
     weight : Standing → ℕ
     weight standing = cond {A = ℕ} (test standing.player) 1 0
@@ -113,7 +113,7 @@ count-standings test entries last buyin shares busts = by_winner last
         ∙ sum_by-map weight (standing_of entries prizes busts) busts
 
     by_winner : (last : Option ℕ)
-        → count_by (λ standing. test standing.player) (standings_of entries last buyin shares busts)
+        → count_by (λ standing. test standing.player) (standings_of entries last pool shares busts)
         ≡ count_by (λ bust. test bust.player) busts + count_by test (option_to_list last)
     by_winner None = omega (arith, out)
     by_winner (Some last) =
@@ -134,7 +134,7 @@ busts_entered book valid = λ k d within.
     (count_by (is_bust_of number) book.busts) (valid.entries.once number) some
 
 -- Who has won has entered.
-winner_entered : (book : BookState) → IsValid book → ForSome (winner book) (λ last. last < length book.entries)
+pub winner_entered : (book : BookState) → IsValid book → ForSome (winner book) (λ last. last < length book.entries)
 winner_entered book valid = by_winner (won_or_none book)
   where
     by_winner : ((last : ℕ) × HasWon book last) ⊎ (winner book ≡ None)
@@ -151,7 +151,7 @@ winner_entered book valid = by_winner (won_or_none book)
 standings_entered : (book : BookState) → IsValid book
     → All (λ standing. standing.player < length book.entries) (standings_in book)
 standings_entered book valid =
-    all-standings (λ number. number < length book.entries) (length book.entries) (winner book) book.plan.buyin
+    all-standings (λ number. number < length book.entries) (length book.entries) (winner book) (pool_in book)
     book.plan.shares book.busts (winner_entered book valid) (busts_entered book valid)
 
 -- A report names a player in a line of a place where he is out, and where he has won.
@@ -168,7 +168,7 @@ outs_named book number name valid is =
     let his = (get_or (standings_in book) k d).player in
     same_entry book.entries his number (slice_index_or book.entries his []) name valid.entries.names
     (slice_get-get_or book.entries his [] (standings_entered book valid k d within)) is)
-    ∙ count-standings (λ last. last == number) (length book.entries) (winner book) book.plan.buyin book.plan.shares
+    ∙ count-standings (λ last. last == number) (length book.entries) (winner book) (pool_in book) book.plan.shares
     book.busts
 
 -- Who is named in a line of a place is known.

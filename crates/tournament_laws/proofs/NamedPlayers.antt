@@ -22,7 +22,7 @@ use Rattle.tournament_rules.specs.States.{State, PlayState, answer_to, planning_
 use Rattle.tournament_rules.specs.Valid.{IsValid, IsValidState}
 use Rattle.tournament_rules.proofs.Breaks.{break_passed}
 use Rattle.tournament_rules.proofs.MoveLaws.{break_lawful, not_refused}
-use Rattle.tournament_rules.proofs.Passed.{is_so, passed-parts}
+use Rattle.tournament_rules.proofs.Passed.{is_so, passed-parts, reentry_passed}
 use Rattle.tournament_laws.specs.Named.{names_in}
 use Rattle.tournament_laws.proofs.NamedOnce.{known_at}
 
@@ -50,6 +50,9 @@ all_known : (book : BookState) (event : Event) → IsValid book → book_refusal
 all_known book (events.Act table name act) valid none =
     All-cons (λ name. is_known book.entries name ≡ true) name [] (actor_known book table name act none)
     (All-nil (λ name. is_known book.entries name ≡ true))
+all_known book (events.Reenter name table seat) valid none =
+    All-cons (λ name. is_known book.entries name ≡ true) name [] (reentry_passed book name table seat none).known
+    (All-nil (λ name. is_known book.entries name ≡ true))
 all_known book (events.Break table places names) valid none =
     let move = break_lawful book table places names valid (break_passed book table places names none) in
     λ k d within. All-contains (λ name. is_known book.entries name ≡ true) (names_at book.seating table)
@@ -62,6 +65,7 @@ all_known book event valid none = All-nil (λ name. is_known book.entries name �
 -- Before there is a plan nobody is named.
 nobody_named : (draft : Draft) (event : Event) (name : List ℕ) → planning_answer draft event ≡ Ok
     → Contains (names_in event) name → ⊥
+nobody_named draft (events.Reenter name table seat) other accepted named = cc
 nobody_named draft (events.Act table name act) other accepted named = cc
 nobody_named draft (events.Break table places names) other accepted named = cc
 nobody_named draft event name accepted named =

@@ -6,13 +6,12 @@ use Rattle.std.proofs.lemmas.List.Folds.{list_all-map}
 use Rattle.rulebook.specs.Pairs.{are_distinct}
 use Rattle.rulebook.proofs.Tests.{count_by-cons, sum_by-map, list_all-follows, none_by_count, eqb-swap}
 use Rattle.place_list.specs.declared.bust.Bust.{Bust}
-use Rattle.place_list.specs.Prizes.{pool_of}
 use Rattle.place_list.specs.Standings.{standings_of}
 use Rattle.place_list.proofs.Sums.{over-sum, out-sum}
 use Rattle.tournament_events.specs.declared.report.ReportOut.{ReportOut}
 use Rattle.tournament_rules.specs.Books.{BookState}
 use Rattle.tournament_rules.specs.Checks.{is_over_for_all}
-use Rattle.tournament_rules.specs.Report.{reported_out, standings_in, book_report}
+use Rattle.tournament_rules.specs.Report.{pool_in, reported_out, standings_in, book_report}
 use Rattle.tournament_rules.specs.Valid.{IsValid, is_bust_of}
 use Rattle.tournament_rules.proofs.Entries.{right_has}
 use Rattle.tournament_rules.proofs.InOrBust.{all-counted, one_row}
@@ -60,11 +59,11 @@ prizes-reported book = sum_by-map (λ (out : ReportOut). out.prize) (reported_ou
 -- the prizes together where so many entered, with this winner
 abbrev prizes_with : BookState → Option ℕ → ℕ
 prizes_with book last = sum_by (λ standing. standing.prize)
-    (standings_of (length book.entries) last book.plan.buyin book.plan.shares book.busts)
+    (standings_of (length book.entries) last (pool_in book) book.plan.shares book.busts)
 
 -- Where the tournament is over the prizes are the pool.
 pub prizes-over : (book : BookState) → IsValid book → is_over_for_all book ≡ true
-    → sum_by (λ out. out.prize) (book_report book).outs ≡ pool_of (length book.entries) book.plan.buyin
+    → sum_by (λ out. out.prize) (book_report book).outs ≡ pool_in book
 prizes-over book valid over =
     let won = over-won book over in
     let one = ap length won.1.alone in
@@ -72,15 +71,15 @@ prizes-over book valid over =
     let plan = right_has book.plan valid.plan.right in
     prizes-reported book
     ∙ ap (prizes_with book) won.1.is
-    ∙ over-sum (length book.entries) won.0 book.plan.buyin book.plan.shares book.busts (busts-distinct book valid)
+    ∙ over-sum (length book.entries) won.0 (pool_in book) book.plan.shares book.busts (busts-distinct book valid)
     (omega (arith, one, all)) plan.some_shares plan.most_shared
 
 -- Before it is over they are no more.
 pub prizes-before : (book : BookState) → IsValid book → is_over_for_all book ≡ false
-    → sum_by (λ out. out.prize) (book_report book).outs ≤ pool_of (length book.entries) book.plan.buyin
+    → sum_by (λ out. out.prize) (book_report book).outs ≤ pool_in book
 prizes-before book valid going =
     let said = prizes-reported book ∙ ap (prizes_with book) (none_won book going) in
     let plan = right_has book.plan valid.plan.right in
-    let within = out-sum (length book.entries) book.plan.buyin book.plan.shares book.busts (busts-distinct book valid)
+    let within = out-sum (length book.entries) (pool_in book) book.plan.shares book.busts (busts-distinct book valid)
     plan.most_shared in
     omega (arith, said, within)

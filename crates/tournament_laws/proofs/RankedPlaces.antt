@@ -16,7 +16,7 @@ use Rattle.place_list.proofs.Counts.{count_by-none}
 use Rattle.place_list.proofs.Ranks.{place_of-ties, place_of-ahead, tied-some}
 use Rattle.tournament_events.specs.declared.report.ReportOut.{ReportOut}
 use Rattle.tournament_rules.specs.Books.{BookState}
-use Rattle.tournament_rules.specs.Report.{winner, reported, reported_out, standings_in, book_report}
+use Rattle.tournament_rules.specs.Report.{winner, pool_in, reported, reported_out, standings_in, book_report}
 use Rattle.tournament_rules.specs.Valid.{IsValid}
 use Rattle.tournament_rules.proofs.InOrBust.{all-counted}
 use Rattle.tournament_laws.proofs.Lists.{counts_agree}
@@ -73,10 +73,10 @@ ranked-out entries prizes busts = all-ordered ranked standings
         omega (arith, ahead, made, same)
 
 -- All places are so before anybody has won.
-ranked-none : (entries buyin : ℕ) (shares : List ℕ) (busts : List Bust)
-    → IsRanked (standings_of entries None buyin shares busts) (still_in entries busts)
+ranked-none : (entries pool : ℕ) (shares : List ℕ) (busts : List Bust)
+    → IsRanked (standings_of entries None pool shares busts) (still_in entries busts)
 unfolding standings_of
-ranked-none entries buyin shares busts = ranked-out entries (prizes_of entries buyin shares) busts
+ranked-none entries pool shares busts = ranked-out entries (prizes_of entries pool shares) busts
 
 first_below : (place more : ℕ) → place ≡ 1 + 1 + more → cond {A = ℕ} (nat_lt 1 place) 1 0 ≡ 1
 first_below place more is = grind (arith, nat_tests)
@@ -85,22 +85,22 @@ none_above : (place more : ℕ) → place ≡ 1 + 1 + more → nat_lt place 1 �
 none_above place more is = grind (arith, nat_tests)
 
 -- All places are so with the winner, who is the one who is in.
-ranked-won : (entries last buyin : ℕ) (shares : List ℕ) (busts : List Bust) → still_in entries busts ≡ 1
-    → IsRanked (standings_of entries (Some last) buyin shares busts) 0
+ranked-won : (entries last pool : ℕ) (shares : List ℕ) (busts : List Bust) → still_in entries busts ≡ 1
+    → IsRanked (standings_of entries (Some last) pool shares busts) 0
 unfolding standings_of
-ranked-won entries last buyin shares busts one =
+ranked-won entries last pool shares busts one =
     All-cons (λ standing. standing.place ≡ 1 + 0 + higher (first ∷ others) standing.place) first others winning
     (All-weaker (λ standing. standing.place ≡ 1 + 1 + higher others standing.place)
     (λ standing. standing.place ≡ 1 + 0 + higher (first ∷ others) standing.place) losing others placed)
   where
     first : Standing
-    first = record { player = last; place = 1; prize = prizes_together (prizes_of entries buyin shares) 1 1 }
+    first = record { player = last; place = 1; prize = prizes_together (prizes_of entries pool shares) 1 1 }
 
     others : List Standing
-    others = ordered (map (standing_of entries (prizes_of entries buyin shares) busts) busts)
+    others = ordered (map (standing_of entries (prizes_of entries pool shares) busts) busts)
 
     placed : All (λ standing. standing.place ≡ 1 + 1 + higher others standing.place) others
-    placed = subst (IsRanked others) one (ranked-out entries (prizes_of entries buyin shares) busts)
+    placed = subst (IsRanked others) one (ranked-out entries (prizes_of entries pool shares) busts)
 
     winning : 1 ≡ 1 + 0 + higher (first ∷ others) 1
     winning =
@@ -126,23 +126,23 @@ ranked-book book valid = by_winner (won_or_none book)
     all = all-counted book.entries book.seating.players book.busts valid.entries.once
 
     with_winner : Option ℕ → Type 0
-    with_winner last = IsRanked (standings_of (length book.entries) last book.plan.buyin book.plan.shares book.busts)
+    with_winner last = IsRanked (standings_of (length book.entries) last (pool_in book) book.plan.shares book.busts)
         (length book.seating.players - length (option_to_list last))
 
     by_winner : ((last : ℕ) × HasWon book last) ⊎ (winner book ≡ None) → with_winner (winner book)
     by_winner (inl won) =
         let one = ap length won.1.alone in
         subst with_winner (sym won.1.is)
-        (subst (IsRanked (standings_of (length book.entries) (Some won.0) book.plan.buyin book.plan.shares book.busts))
+        (subst (IsRanked (standings_of (length book.entries) (Some won.0) (pool_in book) book.plan.shares book.busts))
         (none_else (length book.seating.players) one)
-        (ranked-won (length book.entries) won.0 book.plan.buyin book.plan.shares book.busts (omega (arith, one, all))))
+        (ranked-won (length book.entries) won.0 (pool_in book) book.plan.shares book.busts (omega (arith, one, all))))
       where
         none_else : (n : ℕ) → n ≡ 1 → 0 ≡ n - 1
         none_else n one = omega arith
     by_winner (inr none) =
         subst with_winner (sym none)
-        (subst (IsRanked (standings_of (length book.entries) None book.plan.buyin book.plan.shares book.busts))
-        (omega (arith, all)) (ranked-none (length book.entries) book.plan.buyin book.plan.shares book.busts))
+        (subst (IsRanked (standings_of (length book.entries) None (pool_in book) book.plan.shares book.busts))
+        (omega (arith, all)) (ranked-none (length book.entries) (pool_in book) book.plan.shares book.busts))
 
 -- The places that are reported are a ranking: each is one more than the number of those who are ahead.
 pub ranked-report : (book : BookState) → IsValid book

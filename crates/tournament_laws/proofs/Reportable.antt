@@ -30,7 +30,7 @@ use Rattle.floor_events.specs.Spelling.{HasLineParts, IsWritable}
 use Rattle.tournament_rules.specs.Books.{BookState}
 use Rattle.tournament_rules.specs.Effects.{settled, book_effect}
 use Rattle.tournament_rules.specs.Players.{is_in_hand}
-use Rattle.tournament_rules.specs.Report.{reported, reported_out, winner, standings_in, book_report, report_of, empty_report}
+use Rattle.tournament_rules.specs.Report.{reported, reported_out, winner, pool_in, standings_in, book_report, report_of, empty_report}
 use Rattle.tournament_rules.specs.States.{State, PlayState, first_state, hand_about, answer_to, is_accepted, accepted, state_after, run}
 use Rattle.tournament_rules.specs.Valid.{IsValid, IsValidPlay}
 use Rattle.tournament_rules.proofs.Begins.{few_chips}
@@ -175,11 +175,11 @@ winner_small prizes (Some player) small =
 
 -- what is paid is less than 2 ^ 63
 prizes_small : (book : BookState) → IsValid book
-    → sum (prizes_of (length book.entries) book.plan.buyin book.plan.shares) < 2 ^ 63
+    → sum (prizes_of (length book.entries) (pool_in book) book.plan.shares) < 2 ^ 63
 prizes_small book valid =
     let plan = right_has book.plan valid.plan.right in
-    let within = prizes-within (length book.entries) book.plan.buyin book.plan.shares plan.most_shared in
-    pool (length book.entries) book.plan.buyin _ valid.entries.few plan.most_buyin within
+    let within = prizes-within (length book.entries) (pool_in book) book.plan.shares plan.most_shared in
+    pool (length book.entries + book.reentries) book.plan.buyin _ valid.entries.few plan.most_buyin within
   where
     pool : (entries buyin paid : ℕ) → entries ≤ most_entries → buyin ≤ 1000000000 → paid ≤ entries * buyin
         → paid < 2 ^ 63
@@ -190,10 +190,11 @@ standings_small : (book : BookState) → IsValid book → All IsSmall (standings
 standings_small book valid =
     let out = all-counted book.entries book.seating.players book.busts valid.entries.once in
     let small = prizes_small book valid in
-    standings_are IsSmall (length book.entries) (winner book) book.plan.buyin book.plan.shares book.busts
-    (winner_small (prizes_of (length book.entries) book.plan.buyin book.plan.shares) (winner book) small)
-    (each_small (length book.entries) (prizes_of (length book.entries) book.plan.buyin book.plan.shares) book.busts
-    valid.entries.few (omega (arith, out)) small book.busts)
+    let few = valid.entries.few in
+    standings_are IsSmall (length book.entries) (winner book) (pool_in book) book.plan.shares book.busts
+    (winner_small (prizes_of (length book.entries) (pool_in book) book.plan.shares) (winner book) small)
+    (each_small (length book.entries) (prizes_of (length book.entries) (pool_in book) book.plan.shares) book.busts
+    (omega (arith, few)) (omega (arith, out)) small book.busts)
 
 outs_are : (entries : List (List ℕ)) (standings : List Standing) → are_names entries ≡ true
     → All (λ standing. standing.player < length entries) standings → All IsSmall standings

@@ -17,12 +17,12 @@ use Rattle.tournament_events.specs.declared.event.Event.TheVariants as events
 use Rattle.tournament_rules.specs.Books.{BookState}
 use Rattle.tournament_rules.specs.Checks.{is_late}
 use Rattle.tournament_rules.specs.Effects.{settled, book_effect}
-use Rattle.tournament_rules.specs.Kinds.{is_entry}
+use Rattle.tournament_rules.specs.Kinds.{is_entry, is_reentry}
 use Rattle.tournament_rules.specs.States.{State, PlayState, hand_about, refusal_of, answered, answer_to, is_accepted, play_effect, state_after, run}
 use Rattle.tournament_rules.specs.Valid.{IsValid, IsValidPlay}
 use Rattle.tournament_rules.proofs.Ends.{left-void_first}
 use Rattle.tournament_rules.proofs.InOrBust.{all-counted}
-use Rattle.tournament_rules.proofs.Passed.{passed-parts, entry_passed}
+use Rattle.tournament_rules.proofs.Passed.{passed-parts, entry_passed, reentry_passed}
 use Rattle.tournament_rules.proofs.Steps.{accepted_none}
 use Rattle.tournament_laws.specs.Accepted.{is_any_accepted}
 use Rattle.tournament_laws.proofs.Counting.{level-effect, plan-effect}
@@ -88,6 +88,23 @@ entries-run state events earlier later before after none =
     (λ play event kind free same. entries-effect play.book (hand_about play event) event kind ∙ same)
     state events earlier later before after none refl
 
+-- A re-entry is an entry.
+reentry_enters : (event : Event) (taken entered later : Bool) → (is_entry event && taken || entered) ≡ false
+    → (entered ≡ false → later ≡ false) → (is_reentry event && taken || later) ≡ false
+reentry_enters (events.Enter name table seat) true entered later none rest = absurd cc
+reentry_enters (events.Enter name table seat) false entered later none rest = rest none
+reentry_enters (events.Reenter name table seat) true entered later none rest = absurd cc
+reentry_enters (events.Reenter name table seat) false entered later none rest = rest none
+reentry_enters _ taken entered later none rest = rest none
+
+-- Where nobody enters, for the first time or again, nobody re-enters.
+no_reentry : (state : State) (list : List Event) → is_any_accepted is_entry state list ≡ false
+    → is_any_accepted is_reentry state list ≡ false
+no_reentry state [] none = refl
+no_reentry state (event ∷ list) none =
+    reentry_enters event (is_accepted (answer_to state event)) (is_any_accepted is_entry (state_after state event) list)
+    (is_any_accepted is_reentry (state_after state event) list) none (no_reentry (state_after state event) list)
+
 -- There is room among the entries for all who are out later.
 room_for : (earlier later : BookState) (grows : Grows earlier later) → IsValid later
     → later.entries ≡ earlier.entries → length earlier.busts + length grows.more ≤ length earlier.entries
@@ -112,7 +129,7 @@ pub places-rise : (state : State) (events : List Event) (earlier later : PlaySta
     → place_of (length later.book.entries) later.book.busts bust
     ≤ place_of (length earlier.book.entries) earlier.book.busts bust
 places-rise state events earlier later bust before after valid none =
-    let grows = run_grows state events earlier later before after in
+    let grows = run_grows state events earlier later before after (no_reentry state events none) in
     let same = entries-run state events earlier later before after none in
     let room = room_for earlier.book later.book grows valid.book same in
     let there = place-later earlier.book later.book grows bust same in
@@ -126,7 +143,7 @@ pub places-stay : (state : State) (events : List Event) (earlier later : PlaySta
     → place_of (length later.book.entries) later.book.busts bust
     ≡ place_of (length earlier.book.entries) earlier.book.busts bust
 places-stay state events earlier later bust before after valid past none =
-    let grows = run_grows state events earlier later before after in
+    let grows = run_grows state events earlier later before after (no_reentry state events none) in
     let same = entries-run state events earlier later before after none in
     place-later earlier.book later.book grows bust same
     ∙ place_of-stays (length earlier.book.entries) earlier.book.busts grows.more bust
@@ -153,7 +170,11 @@ late-refused : (play : PlayState) (event : Event) → is_late play.book ≡ true
     → is_entry event ≡ false
 late-refused play (events.Enter name table seat) late free =
     let free_in_book = (passed-parts play (events.Enter name table seat) free).0 in
-    let early = (entry_passed play.book name table seat free_in_book).early in
+    let early = (entry_passed play.book name table seat free_in_book).buys.early in
+    absurd cc
+late-refused play (events.Reenter name table seat) late free =
+    let free_in_book = (passed-parts play (events.Reenter name table seat) free).0 in
+    let early = (reentry_passed play.book name table seat free_in_book).buys.early in
     absurd cc
 late-refused play _ late free = refl
 

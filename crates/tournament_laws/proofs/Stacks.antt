@@ -21,9 +21,9 @@ use Rattle.table_engine.specs.Hands.{HandTerms}
 use Rattle.table_engine.specs.Results.{with_stack, stack_after_hand, players_after}
 use Rattle.tournament_events.specs.declared.event.Event.{Event}
 use Rattle.tournament_events.specs.declared.event.Event.TheVariants as events
-use Rattle.tournament_rules.specs.Books.{BookState, start_at, starters_of}
+use Rattle.tournament_rules.specs.Books.{BookState, number_in, start_at, starters_of}
 use Rattle.tournament_rules.specs.Dealing.{next_at, next_start}
-use Rattle.tournament_rules.specs.Effects.{newcomer, busted_by, settled}
+use Rattle.tournament_rules.specs.Effects.{newcomer, returner, busted_by, settled}
 use Rattle.tournament_rules.specs.Moving.{after_all, after_taking, is_called}
 use Rattle.tournament_rules.specs.Players.{is_among, is_dealt_in, is_one_of, start_seat, with_rest, dealt_in, dealt_seats, paid, put_back, stayed}
 use Rattle.tournament_rules.specs.Racing.{announced}
@@ -188,6 +188,22 @@ stack-entered number play name table seat valid none other =
     by_weight number play.book.seating.players
     (play_effect play (events.Enter name table seat)).book.seating.players valid.book.tables.lawful.apart
     (play_keeps play (events.Enter name table seat) valid none).book.tables.lawful.apart
+    (omega (arith, sum, his))
+
+-- A re-entry leaves the stacks of all but the player who re-enters.
+pub stack-reentered : (number : ℕ) (play : PlayState) (name : List ℕ) (table seat : ℕ) → IsValidPlay play
+    → refusal_of play (events.Reenter name table seat) ≡ None → number ≢ number_in play.book name
+    → stack_at_rest (play_effect play (events.Reenter name table seat)).book.seating.players number
+    ≡ stack_at_rest play.book.seating.players number
+stack-reentered number play name table seat valid none other =
+    let new = returner play.book name table seat in
+    let sum = sum_by-insert (weight number) play.book.seating.players
+    (count_by (λ other. comes_before other.place new.place) play.book.seating.players) new in
+    let differs = ne_eqb (number_in play.book name) number (λ same. other (sym same)) in
+    let his = ap (λ (b : Bool). cond {A = ℕ} b (1 + play.book.plan.stack) 0) differs in
+    by_weight number play.book.seating.players
+    (play_effect play (events.Reenter name table seat)).book.seating.players valid.book.tables.lawful.apart
+    (play_keeps play (events.Reenter name table seat) valid none).book.tables.lawful.apart
     (omega (arith, sum, his))
 
 -- Who is not dealt in counts what he did.

@@ -121,6 +121,11 @@ module _ (play : PlayState) (valid : IsValidPlay play) (over : is_over_for_all p
       (passed-parts play (events.Enter name table seat) none).0 (omega arith) refl in
       let closed = over in
       absurd cc
+  stays_so (events.Reenter name table seat) none =
+      let open_still = asked_at play.book (events.Reenter name table seat) 7
+      (passed-parts play (events.Reenter name table seat) none).0 (omega arith) refl in
+      let closed = over in
+      absurd cc
   stays_so (events.Begin table row) none =
       let two = (may_begin play.book table row (passed-parts play (events.Begin table row) none).0).two in
       let one = alone table in

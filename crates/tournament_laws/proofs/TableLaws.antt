@@ -14,24 +14,25 @@ use Rattle.button_blinds.specs.declared.marks.Marks.{Marks}
 use Rattle.seat_book.specs.declared.place.Place.{Place}
 use Rattle.seat_book.specs.declared.seated.Seated.{Seated}
 use Rattle.seat_book.specs.Places.{comes_before}
-use Rattle.seat_book.specs.Players.{sits_at, is_numbered, players_at, are_apart}
+use Rattle.seat_book.specs.Players.{sits_at, is_numbered, players_at, are_apart, sit_down}
 use Rattle.seat_book.specs.Counts.{count_at, is_open}
 use Rattle.seat_book.specs.Tables.{status_at}
 use Rattle.balance_rule.specs.Halting.{is_halted}
 use Rattle.table_engine.specs.declared.start.HandStart.{HandStart}
 use Rattle.table_engine.specs.declared.start.StartSeat.{StartSeat}
 use Rattle.tournament_events.specs.declared.answer.Answer.TheVariants.{Ok}
-use Rattle.tournament_events.specs.declared.event.Event.TheVariants.{Enter, Begin, Break}
+use Rattle.tournament_events.specs.declared.event.Event.{Event}
+use Rattle.tournament_events.specs.declared.event.Event.TheVariants.{Enter, Reenter, Begin, Break}
 use Rattle.tournament_rules.specs.Books.{BookState, has_table, start_at, starters_of}
 use Rattle.tournament_rules.specs.Players.{is_among, start_seat}
-use Rattle.tournament_rules.specs.Checks.{may_be_entered}
-use Rattle.tournament_rules.specs.Effects.{newcomer}
+use Rattle.tournament_rules.specs.Checks.{may_be_entered, is_not_fewest}
+use Rattle.tournament_rules.specs.Effects.{newcomer, returner}
 use Rattle.tournament_rules.specs.States.{State, PlayState, answer_to, is_accepted, state_after, players_of, play_effect}
 use Rattle.tournament_rules.specs.Valid.{IsValid, IsValidPlay, is_lent}
 use Rattle.tournament_rules.proofs.Remaining.{somebody_plays}
 use Rattle.tournament_rules.proofs.Members.{has_number, any_without}
 use Rattle.tournament_rules.proofs.Fitting.{table_range}
-use Rattle.tournament_rules.proofs.Passed.{passed-parts, entry_passed}
+use Rattle.tournament_rules.proofs.Passed.{passed-parts, entry_passed, reentry_passed}
 use Rattle.tournament_rules.proofs.Begins.{may_begin}
 use Rattle.tournament_rules.proofs.Breaks.{break_passed}
 use Rattle.tournament_rules.proofs.Left.{broken_left}
@@ -171,36 +172,63 @@ halted_waits state play table row is halted accepted =
     let both : true ≡ false = sym halted ∙ goes in
     cc
 
+-- A table with the fewest players has at most one more than any other that could be entered once a player sat down there.
+one_more : (book : BookState) (new : Seated) (table other : ℕ) → is_not_fewest book table ≡ false
+    → may_be_entered book other ≡ true
+    → count_at (sit_down new book.seating.players) table ≤ count_at (sit_down new book.seating.players) other + 1
+one_more book new table other fewest_is could =
+    let listed = and_parts (has_table book other) (book.begun == 0 || nat_lt 0 (count_at book.seating.players other))
+    could in
+    let range = table_range 1 book.plan.tables other listed.0 in
+    let fewest = no_table (λ other. may_be_entered book other
+    && nat_lt (count_at book.seating.players other) (count_at book.seating.players table)) book.plan.tables other
+    fewest_is (record { first = range.0; last = range.1 }) in
+    let few = ltb-false (count_at book.seating.players other) (count_at book.seating.players table)
+    (others_fail (may_be_entered book other) (nat_lt (count_at book.seating.players other)
+    (count_at book.seating.players table)) fewest could) in
+    let behind = count_by (λ other. comes_before other.place new.place) book.seating.players in
+    let here = sum_by-insert (λ player. cond {A = ℕ} (sits_at table player) 1 0) book.seating.players behind new in
+    let there = sum_by-insert (λ player. cond {A = ℕ} (sits_at other player) 1 0) book.seating.players behind new in
+    let one = at_most_one (sits_at table new) in
+    omega (arith, few, here, there, one)
+
+-- After an accepted event that has a player sit down at a table with the fewest, it has at most one player more than
+-- any other that could be entered.
+few_after : (state : State) (play : PlayState) (event : Event) (new : Seated) (table other : ℕ)
+    → state.play ≡ Some play → answer_to state event ≡ Ok
+    → (play_effect play event).book.seating.players ≡ sit_down new play.book.seating.players
+    → is_not_fewest play.book table ≡ false → may_be_entered play.book other ≡ true
+    → count_at (players_of (state_after state event)) table ≤ count_at (players_of (state_after state event)) other + 1
+few_after state play event new table other is accepted sits fewest could =
+    let taken = ap is_accepted accepted in
+    let next : (state_after state event).play ≡ Some (play_effect play event) = rw (taken, is) refl in
+    let after : players_of (state_after state event) ≡ sit_down new play.book.seating.players =
+    ap (λ (play : Option PlayState). option_map_or (λ play. play.book.seating.players) play []) next ∙ sits in
+    let now = ap (λ (players : List Seated). count_at players table) after in
+    let then = ap (λ (players : List Seated). count_at players other) after in
+    omega (arith, one_more play.book new table other fewest could, now, then)
+
 -- After an entry its table has at most one player more than any other that could be entered.
 pub entered_few : (state : State) (play : PlayState) (name : List ℕ) (table seat other : ℕ) → state.play ≡ Some play
     → answer_to state (Enter name table seat) ≡ Ok → may_be_entered play.book other ≡ true
     → count_at (players_of (state_after state (Enter name table seat))) table
     ≤ count_at (players_of (state_after state (Enter name table seat))) other + 1
 entered_few state play name table seat other is accepted could =
-    let book = play.book in
     let none = not_refused state play (Enter name table seat) is accepted in
-    let may = entry_passed book name table seat (passed-parts play (Enter name table seat) none).0 in
-    let listed = and_parts (has_table book other) (book.begun == 0 || nat_lt 0 (count_at book.seating.players other))
-    could in
-    let range = table_range 1 book.plan.tables other listed.0 in
-    let fewest = no_table (λ other. may_be_entered book other
-    && nat_lt (count_at book.seating.players other) (count_at book.seating.players table)) book.plan.tables other
-    may.fewest (record { first = range.0; last = range.1 }) in
-    let few = ltb-false (count_at book.seating.players other) (count_at book.seating.players table)
-    (others_fail (may_be_entered book other) (nat_lt (count_at book.seating.players other)
-    (count_at book.seating.players table)) fewest could) in
-    let new = newcomer book name table seat in
-    let behind = count_by (λ other. comes_before other.place new.place) book.seating.players in
-    let here = sum_by-insert (λ player. cond {A = ℕ} (sits_at table player) 1 0) book.seating.players behind new in
-    let there = sum_by-insert (λ player. cond {A = ℕ} (sits_at other player) 1 0) book.seating.players behind new in
-    let one = at_most_one (table == table) in
-    let taken = ap is_accepted accepted in
-    let next : (state_after state (Enter name table seat)).play ≡ Some (play_effect play (Enter name table seat)) = rw
-    (taken, is) refl in
-    let after = ap (λ (play : Option PlayState). option_map_or (λ play. play.book.seating.players) play []) next in
-    let now = ap (λ (players : List Seated). count_at players table) after in
-    let then = ap (λ (players : List Seated). count_at players other) after in
-    omega (arith, few, here, there, one, now, then)
+    let may = entry_passed play.book name table seat (passed-parts play (Enter name table seat) none).0 in
+    few_after state play (Enter name table seat) (newcomer play.book name table seat) table other is accepted refl
+    may.buys.fewest could
+
+-- So it has after a re-entry.
+pub reentered_few : (state : State) (play : PlayState) (name : List ℕ) (table seat other : ℕ) → state.play ≡ Some play
+    → answer_to state (Reenter name table seat) ≡ Ok → may_be_entered play.book other ≡ true
+    → count_at (players_of (state_after state (Reenter name table seat))) table
+    ≤ count_at (players_of (state_after state (Reenter name table seat))) other + 1
+reentered_few state play name table seat other is accepted could =
+    let none = not_refused state play (Reenter name table seat) is accepted in
+    let may = reentry_passed play.book name table seat (passed-parts play (Reenter name table seat) none).0 in
+    few_after state play (Reenter name table seat) (returner play.book name table seat) table other is accepted refl
+    may.buys.fewest could
 
 -- Nobody sits at a table that an accepted break broke.
 pub left_after : (state : State) (play : PlayState) (table : ℕ) (places : List Place) (names : List (List ℕ))

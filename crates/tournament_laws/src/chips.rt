@@ -7,14 +7,14 @@ ghost use Rattle.card_set.specs.declared.card.CardRow.{CardRow};
 ghost use Rattle.seat_book.specs.Tables.{status_at};
 ghost use Rattle.tournament_events.specs.declared.event.Event.{Event};
 ghost use Rattle.tournament_events.specs.declared.answer.Answer.TheVariants.{Ok};
-ghost use Rattle.tournament_events.specs.declared.event.Event.TheVariants.{Race, Enter, Begin, Settle};
+ghost use Rattle.tournament_events.specs.declared.event.Event.TheVariants.{Race, Enter, Reenter, Begin, Settle};
 ghost use Rattle.tournament_rules.specs.Players.{is_in_hand, is_among};
 ghost use Rattle.tournament_rules.specs.Checks.{is_over_for_all};
 ghost use Rattle.tournament_rules.specs.States.{State, first_state, answer_to, state_after, run, players_of};
 ghost use Rattle.tournament_rules.specs.Chips.{sold, removed, added, rest, play, sold_by, rest_in, rest_at};
 ghost use Rattle.tournament_rules.specs.Kinds.{is_entry, is_race};
 ghost use Rattle.tournament_rules.specs.Racing.{race_at};
-ghost use Rattle.tournament_rules.specs.Books.{start_at, starters_of};
+ghost use Rattle.tournament_rules.specs.Books.{number_in, start_at, starters_of};
 ghost use Rattle.tournament_rules.specs.Dealing.{next_start};
 ghost use Rattle.tournament_laws.specs.Stacks.{stack_at_rest, moves_chips};
 
@@ -26,8 +26,8 @@ pub fn chips_are_kept()
         ≡ sold (run first_state events) + added (run first_state events) }
 {}
 
-/// Says that chips are sold by an entry alone, and that races alone take chips away and give some: what is sold,
-/// removed or added is the same after every other event, and after each that is refused.
+/// Says that chips are sold by an entry or a re-entry alone, and that races alone take chips away and give some: what
+/// is sold, removed or added is the same after every other event, and after each that is refused.
 pub fn entries_and_races_alone_change_the_chips()
     ensures sold { (state : State) (event : Event) → is_entry event ≡ false
         → sold (state_after state event) ≡ sold state }
@@ -81,8 +81,9 @@ pub fn a_race_changes_the_chips_by_what_it_records()
 {}
 
 /// Says that after any list of events, moves, acts, rounds and levels leave the stack at rest of each player, that an
-/// entry leaves those of all who are in, a begin those of all who are not dealt in, and a settle those of all who are
-/// not in its hand. A player goes by his number; who is out or has not entered has no stack.
+/// entry leaves those of all who are in, a re-entry those of all but the player who re-enters, a begin those of all who
+/// are not dealt in, and a settle those of all who are not in its hand. A player goes by his number; who is out or has
+/// not entered has no stack.
 pub fn stacks_are_moved_by_their_own_events_alone()
     ensures others { (before : List Event) (event : Event) (number : ℕ) → moves_chips event ≡ false
         → stack_at_rest (players_of (state_after (run first_state before) event)) number
@@ -90,6 +91,10 @@ pub fn stacks_are_moved_by_their_own_events_alone()
     ensures entry { (before : List Event) (name : List ℕ) (table seat number : ℕ)
         → ForSome (run first_state before).play (λ play. number ≢ length play.book.entries)
         → stack_at_rest (players_of (state_after (run first_state before) (Enter name table seat))) number
+        ≡ stack_at_rest (players_of (run first_state before)) number }
+    ensures reentry { (before : List Event) (name : List ℕ) (table seat number : ℕ)
+        → ForSome (run first_state before).play (λ play. number ≢ number_in play.book name)
+        → stack_at_rest (players_of (state_after (run first_state before) (Reenter name table seat))) number
         ≡ stack_at_rest (players_of (run first_state before)) number }
     ensures begin { (before : List Event) (table number : ℕ) (row : CardRow)
         → ForSome (run first_state before).play (λ play.

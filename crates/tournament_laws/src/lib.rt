@@ -32,9 +32,10 @@ pub use places::{
     places_rise_without_entries, prizes_are_the_pool,
 };
 pub use players::{
-    a_group_is_of_one_round, a_later_entry_moves_each_place_by_one, each_entry_is_in_or_bust,
-    groups_never_fall, no_two_entered_under_one_name, once_over_it_stays_over,
-    players_are_in_order, who_is_bust_stays_bust, who_is_named_has_entered,
+    a_group_is_of_one_round, a_later_entry_moves_each_place_by_one,
+    a_reentry_takes_a_row_off_the_list, each_entry_is_in_or_bust, groups_never_fall,
+    no_two_entered_under_one_name, once_over_it_stays_over, players_are_in_order,
+    who_is_bust_stays_bust_until_he_reenters, who_is_named_has_entered,
 };
 pub use runs::{
     a_book_and_its_hands_answer_alike, neighbors_may_change_places, nothing_follows_a_stop,

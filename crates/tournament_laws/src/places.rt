@@ -17,19 +17,19 @@ ghost use Rattle.tournament_rules.specs.Report.{winner, book_report, report_of};
 ghost use Rattle.tournament_rules.specs.Kinds.{is_entry};
 ghost use Rattle.tournament_laws.specs.Accepted.{is_any_accepted};
 
-/// Says that after any list of events, the prizes that are reported sum to the pool, a buy-in for each entry, where the
-/// tournament is over, and before to no more than that.
+/// Says that after any list of events, the prizes that are reported sum to the pool, a buy-in for each entry and each
+/// re-entry, where the tournament is over, and before to no more than that.
 pub fn prizes_are_the_pool()
     ensures over { (events : List Event) → ForSome (run first_state events).play (λ play.
         is_over_for_all play.book ≡ true → sum_by (λ out. out.prize) (book_report play.book).outs
-        ≡ pool_of (length play.book.entries) play.book.plan.buyin) }
+        ≡ pool_of (length play.book.entries) play.book.reentries play.book.plan.buyin) }
     ensures before { (events : List Event) → ForSome (run first_state events).play (λ play.
         is_over_for_all play.book ≡ false → sum_by (λ out. out.prize) (book_report play.book).outs
-        ≤ pool_of (length play.book.entries) play.book.plan.buyin) }
+        ≤ pool_of (length play.book.entries) play.book.reentries play.book.plan.buyin) }
 {}
 
-/// Says that while nobody enters, the place of a player who is out only rises or stays, and that it is final once his
-/// group is past. Nobody enters any more once the level is above the last one for entries.
+/// Says that while nobody enters or re-enters, the place of a player who is out only rises or stays, and that it is
+/// final once his group is past. Nobody enters or re-enters any more once the level is above the last one for entries.
 pub fn places_rise_without_entries()
     ensures rises { (before between : List Event) (bust : Bust) → ForSome (run first_state before).play (λ earlier.
         Contains earlier.book.busts bust → is_any_accepted is_entry (run first_state before) between ≡ false

@@ -11,7 +11,7 @@ ghost use Rattle.balance_rule.specs.declared.balance.Move.{Move};
 ghost use Rattle.balance_rule.specs.Halting.{is_halted};
 ghost use Rattle.balance_rule.specs.Moves.{Balance as ByBalance, Break as ByBreak, IsLawfulMove};
 ghost use Rattle.tournament_events.specs.declared.event.Event.{Event};
-ghost use Rattle.tournament_events.specs.declared.event.Event.TheVariants.{Enter, Begin, Balance, Break, Hands};
+ghost use Rattle.tournament_events.specs.declared.event.Event.TheVariants.{Enter, Reenter, Begin, Balance, Break, Hands};
 ghost use Rattle.tournament_events.specs.declared.answer.Answer.TheVariants.{Ok};
 ghost use Rattle.tournament_rules.specs.Books.{start_at};
 ghost use Rattle.tournament_rules.specs.Checks.{may_be_entered, is_playing};
@@ -19,14 +19,19 @@ ghost use Rattle.tournament_rules.specs.States.{first_state, answer_to, state_af
 ghost use Rattle.tournament_rules.specs.Kinds.{ends_round};
 ghost use Rattle.tournament_laws.specs.Accepted.{is_any_accepted};
 
-/// Says that after any list of events and an entry that is accepted, its table has at most one player more than any
-/// other that could be entered.
+/// Says that after any list of events and an entry or a re-entry that is accepted, its table has at most one player
+/// more than any other that could be entered.
 pub fn entries_go_to_the_fewest()
-    ensures { (events : List Event) (name : List ℕ) (table seat other : ℕ)
+    ensures entry { (events : List Event) (name : List ℕ) (table seat other : ℕ)
         → ForSome (run first_state events).play (λ play.
         answer_to (run first_state events) (Enter name table seat) ≡ Ok → may_be_entered play.book other ≡ true
         → count_at (players_of (state_after (run first_state events) (Enter name table seat))) table
         ≤ count_at (players_of (state_after (run first_state events) (Enter name table seat))) other + 1) }
+    ensures reentry { (events : List Event) (name : List ℕ) (table seat other : ℕ)
+        → ForSome (run first_state events).play (λ play.
+        answer_to (run first_state events) (Reenter name table seat) ≡ Ok → may_be_entered play.book other ≡ true
+        → count_at (players_of (state_after (run first_state events) (Reenter name table seat))) table
+        ≤ count_at (players_of (state_after (run first_state events) (Reenter name table seat))) other + 1) }
 {}
 
 /// Says that after any list of events, each balance and each break that is accepted is a lawful move where it stands.

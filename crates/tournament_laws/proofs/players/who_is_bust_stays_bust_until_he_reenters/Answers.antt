@@ -2,8 +2,8 @@ use Rattle.std.proofs.Common.{get_or}
 use Rattle.tournament_rules.specs.States.{first_state, run}
 use Rattle.tournament_rules.proofs.Steps.{valid_events}
 use Rattle.tournament_laws.proofs.WhoIsBust.{no_seat, in_no_hand, not_dealt, act_not_accepted}
-use Rattle.tournament_laws.proofs.Growing.{run_extends, head_stays}
-use Rattle.tournament_laws.proofs.players.who_is_bust_stays_bust.Goals as goal
+use Rattle.tournament_laws.proofs.Growing.{run_extends, head_stays, stays_out}
+use Rattle.tournament_laws.proofs.players.who_is_bust_stays_bust_until_he_reenters.Goals as goal
 
 pub returns-clause-seat : goal.returns-clause-seat
 returns-clause-seat c = λ events play is. no_seat play.book ((valid_events events).play play is).book
@@ -25,6 +25,10 @@ returns-clause-act c = λ events table act play is k d within name named.
     (no_seat play.book valid.book k d within)
 
 pub returns-clause-stays : goal.returns-clause-stays
-returns-clause-stays c = λ before after earlier is later then.
+returns-clause-stays c = λ before after bust name earlier is row named none later then.
+    stays_out (run first_state before) after earlier later bust name is then row named none
+
+pub returns-clause-grows : goal.returns-clause-grows
+returns-clause-grows c = λ before after earlier is none later then.
     head_stays earlier.book.busts later.book.busts
-    (run_extends (run first_state before) after earlier later is then)
+    (run_extends (run first_state before) after earlier later is then none)
