@@ -120,9 +120,9 @@ voided_state book table start is = rw is refl
 
 -- What is listed for a start makes the start of the definition.
 pub start_state : (book : BookState) (table : ℕ) (deck : List Card) (next : NextMarks) (seats : List StartSeat)
-    (seat_count begun : ℕ) (blind : Blind) (game : Game) → next ≡ next_at book table
+    (seat_count begun : ℕ) (blind : Blind) (cap : ℕ) (game : Game) → next ≡ next_at book table
     → seats ≡ dealt_seats table next.waiting book.seating.players → seat_count ≡ book.plan.seats → begun ≡ book.begun
-    → blind ≡ blind_now book → game ≡ book.plan.game
+    → blind ≡ blind_now book → cap ≡ book.plan.cap → game ≡ book.plan.game
     → (let start : HandStart = record {
       table = table;
       serial = begun + 1;
@@ -130,13 +130,14 @@ pub start_state : (book : BookState) (table : ℕ) (deck : List Card) (next : Ne
       seat_count = seat_count;
       marks = next.marks;
       blind = blind;
+      cap = cap;
       game = game;
       deck = deck;
     }
     in start)
     ≡ next_start book table deck
-start_state book table deck next seats seat_count begun blind game next_is seats_is count_is begun_is blind_is
-    game_is = rw (seats_is, next_is, count_is, begun_is, blind_is, game_is) refl
+start_state book table deck next seats seat_count begun blind cap game next_is seats_is count_is begun_is blind_is
+    cap_is game_is = rw (seats_is, next_is, count_is, begun_is, blind_is, cap_is, game_is) refl
 
 -- A start that is taken out of its slot was out at its table.
 pub taken_out : (started : List (Option HandStart)) (index table : ℕ) (slot taken : Option HandStart) (start : HandStart)

@@ -1,5 +1,5 @@
 -- Players who are broke go out one after another.
-use Rattle.std.proofs.Common.{◌≡◌, ◌∙◌, refl, sym, ap, ◌<◌, ◌≤◌, ℕ, ◌+◌, Bool, true, false, cond, ◌==◌, List, [], ◌∷◌, ◌++◌, length, take, get_or, map, append_assoc}
+use Rattle.std.proofs.Common.{◌≡◌, ◌∙◌, refl, sym, ap, ◌<◌, ◌≤◌, ℕ, ◌+◌, Bool, true, false, cond, ◌==◌, List, [], ◌∷◌, ◌++◌, length, take, get_or, map, arith, append_assoc}
 use Rattle.std.specs.Prelude.{count_by, filter, Some}
 use Rattle.std.specs.List.{list_any}
 use Rattle.std.proofs.lemmas.Bool.{eq-eqb}
@@ -34,7 +34,7 @@ may_all book table start payees valid is =
     let players = book.seating.players in
     record {
       entries = book.entries;
-      few = valid.entries.few;
+      few = let few = valid.entries.few in omega (arith, few);
       once = λ number. ap (λ (seats : ℕ). seats + count_by (is_bust_of number) book.busts)
           (count_changed (is_numbered number) (paid payees) (record { same = λ player stack. refl })
           (paid-stacks payees) players) ∙ valid.entries.once number;

@@ -1,16 +1,15 @@
 -- Checks that are joined, and errors that are handed on.
-use Rattle.std.proofs.Common.{◌≡◌, ◌∙◌, refl, sym, ap, subst, ℕ, Bool, true, false, List, ◌++◌}
+use Rattle.std.proofs.Common.{◌≡◌, ◌∙◌, refl, sym, ap, subst, ℕ, Bool, true, false, List}
 use Rattle.std.specs.Prelude.{Option, Some, None, Result, Ok, Err}
 use Rattle.std.specs.Result.{IsErr, IsErrAnd, IfErr, OnOk}
 use Rattle.rulebook.specs.Checks.{first_that_holds, IsChecked}
-use Rattle.rulebook.proofs.Checks.{first_that_holds-later, first_that_holds-sooner}
 use Rattle.floor_text.specs.declared.refusal.Refusal.{Refusal}
 use Rattle.table_engine.specs.declared.record.ActFault.{ActFault}
 use Rattle.table_engine.specs.declared.record.ActFault.TheVariants.{No, NoMemory}
 use Rattle.table_engine.specs.Acts.{IsAnswer}
-use Rattle.tournament_events.specs.declared.event.Event.TheVariants.{Enter, Stop}
+use Rattle.tournament_events.specs.declared.event.Event.TheVariants.{Enter, Reenter, Stop}
 use Rattle.tournament_rules.specs.Books.{BookState}
-use Rattle.tournament_rules.specs.Checks.{going_checks, newcomer_checks, seat_checks, entry_checks, room_checks, enter_checks, book_refusal}
+use Rattle.tournament_rules.specs.Checks.{going_checks, enter_checks, reenter_checks, book_refusal}
 
 -- An error that is handed on is that of the checks.
 pub checked_on : {A T : Type 0} (checks : List (A × Bool)) (found : A) (result : Result T A)
@@ -58,33 +57,17 @@ answered_on U refusal fault (Err (No found)) answer error same = let P : ActFaul
 answered_on U refusal fault (Err NoMemory) answer error same = let P : ActFault
     → Type 0 = λ fault. IsAnswer {T = U} refusal (Err fault) in subst P (sym same) answer
 
--- The seat's check is the first of an entry's that holds.
-pub seat_sooner : (book : BookState) (name : List ℕ) (table seat : ℕ) (found : Refusal)
-    → first_that_holds (going_checks book) ≡ None → first_that_holds (newcomer_checks book name) ≡ None
-    → first_that_holds (seat_checks book table seat) ≡ Some found
-    → first_that_holds (enter_checks book name table seat) ≡ Some found
-seat_sooner book name table seat found going newcomer seated =
-    let two = going_checks book ++ newcomer_checks book name in
-    let free : first_that_holds two ≡ None =
-    first_that_holds-later (going_checks book) (newcomer_checks book name) going ∙ newcomer in
-    first_that_holds-sooner (two ++ seat_checks book table seat) (entry_checks book) found
-    (first_that_holds-later two (seat_checks book table seat) free ∙ seated)
-
--- A check of an entry before that of the list's room is the book's refusal.
-pub entry_sooner : (book : BookState) (name : List ℕ) (table seat : ℕ) (found : Refusal)
-    → first_that_holds (enter_checks book name table seat) ≡ Some found → book_refusal book (Enter name table seat)
-    ≡ Some found
+-- The refusal of an entry is that of its checks.
+pub entry_refusal : (book : BookState) (name : List ℕ) (table seat : ℕ)
+    → book_refusal book (Enter name table seat) ≡ first_that_holds (enter_checks book name table seat)
 unfolding book_refusal
-entry_sooner book name table seat found holds =
-    first_that_holds-sooner (enter_checks book name table seat) (room_checks book.entries) found holds
+entry_refusal book name table seat = refl
 
--- Where none of these holds, the book's refusal is that of the list's room.
-pub entry_later : (book : BookState) (name : List ℕ) (table seat : ℕ)
-    → first_that_holds (enter_checks book name table seat) ≡ None → book_refusal book (Enter name table seat)
-    ≡ first_that_holds (room_checks book.entries)
+-- The refusal of a re-entry is that of its checks.
+pub reentry_refusal : (book : BookState) (name : List ℕ) (table seat : ℕ)
+    → book_refusal book (Reenter name table seat) ≡ first_that_holds (reenter_checks book name table seat)
 unfolding book_refusal
-entry_later book name table seat none =
-    first_that_holds-later (enter_checks book name table seat) (room_checks book.entries) none
+reentry_refusal book name table seat = refl
 
 -- Want of memory that is handed on is no refusal.
 pub answered_memory : {T : Type 0} (refusal : Option Refusal) (result : Result T ActFault) → refusal ≡ None

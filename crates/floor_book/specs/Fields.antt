@@ -7,6 +7,7 @@ abbrev pub book_of : Inside → BookState
 book_of fields = record {
   plan = fields.plan;
   entries = fields.entries;
+  reentries = fields.reentries;
   seating = fields.seats;
   started = fields.started.items;
   busts = fields.busts;

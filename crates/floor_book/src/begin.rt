@@ -184,6 +184,13 @@ impl Book {
         self.plan.game
     }
 
+    /// Gives the most wagers of a street by fixed limit.
+    fn cap(&self) -> u64
+        ensures { result ≡ self.now.plan.cap }
+    {
+        self.plan.cap
+    }
+
     /// Makes the start of the next hand at a table.
     fn next_start(&self, table: u8, next: &NextMarks, deck: Deck) -> Result<HandStart, AllocError>
         requires few { self.now.accepted < 2 ^ 60 }
@@ -199,6 +206,7 @@ impl Book {
             seat_count: self.seats.seat_count(),
             marks: next.marks,
             blind: self.blind_now(),
+            cap: self.cap(),
             game: self.game(),
             deck,
         })

@@ -22,6 +22,8 @@ pub struct Book {
     pub(crate) alloc: Global,
     pub(crate) plan: Plan,
     pub(crate) entries: EntryList,
+    /// How often a player who was out entered again.
+    pub(crate) reentries: u32,
     pub(crate) seats: SeatBook,
     /// By table number, the start of the hand that is out. There is no table 0, so its slot stays empty.
     pub(crate) started: Vec<Option<HandStart>>,
@@ -88,6 +90,7 @@ impl Book {
             alloc,
             plan,
             entries: EntryList::new(alloc),
+            reentries: 0,
             seats,
             started,
             busts,
@@ -121,6 +124,13 @@ impl Book {
         ensures { result ≡ length self.now.entries }
     {
         self.entries.len()
+    }
+
+    /// Counts how often a player who was out entered again.
+    pub fn reentered(&self) -> u32
+        ensures { result ≡ self.now.reentries }
+    {
+        self.reentries
     }
 
     /// Counts the hands that have begun.

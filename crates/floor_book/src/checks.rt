@@ -6,7 +6,7 @@ ghost use Rattle.seat_book.specs.Places.{IsTableOf, IsPlaceOf};
 ghost use Rattle.seat_book.specs.Counts.{count_at};
 ghost use Rattle.balance_rule.specs.Halting.{is_halted};
 ghost use Rattle.tournament_rules.specs.Books.{has_table, has_seat_number};
-ghost use Rattle.tournament_rules.specs.Checks.{is_table_open, may_be_entered, is_taken, is_not_fewest, going_checks, newcomer_checks, seat_checks, over_checks, entry_checks, room_checks, open_table_checks, not_playing_checks, no_race_checks, enough_checks, table_checks, deck_checks, due_checks, known_checks, playing_checks, leaving_checks, round_checks, both_open_checks, draw_checks};
+ghost use Rattle.tournament_rules.specs.Checks.{is_table_open, may_be_entered, is_taken, is_not_fewest, going_checks, newcomer_checks, seat_checks, over_checks, entry_checks, room_checks, buy_checks, open_table_checks, not_playing_checks, no_race_checks, enough_checks, table_checks, deck_checks, due_checks, known_checks, playing_checks, leaving_checks, round_checks, both_open_checks, draw_checks};
 ghost use Rattle.floor_book.specs.Tables.{IsPlayedAt, AreOpen};
 
 use crate::book::Book;
@@ -185,14 +185,28 @@ impl Book {
         self.check_not_over()
     }
 
-    /// Checks that there is room in the entry list.
-    pub(crate) fn check_room(&self) -> Result<(), Refusal>
-        ensures { IsChecked (room_checks self.now.entries) result }
+    /// Checks that there is room for one entry or re-entry more.
+    fn check_room(&self) -> Result<(), Refusal>
+        ensures { IsChecked (room_checks self.now) result }
     {
-        if self.entries.len() as usize >= MOST_ENTRIES {
+        if (self.entries.len() + self.reentries) as usize >= MOST_ENTRIES {
             return Err(Refusal::ListFull);
         }
         Ok(())
+    }
+
+    /// Checks that a player may buy a stack and sit down with it at that table, in that seat, and gives the place.
+    #[inline(always)]
+    pub(crate) fn check_buy(&self, table: u64, seat: u64) -> Result<Place, Refusal>
+        ensures checked { IsChecked (buy_checks self.now table seat) result }
+        ensures same { IfOk result (λ place. place ≡ record { table = table; seat = seat }) }
+        ensures within { IfOk result (IsPlaceOf self.now.seating.table_count self.now.seating.seat_count) }
+        ensures free { IfOk result (λ place. is_taken self.now place.table place.seat ≡ false) }
+    {
+        let place = self.check_seat(table, seat)?;
+        self.check_entries()?;
+        self.check_room()?;
+        Ok(place)
     }
 
     /// Makes a table's number of a number of a line, where such a table is open.

@@ -1,40 +1,41 @@
 //! A player enters.
 
-ghost use Rattle.std.specs.Prelude.{◌≡◌, ◌<◌, ◌^◌, ◌++◌, ◌∷◌, [], false, length, IfOk, OnOk, OnErr};
+ghost use Rattle.std.specs.Prelude.{◌≡◌, ◌<◌, ◌^◌, ◌++◌, ◌∷◌, [], false, length, IfOk, IfErr, OnOk, OnErr};
 ghost use Rattle.rulebook.specs.Limits.{most_entries};
-ghost use Rattle.rulebook.specs.Checks.{IsChecked, first_that_holds};
+ghost use Rattle.rulebook.specs.Checks.{IsChecked};
 ghost use Rattle.entry_list.specs.Entries.{is_known};
 ghost use Rattle.seat_book.specs.Places.{IsPlaceOf};
 ghost use Rattle.table_engine.specs.Acts.{IsAnswer};
+ghost use Rattle.table_engine.specs.declared.record.ActFault.TheVariants.{NoMemory};
 ghost use Rattle.tournament_events.specs.declared.event.Event.TheVariants as events;
-ghost use Rattle.tournament_rules.specs.Checks.{is_taken, room_checks, enter_checks, book_refusal};
+ghost use Rattle.tournament_rules.specs.Checks.{is_taken, enter_checks, book_refusal};
 ghost use Rattle.tournament_rules.specs.Effects.{entered};
 
 use crate::BookFault;
 use crate::book::Book;
-use entry_list::{EntryFault, EntryList};
+use entry_list::EntryList;
 use floor_text::{Name, Refusal};
 use seat_book::Place;
 
-/// Adds the name of a newcomer to the list, where there is room, and gives his number.
+/// Adds the name of a newcomer to the list, where there is room, and gives his number. Want of memory is the only
+/// error.
 fn enlist(entries: &mut EntryList, name: Name) -> Result<u32, BookFault>
-    requires { is_known entries.old name ≡ false }
-    ensures answer { IsAnswer (first_that_holds (room_checks entries.old)) result }
+    requires new { is_known entries.old name ≡ false }
+    requires room { length entries.old < most_entries }
     ensures number { IfOk result (λ player. player ≡ length entries.old) }
     ensures entry { IfOk result (λ player. player < most_entries) }
     ensures state { OnOk result (entries.new ≡ entries.old ++ name ∷ []) }
+    ensures fault { IfErr result (λ fault. fault ≡ NoMemory) }
     ensures err { OnErr result (entries.new ≡ entries.old) }
 {
     match entries.add(name) {
         Ok(player) => Ok(player),
-        Err(EntryFault::Known) => Err(BookFault::No(Refusal::NameKnown)),
-        Err(EntryFault::Full) => Err(BookFault::No(Refusal::ListFull)),
-        Err(EntryFault::NoMemory) => Err(BookFault::NoMemory),
+        Err(_) => Err(BookFault::NoMemory),
     }
 }
 
 impl Book {
-    /// Makes the checks of an entry but for the list's room, and gives the place where the player sits down.
+    /// Makes the checks of an entry, and gives the place where the player sits down.
     pub(crate) fn check_enter(&self, name: Name, table: u64, seat: u64) -> Result<Place, Refusal>
         ensures checked { IsChecked (enter_checks self.now name table seat) result }
         ensures same { IfOk result (λ place. place ≡ record { table = table; seat = seat }) }
@@ -43,13 +44,11 @@ impl Book {
     {
         self.check_going()?;
         self.check_newcomer(name)?;
-        let place = self.check_seat(table, seat)?;
-        self.check_entries()?;
-        Ok(place)
+        self.check_buy(table, seat)
     }
 
     /// Gives the stack that a player starts with, in chips.
-    fn starting_stack(&self) -> u64
+    pub(crate) fn starting_stack(&self) -> u64
         ensures { result ≡ self.now.plan.stack }
     {
         self.plan.stack

@@ -18,6 +18,7 @@ mod moving;
 mod order;
 mod pay;
 mod race;
+mod reenter;
 mod report;
 mod rounds;
 mod settle;

@@ -25,7 +25,11 @@ impl Book {
         match event {
             Event::Enter { name, table, seat } => {
                 self.check_enter(*name, *table, *seat)?;
-                self.check_room()
+                Ok(())
+            }
+            Event::Reenter { name, table, seat } => {
+                self.check_reenter(*name, *table, *seat)?;
+                Ok(())
             }
             Event::Balance { from, to } => {
                 self.check_balance(*from, *to)?;
@@ -60,6 +64,7 @@ impl Book {
     {
         match event {
             Event::Enter { name, table, seat } => self.enter(*name, *table, *seat),
+            Event::Reenter { name, table, seat } => self.reenter(*name, *table, *seat),
             Event::Balance { from, to } => self.balance(*from, *to),
             Event::Break {
                 table,
@@ -75,9 +80,9 @@ impl Book {
         }
     }
 
-    /// Takes an order, which is `enter`, `balance`, `break`, `level`, `race`, `hands`, `round` or `stop`, answers it by
-    /// the first check that holds, and carries it out where none does. A refused order and want of memory change
-    /// nothing, and memory is wanted only for an order that meets no check.
+    /// Takes an order, which is `enter`, `reenter`, `balance`, `break`, `level`, `race`, `hands`, `round` or `stop`,
+    /// answers it by the first check that holds, and carries it out where none does. A refused order and want of memory
+    /// change nothing, and memory is wanted only for an order that meets no check.
     pub fn order(&mut self, event: &Event) -> Result<Answer, AllocError>
         requires few { self.old.accepted < 2 ^ 60 }
         requires order { is_order event.now ≡ true }

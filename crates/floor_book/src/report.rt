@@ -178,6 +178,7 @@ impl Book {
         self.busts.standings(
             self.alloc,
             self.entries.len(),
+            self.reentries,
             self.winner(),
             self.plan.buyin,
             self.plan.shares.items(),
@@ -197,7 +198,7 @@ impl Book {
     {
         Ok(Report {
             level: self.level,
-            sold: u64::from(self.entries.len()) * self.plan.stack,
+            sold: u64::from(self.entries.len() + self.reentries) * self.plan.stack,
             removed: self.removed,
             added: self.added,
             rest: self.chips_at_rest(),

@@ -20,5 +20,5 @@ returns c =
     (λ (book : BookState). book.plan.seats) c.self.view_is) in
     let begun = ap (λ (book : BookState). book.begun) c.self.view_is in
     start_state c.args.self.now c.args.table c.args.deck c.args.next.now c.in_ok-seats.seats c.seat_count.result
-    c.self.inside.begun c.blind_now.result c.game.result c.requires.next seats count begun
-    c.blind_now.ensures c.game.ensures
+    c.self.inside.begun c.blind_now.result c.cap.result c.game.result c.requires.next seats count begun
+    c.blind_now.ensures c.cap.ensures c.game.ensures
