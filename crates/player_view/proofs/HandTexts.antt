@@ -1,7 +1,7 @@
 -- The text of the lines of a hand.
 use Rattle.std.proofs.Common.{◌≡◌, ◌∙◌, ℕ, zero, suc, ◌≤◌, ◌<◌, Bool, true, false, List, [], ◌∷◌, ◌++◌, length, map, drop, Some, refl, ap, sym, inl, inr, append_assoc, append-nil, arith}
 use Rattle.std.specs.Option.{option_map_or}
-use Rattle.std.specs.Prelude.{Option, ◌&&◌, codes, filter, nat_le, nat_lt}
+use Rattle.std.specs.Prelude.{Option, ◌==◌, ◌&&◌, codes, filter, nat_le, nat_lt}
 use Rattle.std.specs.Fmt.{decimal}
 use Rattle.std.specs.List.{flat_map}
 use Rattle.std.proofs.lemmas.Bool.{cases_Bool, lt-ltb}
@@ -17,7 +17,7 @@ use Rattle.table_engine.specs.declared.start.HandStart.{HandStart}
 use Rattle.table_engine.specs.declared.start.StartSeat.{StartSeat}
 use Rattle.table_engine.specs.Acts.{done_of_act}
 use Rattle.table_engine.specs.Awards.{award_in, awards_in_hand}
-use Rattle.table_engine.specs.Hands.{HandTerms, is_live, is_over, player_of, posted, seat_of_name, streets_of}
+use Rattle.table_engine.specs.Hands.{HandTerms, ante_posted, is_live, is_over, player_of, posted, seat_of_name, streets_of}
 use Rattle.table_engine.specs.Plays.{IsLawfulPlay}
 use Rattle.table_engine.specs.Results.{award}
 use Rattle.table_engine.specs.Starts.{IsLawfulStart}
@@ -26,7 +26,7 @@ use Rattle.table_engine.proofs.NoCards.{done-deck}
 use Rattle.view_rules.specs.Shown.{BoardStreet, Viewer, Flop, Turn, River, hole_places, is_shown_down, open_streets, street_places, own_places, players_clockwise, tabled_players}
 use Rattle.view_rules.specs.Seen.{cards_at, opened, seen_hand, tabled, undealt, winners_of, won_by}
 use Rattle.view_rules.specs.Spelling.{ActLine, HandLine, street_word, SeatLine, ShowLine, StreetLine, WinLine, Table, line_text}
-use Rattle.view_rules.specs.Lines.{act_lines, following_lines, hole_lines, opening_lines, post_lines}
+use Rattle.view_rules.specs.Lines.{act_lines, ante_lines, following_lines, hole_lines, opening_lines, post_lines}
 use Rattle.player_view.specs.Each.{shown_lines, street_lines, table_text, win_lines}
 use Rattle.player_view.specs.OpenBy.{open_by, opened_since}
 use Rattle.player_view.proofs.Cards.{hole-line}
@@ -210,13 +210,26 @@ text-act table left_before who before after act name done lawful play left comes
     λ i. line_text (Table table (ActLine (sym called i) (came i)))
     ++ table_text table (following_lines (count i) (seen_hand who after))
 
--- The text of the line of a blind that is posted.
-pub text-post : (table : ℕ) (start : HandStart) (seat : ℕ) (player : StartSeat) → player_of start seat ≡ Some player
+-- Where no ante is posted there is no line of it.
+pub text-no_ante : (table : ℕ) (start : HandStart) (player : StartSeat) → ante_posted start player ≡ 0
+    → [] ≡ table_text table (ante_lines start player)
+text-no_ante table start player none = rw none refl
+
+-- The text of the line of an ante that is posted.
+pub text-ante : (table : ℕ) (start : HandStart) (player : StartSeat) → (ante_posted start player == 0) ≡ false
     → decimal table ++ (codes ": " ++ line_of_words
-    (codes "post" ∷ player.name ∷ decimal (posted start player) ∷ []))
+    (codes "ante" ∷ player.name ∷ decimal (ante_posted start player) ∷ []))
+    ≡ table_text table (ante_lines start player)
+unfolding line_text
+text-ante table start player some = rw some (sym (append-nil _))
+
+-- The text of the lines of what is posted from a mark's seat.
+pub text-post : (table : ℕ) (start : HandStart) (seat : ℕ) (player : StartSeat) → player_of start seat ≡ Some player
+    → (decimal table ++ (codes ": " ++ line_of_words
+    (codes "post" ∷ player.name ∷ decimal (posted start player) ∷ []))) ++ table_text table (ante_lines start player)
     ≡ table_text table (post_lines start seat)
 unfolding line_text
-text-post table start seat player found = rw found (sym (append-nil _))
+text-post table start seat player found = rw found refl
 
 -- The text of the line of a player's own hole cards.
 pub text-own : (table : ℕ) (who : Viewer) (start : HandStart) (name : List ℕ) (seat : ℕ) → who ≡ Some name

@@ -8,7 +8,7 @@ ghost use Rattle.table_engine.specs.Starts.{IsLawfulStart};
 ghost use Rattle.view_rules.specs.Shown.{own_places};
 ghost use Rattle.view_rules.specs.Seen.{cards_at, seen_hand};
 ghost use Rattle.view_rules.specs.Spelling.{HandLine, SeatLine, Table, line_text};
-ghost use Rattle.view_rules.specs.Lines.{hole_lines, opening_lines, post_lines};
+ghost use Rattle.view_rules.specs.Lines.{ante_lines, hole_lines, opening_lines, post_lines};
 ghost use Rattle.player_view.specs.Each.{table_text};
 
 use crate::following::push_following;
@@ -84,27 +84,55 @@ fn find_player(start: &HandStart, seat: u8) -> Option<StartSeat>
         .find(|player| player.seat == seat)
 }
 
-/// Writes the line of the blind that is posted from a mark's seat, where a player is dealt in there.
+/// Writes the line of the ante that a player posts, where he posts one.
+#[tactic(auto, unfolding(view_rules::specs::Spelling::line_text))]
+fn push_ante(
+    table: u8,
+    start: &HandStart,
+    player: &StartSeat,
+    out: &mut Vec<u8>,
+) -> Result<(), AllocError>
+    ensures ok { OnOk result (out.new.items
+        ≡ out.old.items ++ table_text table (ante_lines start.now player.now)) }
+    ensures kept { Extends out.old.items out.new.items }
+{
+    let ante = start.ante_posted(player);
+    if ante == 0 {
+        return Ok(());
+    }
+    push_table_line(
+        table,
+        &[
+            Word::Text(b"ante"),
+            Word::Text(player.name.bytes()),
+            Word::Number(ante),
+        ],
+        out,
+    )
+}
+
+/// Writes the lines of what is posted from a mark's seat, where a player is dealt in there: his blind, and his ante.
 #[tactic(auto, unfolding(view_rules::specs::Spelling::line_text))]
 fn push_post(table: u8, start: &HandStart, seat: u8, out: &mut Vec<u8>) -> Result<(), AllocError>
     ensures ok { OnOk result (out.new.items ≡ out.old.items ++ table_text table (post_lines start.now seat)) }
     ensures kept { Extends out.old.items out.new.items }
 {
-    match find_player(start, seat) {
-        Some(player) => push_table_line(
-            table,
-            &[
-                Word::Text(b"post"),
-                Word::Text(player.name.bytes()),
-                Word::Number(start.posted(&player)),
-            ],
-            out,
-        ),
-        None => Ok(()),
-    }
+    let Some(player) = find_player(start, seat) else {
+        return Ok(());
+    };
+    push_table_line(
+        table,
+        &[
+            Word::Text(b"post"),
+            Word::Text(player.name.bytes()),
+            Word::Number(start.posted(&player)),
+        ],
+        out,
+    )?;
+    push_ante(table, start, &player, out)
 }
 
-/// Writes the lines of the blinds that are posted.
+/// Writes the lines of what is posted.
 fn push_posts(table: u8, start: &HandStart, out: &mut Vec<u8>) -> Result<(), AllocError>
     ensures ok { OnOk result (out.new.items ≡ out.old.items
         ++ (table_text table (post_lines start.now start.now.marks.small)
@@ -146,8 +174,8 @@ fn push_own(
     }
 }
 
-/// Writes the lines of a hand that begins: its number and its marks, its players, the blinds that are posted, the own
-/// hole cards of whoever is told, and what follows. Where memory runs out, `out` has something behind what it had.
+/// Writes the lines of a hand that begins: its number and its marks, its players, what is posted, the own hole cards
+/// of whoever is told, and what follows. Where memory runs out, `out` has something behind what it had.
 pub fn push_opening(
     table: u8,
     who: Option<Name>,

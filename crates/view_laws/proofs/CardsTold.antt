@@ -1,6 +1,6 @@
 -- The cards that lines tell are shown.
-use Rattle.std.proofs.Common.{◌≡◌, subst, ℕ, zero, suc, Bool, true, false, List, [], ◌∷◌, ◌++◌, length, map}
-use Rattle.std.specs.Prelude.{drop, filter, Option, Some, None, option_map, All, Contains, if◌then◌else◌}
+use Rattle.std.proofs.Common.{◌≡◌, subst, ℕ, zero, suc, Bool, true, false, cond, List, [], ◌∷◌, ◌++◌, length, map}
+use Rattle.std.specs.Prelude.{◌==◌, drop, filter, Option, Some, None, option_map, All, Contains, if◌then◌else◌}
 use Rattle.std.specs.List.{flat_map, AllByRecursion}
 use Rattle.std.specs.Option.{option_map_or}
 use Rattle.std.proofs.lemmas.Bool.{eqb-true}
@@ -10,7 +10,7 @@ use Rattle.table_engine.specs.declared.start.HandStart.{HandStart}
 use Rattle.table_engine.specs.declared.start.StartSeat.{StartSeat}
 use Rattle.table_engine.specs.declared.record.ActOf.{ActOf}
 use Rattle.table_engine.specs.Deals.{card_at}
-use Rattle.table_engine.specs.Hands.{HandTerms, player_of, posted}
+use Rattle.table_engine.specs.Hands.{HandTerms, ante_posted, player_of, posted}
 use Rattle.table_engine.specs.Acts.{time_act}
 use Rattle.tournament_events.specs.declared.event.Event.{Event}
 use Rattle.tournament_events.specs.declared.event.Event.TheVariants as events
@@ -18,8 +18,8 @@ use Rattle.tournament_rules.specs.States.{State, answer_to, is_accepted, state_a
 use Rattle.view_rules.specs.declared.entries.StackLine.{StackLine}
 use Rattle.view_rules.specs.Shown.{Viewer, own_places, open_streets, tabled_players, hole_places, street_places, places_shown}
 use Rattle.view_rules.specs.Seen.{SeenHand, OpenStreet, Tabled, opened, tabled, seen_hand, seen_by, seen_event, hand_in}
-use Rattle.view_rules.specs.Spelling.{TableLine, SeatLine, StreetLine, ShowLine, WinLine, PostLine, StackIs, ViewLine, Floor, Table}
-use Rattle.view_rules.specs.Lines.{post_lines, hole_lines, following_lines, opening_lines, act_lines, act_lines_at, table_lines, serial_told, stacks_told, floor_lines, lines_of_event}
+use Rattle.view_rules.specs.Spelling.{TableLine, SeatLine, StreetLine, ShowLine, WinLine, PostLine, AnteLine, StackIs, ViewLine, Floor, Table}
+use Rattle.view_rules.specs.Lines.{ante_lines, post_lines, hole_lines, following_lines, opening_lines, act_lines, act_lines_at, table_lines, serial_told, stacks_told, floor_lines, lines_of_event}
 use Rattle.view_rules.specs.Views.{told_of}
 use Rattle.view_laws.specs.CardsTold.{cards_of_line, may_tell_of, cards_told, cards_shown, cards_shown_at}
 use Rattle.view_laws.proofs.Members.{first_part, second_part, both_parts, made_hold, hold_made, given_hold, all_given, hold_kept, always_hold, weaker}
@@ -55,16 +55,26 @@ following-known Known table open_before seen known =
     (hold_dropped (λ (open_ : OpenStreet). AllByRecursion Known open_.cards) open_before seen.streets known.streets))
     (hold_made P WinLine seen.won (always_hold (λ won. P (WinLine won)) seen.won (λ won. tt))))
 
--- The lines of blinds tell no card.
+-- The line of an ante tells no card.
+ante-known : (Known : Card → Type 0) (table : ℕ) (start : HandStart) (player : StartSeat)
+    → AllByRecursion (AreKnown Known table) (ante_lines start player)
+ante-known Known table start player = by_ante (ante_posted start player == 0)
+  where
+    by_ante : (none : Bool)
+        → AllByRecursion (AreKnown Known table) (cond none [] (AnteLine player.name (ante_posted start player) ∷ []))
+    by_ante true = tt
+    by_ante false = (tt, tt)
+
+-- The lines of what is posted tell no card.
 posts-known : (Known : Card → Type 0) (table : ℕ) (start : HandStart) (seat : ℕ)
     → AllByRecursion (AreKnown Known table) (post_lines start seat)
 posts-known Known table start seat = by_slot (player_of start seat)
   where
     by_slot : (slot : Option StartSeat)
         → AllByRecursion (AreKnown Known table)
-        (option_map_or (λ player. PostLine player.name (posted start player) ∷ []) slot [])
+        (option_map_or (λ player. PostLine player.name (posted start player) ∷ ante_lines start player) slot [])
     by_slot None = tt
-    by_slot (Some player) = (tt, tt)
+    by_slot (Some player) = (tt, ante-known Known table start player)
 
 -- The line of hole cards tells the own ones.
 holes-known : (Known : Card → Type 0) (table : ℕ) (cards : List Card) → AllByRecursion Known cards

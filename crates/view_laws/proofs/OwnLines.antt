@@ -1,21 +1,21 @@
 -- A player's lines without those of his own hole cards are the lines of nobody.
 use Rattle.std.proofs.Common.{◌≡◌, ◌∙◌, refl, ap, ℕ, Bool, true, false, cond, List, [], ◌∷◌, ◌++◌, length, map}
-use Rattle.std.specs.Prelude.{drop, filter, Option, Some, None, option_map, if◌then◌else◌}
+use Rattle.std.specs.Prelude.{◌==◌, drop, filter, Option, Some, None, option_map, if◌then◌else◌}
 use Rattle.std.specs.Option.{option_map_or}
 use Rattle.std.proofs.lemmas.List.Elements.{filter-append}
 use Rattle.card_set.specs.declared.card.Card.{Card}
 use Rattle.table_engine.specs.declared.start.HandStart.{HandStart}
 use Rattle.table_engine.specs.declared.start.StartSeat.{StartSeat}
 use Rattle.table_engine.specs.declared.record.ActOf.{ActOf}
-use Rattle.table_engine.specs.Hands.{HandTerms, player_of, posted}
+use Rattle.table_engine.specs.Hands.{HandTerms, ante_posted, player_of, posted}
 use Rattle.table_engine.specs.Acts.{done_of_act, time_act}
 use Rattle.tournament_events.specs.declared.event.Event.{Event}
 use Rattle.tournament_events.specs.declared.event.Event.TheVariants as events
 use Rattle.tournament_rules.specs.States.{State, first_state, answer_to, is_accepted, state_after}
 use Rattle.view_rules.specs.Shown.{Viewer}
 use Rattle.view_rules.specs.Seen.{SeenHand, SeenState, seen_hand, seen_by, seen_event, hand_in}
-use Rattle.view_rules.specs.Spelling.{TableLine, HandLine, SeatLine, PostLine, ActLine, StreetLine, ShowLine, WinLine, ViewLine, Floor, Table}
-use Rattle.view_rules.specs.Lines.{post_lines, hole_lines, following_lines, opening_lines, act_lines, act_lines_at, table_lines, serial_told, stacks_told, stack_after, floor_lines, lines_of_event}
+use Rattle.view_rules.specs.Spelling.{TableLine, HandLine, SeatLine, PostLine, AnteLine, ActLine, StreetLine, ShowLine, WinLine, ViewLine, Floor, Table}
+use Rattle.view_rules.specs.Lines.{ante_lines, post_lines, hole_lines, following_lines, opening_lines, act_lines, act_lines_at, table_lines, serial_told, stacks_told, stack_after, floor_lines, lines_of_event}
 use Rattle.view_rules.specs.Views.{told_of, told_from, lines_seen_by}
 use Rattle.view_laws.specs.OwnLines.{is_for_all}
 
@@ -74,17 +74,28 @@ made-kept test make (item ∷ items) = by_test (test (make item)) (made-kept tes
 abbrev is_open : ℕ → TableLine → Bool
 is_open table line = is_for_all (Table table line)
 
--- The lines of blinds are for all.
+-- The line of an ante is for all.
+ante-open : (table : ℕ) (start : HandStart) (player : StartSeat)
+    → filter (is_open table) (ante_lines start player) ≡ ante_lines start player
+ante-open table start player = by_ante (ante_posted start player == 0)
+  where
+    by_ante : (none : Bool)
+        → filter (is_open table) (cond none [] (AnteLine player.name (ante_posted start player) ∷ []))
+        ≡ cond none [] (AnteLine player.name (ante_posted start player) ∷ [])
+    by_ante true = refl
+    by_ante false = refl
+
+-- The lines of what is posted are for all.
 posts-open : (table : ℕ) (start : HandStart) (seat : ℕ)
     → filter (is_open table) (post_lines start seat) ≡ post_lines start seat
 posts-open table start seat = by_slot (player_of start seat)
   where
     by_slot : (slot : Option StartSeat)
         → filter (is_open table)
-        (option_map_or (λ player. PostLine player.name (posted start player) ∷ []) slot [])
-        ≡ option_map_or (λ player. PostLine player.name (posted start player) ∷ []) slot []
+        (option_map_or (λ player. PostLine player.name (posted start player) ∷ ante_lines start player) slot [])
+        ≡ option_map_or (λ player. PostLine player.name (posted start player) ∷ ante_lines start player) slot []
     by_slot None = refl
-    by_slot (Some player) = refl
+    by_slot (Some player) = ap (◌∷◌ (PostLine player.name (posted start player))) (ante-open table start player)
 
 -- The line of hole cards is not.
 holes-own : (table : ℕ) (cards : List Card) → filter (is_open table) (hole_lines cards) ≡ []

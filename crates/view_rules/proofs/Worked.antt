@@ -8,7 +8,7 @@ use Rattle.floor_text.specs.Numbers.{number_of}
 use Rattle.card_set.specs.Cards.{card_of, cards_of, so_many_of, row_of}
 use Rattle.hand_rank.specs.BestHigh.{best_high}
 use Rattle.hand_rank.specs.Values.{ranks_that_occur, distinct_ranks, five_card_value}
-use Rattle.pot_layers.specs.Layers.{pots_to, layers}
+use Rattle.pot_layers.specs.Layers.{height_pots, pots_to, layers}
 use Rattle.pot_layers.specs.Shares.{units_to}
 use Rattle.showdown.specs.Awards.{split, award_pot, awards_of}
 use Rattle.showdown.specs.Hands.{hands_of}
@@ -19,10 +19,9 @@ use Rattle.betting_round.specs.WhoIsDue.{due_seat}
 use Rattle.table_engine.specs.Acts.{act_checks, done_of_act}
 use Rattle.table_engine.specs.Deals.{dealt_seats, board_of, tabled}
 use Rattle.table_engine.specs.Hands.{streets_after}
-use Rattle.table_engine.specs.Results.{puts_in_hand, live_in_hand, showdown_awards}
-use Rattle.line_words.specs.Fields.{next_by, last_by, act_of}
+use Rattle.table_engine.specs.Results.{pots_in_hand, puts_in_hand, live_in_hand, showdown_awards}
+use Rattle.line_words.specs.Fields.{next_by, last_by, act_of, amount_if_any}
 use Rattle.line_words.specs.Rows.{read_fields}
-use Rattle.tournament_events.specs.declared.event.Event.{Event}
 use Rattle.floor_events.specs.Grammar.{item_of_words, item_of_bytes}
 use Rattle.floor_events.specs.Spelling.{event_text}
 use Rattle.tournament_rules.specs.Checks.{book_refusal}
@@ -88,17 +87,17 @@ called_told =
 
 bob_is_told : view_text (codes "bob") called
     ≡ text_of (before_told ++ opening_told ++ codes "1: hole 2c2h" ∷ called_told)
-unfolding act_refusal put_by_acts street_after due_seat act_checks done_of_act dealt_seats board_of tabled streets_after puts_in_hand live_in_hand showdown_awards split award_pot awards_of hands_of winners pots_to layers units_to best_high ranks_that_occur distinct_ranks five_card_value next_by last_by act_of read_fields item_of_words item_of_bytes event_text card_of cards_of so_many_of row_of book_refusal refusal_of floor_lines following_lines opening_lines act_lines lines_of_event winners_of seen_hand open_streets tabled_players hole_places street_places line_text view_text lines_of_bytes number_of digits
+unfolding act_refusal put_by_acts street_after due_seat act_checks done_of_act dealt_seats board_of tabled streets_after puts_in_hand live_in_hand pots_in_hand showdown_awards split award_pot awards_of hands_of winners height_pots pots_to layers units_to best_high ranks_that_occur distinct_ranks five_card_value next_by last_by act_of amount_if_any read_fields item_of_words item_of_bytes event_text card_of cards_of so_many_of row_of book_refusal refusal_of floor_lines following_lines opening_lines act_lines lines_of_event winners_of seen_hand open_streets tabled_players hole_places street_places line_text view_text lines_of_bytes number_of digits
 bob_is_told = refl
 
 -- A name that never entered is told what all are told.
 a_stranger_is_told : view_text (codes "zed") called ≡ text_of (before_told ++ opening_told ++ called_told)
-unfolding act_refusal put_by_acts street_after due_seat act_checks done_of_act dealt_seats board_of tabled streets_after puts_in_hand live_in_hand showdown_awards split award_pot awards_of hands_of winners pots_to layers units_to best_high ranks_that_occur distinct_ranks five_card_value next_by last_by act_of read_fields item_of_words item_of_bytes event_text card_of cards_of so_many_of row_of book_refusal refusal_of floor_lines following_lines opening_lines act_lines lines_of_event winners_of seen_hand open_streets tabled_players hole_places street_places line_text view_text lines_of_bytes number_of digits
+unfolding act_refusal put_by_acts street_after due_seat act_checks done_of_act dealt_seats board_of tabled streets_after puts_in_hand live_in_hand pots_in_hand showdown_awards split award_pot awards_of hands_of winners height_pots pots_to layers units_to best_high ranks_that_occur distinct_ranks five_card_value next_by last_by act_of amount_if_any read_fields item_of_words item_of_bytes event_text card_of cards_of so_many_of row_of book_refusal refusal_of floor_lines following_lines opening_lines act_lines lines_of_event winners_of seen_hand open_streets tabled_players hole_places street_places line_text view_text lines_of_bytes number_of digits
 a_stranger_is_told = refl
 
 -- Where ann folds bob is told the same whatever her cards are.
 bob_is_told_alike : view_text (codes "bob") (folded aces) ≡ view_text (codes "bob") (folded sorted)
-unfolding act_refusal put_by_acts street_after due_seat act_checks done_of_act dealt_seats board_of tabled streets_after puts_in_hand live_in_hand showdown_awards split award_pot awards_of hands_of winners pots_to layers units_to best_high ranks_that_occur distinct_ranks five_card_value next_by last_by act_of read_fields item_of_words item_of_bytes event_text card_of cards_of so_many_of row_of book_refusal refusal_of floor_lines following_lines opening_lines act_lines lines_of_event winners_of seen_hand open_streets tabled_players hole_places street_places line_text view_text lines_of_bytes number_of digits
+unfolding act_refusal put_by_acts street_after due_seat act_checks done_of_act dealt_seats board_of tabled streets_after puts_in_hand live_in_hand pots_in_hand showdown_awards split award_pot awards_of hands_of winners height_pots pots_to layers units_to best_high ranks_that_occur distinct_ranks five_card_value next_by last_by act_of amount_if_any read_fields item_of_words item_of_bytes event_text card_of cards_of so_many_of row_of book_refusal refusal_of floor_lines following_lines opening_lines act_lines lines_of_event winners_of seen_hand open_streets tabled_players hole_places street_places line_text view_text lines_of_bytes number_of digits
 bob_is_told_alike = refl
 
 -- the places of the deck that come to be shown to bob
@@ -109,10 +108,10 @@ shown_to_bob bytes =
 
 -- Where ann folds his own cards are shown to him, and no others.
 shown_where_ann_folds : shown_to_bob (folded aces) ≡ 0 ∷ 2 ∷ []
-unfolding act_refusal put_by_acts street_after due_seat act_checks dealt_seats streets_after puts_in_hand live_in_hand showdown_awards next_by last_by act_of read_fields item_of_words item_of_bytes card_of cards_of so_many_of row_of book_refusal refusal_of open_streets tabled_players hole_places street_places lines_of_bytes number_of
+unfolding act_refusal put_by_acts street_after due_seat act_checks dealt_seats streets_after puts_in_hand live_in_hand pots_in_hand showdown_awards next_by last_by act_of amount_if_any read_fields item_of_words item_of_bytes card_of cards_of so_many_of row_of book_refusal refusal_of open_streets tabled_players hole_places street_places lines_of_bytes number_of
 shown_where_ann_folds = refl
 
 -- Where he calls the board and both hands are shown too.
 shown_where_bob_calls : shown_to_bob called ≡ 0 ∷ 2 ∷ 5 ∷ 6 ∷ 7 ∷ 9 ∷ 11 ∷ 0 ∷ 2 ∷ 1 ∷ 3 ∷ []
-unfolding act_refusal put_by_acts street_after due_seat act_checks dealt_seats board_of tabled streets_after puts_in_hand live_in_hand showdown_awards split award_pot awards_of hands_of winners pots_to layers units_to best_high ranks_that_occur distinct_ranks five_card_value next_by last_by act_of read_fields item_of_words item_of_bytes card_of cards_of so_many_of row_of book_refusal refusal_of open_streets tabled_players hole_places street_places lines_of_bytes number_of
+unfolding act_refusal put_by_acts street_after due_seat act_checks dealt_seats board_of tabled streets_after puts_in_hand live_in_hand pots_in_hand showdown_awards split award_pot awards_of hands_of winners height_pots pots_to layers units_to best_high ranks_that_occur distinct_ranks five_card_value next_by last_by act_of amount_if_any read_fields item_of_words item_of_bytes card_of cards_of so_many_of row_of book_refusal refusal_of open_streets tabled_players hole_places street_places lines_of_bytes number_of
 shown_where_bob_calls = refl

@@ -1,13 +1,13 @@
 -- The lines that tell a player, or nobody, of each event, made of what is seen before the event and after it. This
 -- project's own.
-use Rattle.std.specs.Prelude.{ℕ, false, List, [], ◌∷◌, ◌++◌, length, map, drop}
+use Rattle.std.specs.Prelude.{ℕ, ◌==◌, false, if◌then◌else◌, List, [], ◌∷◌, ◌++◌, length, map, drop}
 use Rattle.std.specs.Option.{option_map_or}
 use Rattle.seat_book.specs.declared.seated.Seated.{Seated}
 use Rattle.seat_book.specs.Players.{players_at}
 use Rattle.table_engine.specs.declared.start.HandStart.{HandStart}
 use Rattle.table_engine.specs.declared.start.StartSeat.{StartSeat}
 use Rattle.table_engine.specs.declared.record.ActOf.{ActOf}
-use Rattle.table_engine.specs.Hands.{HandTerms, player_of, posted}
+use Rattle.table_engine.specs.Hands.{HandTerms, ante_posted, player_of, posted}
 use Rattle.table_engine.specs.Acts.{done_of_act, time_act}
 use Rattle.card_set.specs.declared.card.Card.{Card}
 use Rattle.tournament_events.specs.declared.event.Event.{Event}
@@ -15,7 +15,7 @@ use Rattle.tournament_events.specs.declared.event.Event.TheVariants as events
 use Rattle.tournament_rules.specs.States.{players_of}
 use Rattle.view_rules.specs.declared.entries.StackLine.{StackLine}
 use Rattle.view_rules.specs.Seen.{SeenHand, SeenState}
-use Rattle.view_rules.specs.Spelling.{FloorLine, EventLine, BeginLine, SettleLine, RaceLine, StackIs, TableLine, HandLine, SeatLine, PostLine, HoleLine, ActLine, StreetLine, ShowLine, WinLine, ViewLine, Floor, Table}
+use Rattle.view_rules.specs.Spelling.{FloorLine, EventLine, BeginLine, SettleLine, RaceLine, StackIs, TableLine, HandLine, SeatLine, PostLine, AnteLine, HoleLine, ActLine, StreetLine, ShowLine, WinLine, ViewLine, Floor, Table}
 
 -- What the floor tells of each event, with the number of the hand that it begins and the stacks that are told with it.
 -- Acts and called times are told by their tables. Every other event is told as it was given.
@@ -27,10 +27,16 @@ floor_lines (events.Settle table) serial stacks = SettleLine table ∷ map Stack
 floor_lines (events.Race table row) serial stacks = RaceLine table ∷ map StackIs stacks
 floor_lines event serial stacks = EventLine event ∷ []
 
--- the line of the blind that is posted from a mark's seat, where a player is dealt in there
+-- the line of the ante that a player posts, where he posts one
+abbrev pub ante_lines : HandStart → StartSeat → List TableLine
+ante_lines start player =
+    let ante = ante_posted start player in if ante == 0 then [] else AnteLine player.name ante ∷ []
+
+-- the lines of what is posted from a mark's seat, where a player is dealt in there: his blind, and his ante
 abbrev pub post_lines : HandStart → ℕ → List TableLine
 post_lines start seat =
-    option_map_or (λ player. PostLine player.name (posted start player) ∷ []) (player_of start seat) []
+    option_map_or (λ player. PostLine player.name (posted start player) ∷ ante_lines start player)
+    (player_of start seat) []
 
 -- the line of the hole cards of whoever is told, where he is dealt in
 abbrev pub hole_lines : List Card → List TableLine
@@ -43,8 +49,8 @@ unfoldable pub following_lines : ℕ → SeenHand → List TableLine
 following_lines open_before seen =
     map ShowLine seen.tabled ++ (map StreetLine (drop open_before seen.streets) ++ map WinLine seen.won)
 
--- The lines of a hand that begins: its number and its marks, its players, the blinds that are posted, the own hole
--- cards, and what follows.
+-- The lines of a hand that begins: its number and its marks, its players, what is posted, the own hole cards, and what
+-- follows.
 unfoldable pub opening_lines : SeenHand → List TableLine
 opening_lines seen =
     let start = seen.hand.start in

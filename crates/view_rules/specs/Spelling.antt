@@ -36,6 +36,8 @@ pub data TableLine : Type 0 where
   SeatLine : StartSeat → TableLine
   -- a player of this name has posted a blind of so many chips
   PostLine : List ℕ → ℕ → TableLine
+  -- a player of this name has posted an ante of so many chips
+  AnteLine : List ℕ → ℕ → TableLine
   -- these are the hole cards of whoever is told
   HoleLine : List Card → TableLine
   -- a player of this name has acted, and this is what the act came to
@@ -82,6 +84,7 @@ table_words (HandLine serial marks) =
     codes "hand" ∷ decimal serial ∷ decimal marks.button ∷ decimal marks.small ∷ decimal marks.big ∷ []
 table_words (SeatLine player) = codes "seat" ∷ decimal player.seat ∷ player.name ∷ decimal player.stack ∷ []
 table_words (PostLine name chips) = codes "post" ∷ name ∷ decimal chips ∷ []
+table_words (AnteLine name chips) = codes "ante" ∷ name ∷ decimal chips ∷ []
 table_words (HoleLine cards) = codes "hole" ∷ cards_text cards ∷ []
 table_words (ActLine name done) = name ∷ done_words done
 table_words (StreetLine open_) = street_word open_.street ∷ cards_text open_.cards ∷ []
