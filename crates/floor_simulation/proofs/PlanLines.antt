@@ -1,10 +1,10 @@
 -- The lines of a plan are taken one after another.
-use Rattle.std.proofs.Common.{◌≡◌, ◌∙◌, ap, ◌+◌, ◌^◌, ◌<◌, ◌≤◌, Bool, true, false, List, [], ◌∷◌, ◌++◌, map, length, length-append, arith}
+use Rattle.std.proofs.Common.{◌≡◌, ◌∙◌, ap, ◌+◌, ◌^◌, ◌<◌, ◌≤◌, Bool, true, false, List, [], ◌∷◌, ◌++◌, map, length, arith}
 use Rattle.std.specs.Prelude.{if◌then◌else◌}
-use Rattle.std.proofs.lemmas.List.{length-map}
 use Rattle.level_plan.specs.declared.line.PlanLine.{PlanLine}
 use Rattle.level_plan.specs.Plans.{PlanTerms, is_right}
 use Rattle.plan_files.specs.PlanLines.{lines_of_plan}
+use Rattle.plan_files.proofs.MadeAgain.{few_lines}
 use Rattle.tournament_events.specs.declared.event.Event.{Event}
 use Rattle.tournament_events.specs.declared.event.Event.TheVariants as events
 use Rattle.tournament_rules.specs.States.{State, accepted, answer_to, first_state, is_accepted, run, state_after}
@@ -23,7 +23,8 @@ planning-starts plan lines right are = record {
   runs = ap (λ (lines : List PlanLine). run first_state (map events.Plan lines ++ events.Go ∷ [])) are;
   few =
       let levels = (right_has plan right).level_count in
-      rw are (simp (length-append, length-map) (omega (arith, levels)));
+      let all = few_lines plan in
+      rw are (omega (arith, levels, all));
 }
 
 counted-most : (state : State) (event : Event) → (state_after state event).accepted ≤ state.accepted + 1
