@@ -1,6 +1,6 @@
 //! The top call.
 
-ghost use Rattle.std.specs.Prelude.{◌⊎◌, ◌≡◌, ◌≢◌, ◌↔◌, ◌≤◌, ◌∷◌, [], ◌++◌, ℕ, List, length, take, map, string_bytes, Some, None, Ok, Err, IfSome, IfErr, OnOk, IsOk, IsErrOf, Contains, MatchResult};
+ghost use Rattle.std.specs.Prelude.{true, ◌⊎◌, ◌≡◌, ◌≢◌, ◌↔◌, ◌≤◌, ◌∷◌, [], ◌++◌, ℕ, List, length, take, map, string_bytes, Some, None, Ok, Err, IfSome, IfErr, OnOk, IsOk, IsErrOf, Contains, MatchResult};
 ghost use Rattle.floor_text.specs.Lines.{lines_of_bytes};
 ghost use Rattle.floor_text.specs.Outside.{Rose};
 ghost use Rattle.level_plan.specs.declared.line.PlanItem.{PlanItem};
@@ -12,7 +12,8 @@ ghost use Rattle.line_tellers.specs.Limits.{input_limit};
 ghost use Rattle.line_tellers.specs.Promise.{TakesAndPuts, IsToldOf};
 ghost use Rattle.line_tellers.specs.Told.{ended_told, lines_told};
 ghost use Rattle.command_lines.specs.declared.command.Command.{Command};
-ghost use Rattle.command_lines.specs.declared.command.Command.TheVariants.{Simulate};
+ghost use Rattle.command_lines.specs.declared.command.Command.TheVariants.{Replay, Simulate};
+ghost use Rattle.first_edition.specs.First.{are_first_lines, first_replay_text};
 
 use crate::simulate::simulate;
 use command_lines::{Command, Fault, finish};
@@ -97,6 +98,10 @@ pub fn run_offline<I: Source, O: Sink, E: Sink>(
     ensures put { result ≡ 0 → (command : Command) → command_of (map string_bytes words.now.items) ≡ Some command
         → IfSome (I.left input.old) (λ bytes. IfSome (O.written out.old)
         (λ before. IsPut (text_of command bytes) before (O.written out.new))) }
+    // A stream whose lines are all of the first edition is answered as it was.
+    ensures first_edition { result ≡ 0 → command_of (map string_bytes words.now.items) ≡ Some Replay
+        → IfSome (I.left input.old) (λ bytes. are_first_lines bytes ≡ true → IfSome (O.written out.old)
+        (λ before. O.written out.new ≡ Some (before ++ first_replay_text bytes))) }
     ensures within_limit { result ≡ 0 → (command : Command)
         → command_of (map string_bytes words.now.items) ≡ Some command
         → IfSome (I.left input.old) (λ bytes. length bytes ≤ limit_of command) }

@@ -1,11 +1,12 @@
 use Rattle.std.proofs.Common.{◌≡◌, ◌∙◌, sym, inl, arith}
 use Rattle.std.specs.Prelude.{Some, None, IfSome}
 use Rattle.command_lines.specs.declared.command.Command.{Command}
-use Rattle.command_lines.specs.declared.command.Command.TheVariants.{Simulate}
+use Rattle.command_lines.specs.declared.command.Command.TheVariants.{Replay, Simulate}
 use Rattle.command_lines.specs.declared.fault.Fault.TheVariants as faults
 use Rattle.command_lines.specs.Endings.{PutsLine}
 use Rattle.command_lines.proofs.Ended.{at_fault, at_line, at_no_write, at_other, at_six, at_zero, ended}
 use Rattle.floor_offline.specs.Commands.{limit_of, text_of}
+use Rattle.floor_offline.proofs.First.{first_put}
 use Rattle.floor_offline.proofs.Fronts.{front_of_text}
 use Rattle.floor_offline.proofs.Statuses.{status_of_run}
 use Rattle.line_tellers.proofs.Running.{on_ok_from}
@@ -27,6 +28,13 @@ pub returns-clause-put : goal.returns-clause-put
 returns-clause-put g c = λ zero command is.
     let read = rw c.deref.ensures.value at (sym c.read.ensures ∙ c.in-Some.is) in
     rw (one_command command c.in-Some.command (sym is ∙ read)) (at_zero c.carry_out.result c.finish.result c.finish.ensures.status c.carry_out.ensures.text zero)
+
+pub returns-clause-first_edition : goal.returns-clause-first_edition
+returns-clause-first_edition g c = λ zero is.
+    let read = rw c.deref.ensures.value at (sym c.read.ensures ∙ c.in-Some.is) in
+    first_put c.in-Some.command (g.I.Source.left c.args.input.now) (g.O.Sink.written c.args.out.now)
+    (g.O.Sink.written c.carry_out.new.out) (one_command Replay c.in-Some.command (sym is ∙ read))
+    (at_zero c.carry_out.result c.finish.result c.finish.ensures.status c.carry_out.ensures.text zero)
 
 pub returns-clause-within_limit : goal.returns-clause-within_limit
 returns-clause-within_limit g c = λ zero command is.
