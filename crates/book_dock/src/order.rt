@@ -172,6 +172,11 @@ impl BookHold {
                 table: *table,
                 seat: *seat,
             })),
+            Ask::Reenter { name, table, seat } => Ok(Some(Event::Reenter {
+                name: *name,
+                table: *table,
+                seat: *seat,
+            })),
             Ask::Balance { from, to } => Ok(Some(Event::Balance {
                 from: *from,
                 to: *to,

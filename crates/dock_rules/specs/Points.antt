@@ -52,6 +52,7 @@ order_owed tale =
 -- The event that an ask comes to at a journal, with the deck or the draw that comes next; none where no order is owed.
 abbrev pub event_asked : Tale → Ask → Option Event
 event_asked tale (asks.Enter name table seat) = Some (events.Enter name table seat)
+event_asked tale (asks.Reenter name table seat) = Some (events.Reenter name table seat)
 event_asked tale (asks.Balance from to) = Some (events.Balance from to)
 event_asked tale (asks.Break table) = Some (next_break tale table)
 event_asked tale asks.Level = Some events.Level

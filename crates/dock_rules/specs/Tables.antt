@@ -9,7 +9,7 @@ use Rattle.betting_round.specs.declared.act.Done.{Done}
 use Rattle.table_engine.specs.declared.start.HandStart.{HandStart}
 use Rattle.table_engine.specs.declared.record.ActFault.{ActFault}
 use Rattle.table_engine.specs.Acts.{IsAnswer, done_of_act, done_of_time, refusal_of_act, refusal_of_time, time_act}
-use Rattle.table_engine.specs.Hands.{HandTerms, behind, put_in_hand}
+use Rattle.table_engine.specs.Hands.{HandTerms, behind, dead_chips, put_in_hand}
 use Rattle.table_engine.specs.Results.{starting_stacks}
 use Rattle.view_rules.specs.declared.entries.TableEntry.{TableEntry}
 use Rattle.view_rules.specs.declared.entries.TableEntry.TheVariants.{Opened, Acted, Closed}
@@ -88,11 +88,12 @@ abbrev pub called_entries : ℕ → List TableEntry → List TableEntry
 called_entries caller history =
     option_to_list (option_map (λ hand. Acted caller (time_act hand)) (lying_hand history))
 
--- A hand has its chips: all that its players have behind and all that they have put in sum to the stacks that they
--- began it with.
+-- A hand has its chips: all that its players have behind, all that they have put in and the ante that was posted sum to
+-- the stacks that they began it with.
 abbrev pub HasItsChips : HandTerms → Type 0
 HasItsChips hand =
-    sum_by (behind hand) hand.start.seats + sum_by (put_in_hand hand) hand.start.seats ≡ sum (starting_stacks hand)
+    sum_by (behind hand) hand.start.seats + sum_by (put_in_hand hand) hand.start.seats + dead_chips hand.start
+    ≡ sum (starting_stacks hand)
 
 -- The history of a table is sound: it is legal, and the hand that lies there by it has its chips.
 pub record IsSoundTable (history : List TableEntry) : Type 0 where

@@ -7,6 +7,8 @@ use floor_text::{Name, Refusal};
 pub enum Ask {
     /// A player enters.
     Enter { name: Name, table: u64, seat: u64 },
+    /// A player who is out enters again.
+    Reenter { name: Name, table: u64, seat: u64 },
     /// A player moves from one table to another.
     Balance { from: u64, to: u64 },
     /// A table breaks.

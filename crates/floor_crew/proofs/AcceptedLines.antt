@@ -54,7 +54,7 @@ use Rattle.tournament_rules.proofs.Ends.{left-void_first}
 use Rattle.tournament_rules.proofs.Entries.{right_has}
 use Rattle.tournament_rules.proofs.Fitting.{table_range}
 use Rattle.tournament_rules.proofs.MoveLaws.{most_there}
-use Rattle.tournament_rules.proofs.Passed.{act_passed, entry_passed, passed-parts, plan_late, settle_passed, time_passed}
+use Rattle.tournament_rules.proofs.Passed.{act_passed, entry_passed, passed-parts, plan_late, reentry_passed, settle_passed, time_passed}
 use Rattle.tournament_rules.proofs.Races.{race_passed}
 use Rattle.tournament_rules.proofs.Steps.{accepted_none, valid_first_state, valid_state_after}
 use Rattle.tournament_laws.specs.Named.{names_in}
@@ -139,7 +139,8 @@ blind-fits blind right =
     let big : blind.big ≤ greatest_amount = grind (arith, nat_tests) in
     let whole : blind.small % blind.unit ≡ 0 = grind (arith, nat_tests) in
     let unit = multiple-le blind.unit blind.small whole small in
-    (omega (arith, below, big), (omega (arith, big), omega (arith, unit, below, big)))
+    let ante : blind.ante ≤ greatest_amount = grind (arith, nat_tests) in
+    (omega (arith, below, big), (omega (arith, big), (omega (arith, unit, below, big), omega (arith, ante))))
 
 shares-fit : (shares : List ℕ) → list_all (is_between 1 whole_pool) shares ≡ true
     → AllByRecursion (λ share. share ≤ whole_pool) shares
@@ -160,6 +161,7 @@ plan-fits draft (lines.Late n) none = between_small (is_some draft.late) 1 most_
 plan-fits draft (lines.Blinds blind) none =
     blind-fits blind (second (nat_le most_levels (length draft.blinds)) (is_blind blind) (may_follow draft.blinds blind)
     none)
+plan-fits draft (lines.Limit n) none = between_small (is_some draft.cap) 1 9 n (omega arith) none
 plan-fits draft (lines.Shares shares) none =
     let right = lawful (is_some draft.shares) (are_shares shares) none in
     let parts = and_parts (is_between 1 most_shares (length shares)) _ right in
@@ -277,9 +279,15 @@ playing-fits play events.Go valid enters free named = tt
 playing-fits play (events.Enter name table seat) valid enters free named =
     let book = play.book in
     let may = entry_passed book name table seat (passed-parts play (events.Enter name table seat) free).0 in
-    let range = table_range 1 book.plan.seats seat may.within in
+    let range = table_range 1 book.plan.seats seat may.buys.within in
     let most = (right_has book.plan valid.book.plan.right).most_seats in
-    (enters, (table-small book table valid.book may.there, omega (arith, range.1, most)))
+    (enters, (table-small book table valid.book may.buys.there, omega (arith, range.1, most)))
+playing-fits play (events.Reenter name table seat) valid enters free named =
+    let book = play.book in
+    let may = reentry_passed book name table seat (passed-parts play (events.Reenter name table seat) free).0 in
+    let range = table_range 1 book.plan.seats seat may.buys.within in
+    let most = (right_has book.plan valid.book.plan.right).most_seats in
+    (named name (0, omega arith, refl), (table-small book table valid.book may.buys.there, omega (arith, range.1, most)))
 playing-fits play (events.Begin table row) valid enters free named =
     table-small play.book table valid.book
     (may_begin play.book table row (passed-parts play (events.Begin table row) free).0).there

@@ -93,6 +93,7 @@ module _ (f : Wish → ℕ) where
   order-weight : (tale : Tale) (ask : Ask) → is_done (order_reply (ask_answer tale ask)) ≡ true
       → event_weight (event_done tale ask) ≤ wished Floor (requests.Order ask)
   order-weight tale (asks.Enter name table seat) done = omega arith
+  order-weight tale (asks.Reenter name table seat) done = omega arith
   order-weight tale (asks.Balance from to) done = omega arith
   order-weight tale (asks.Break table) done = omega arith
   order-weight tale asks.Level done = omega arith

@@ -1,6 +1,6 @@
 -- Events whose parts may stand in a line are short enough for one.
-use Rattle.std.proofs.Common.{◌≡◌, ℕ, ◌+◌, ◌*◌, ◌≤◌, Bool, true, false, List, [], ◌∷◌, map, length, length-append, arith}
-use Rattle.std.specs.Prelude.{codes, not, nat_le, slice_index}
+use Rattle.std.proofs.Common.{◌≡◌, ℕ, ◌+◌, ◌*◌, ◌≤◌, Bool, true, false, cond, List, [], ◌∷◌, map, length, length-append, arith}
+use Rattle.std.specs.Prelude.{◌==◌, codes, not, nat_le, slice_index}
 use Rattle.std.specs.Char.{is_ascii_alphabetic}
 use Rattle.std.specs.Fmt.{decimal}
 use Rattle.std.specs.List.{join_with_byte, list_all, AllByRecursion}
@@ -20,7 +20,7 @@ use Rattle.level_plan.specs.declared.line.PlanLine.TheVariants as lines
 use Rattle.betting_round.specs.declared.act.Act.{Act}
 use Rattle.betting_round.specs.declared.act.Act.TheVariants.{Fold, Check, Call, AllIn, Bet, Raise}
 use Rattle.seat_book.specs.declared.place.Place.{Place}
-use Rattle.line_words.specs.Fields.{AreFew, HasLineAmount, IsLineName, IsLinePlace, act_words, game_word, list_text, place_text, switch_word}
+use Rattle.line_words.specs.Fields.{AreFew, HasLineAmount, IsLineName, IsLinePlace, act_words, game_word, words_if_any, list_text, place_text, switch_word}
 use Rattle.line_words.specs.Limits.{most_members}
 use Rattle.tournament_events.specs.declared.event.Event.{Event}
 use Rattle.tournament_events.specs.declared.event.Event.TheVariants as events
@@ -34,9 +34,12 @@ Fits (events.Plan (lines.Seats n)) = IsLineNumber n
 Fits (events.Plan (lines.Stack n)) = IsLineNumber n
 Fits (events.Plan (lines.Buyin n)) = IsLineNumber n
 Fits (events.Plan (lines.Late n)) = IsLineNumber n
-Fits (events.Plan (lines.Blinds blind)) = IsLineNumber blind.small × (IsLineNumber blind.big × IsLineNumber blind.unit)
+Fits (events.Plan (lines.Blinds blind)) =
+    IsLineNumber blind.small × (IsLineNumber blind.big × (IsLineNumber blind.unit × IsLineNumber blind.ante))
+Fits (events.Plan (lines.Limit n)) = IsLineNumber n
 Fits (events.Plan (lines.Shares shares)) = AreFew most_shares (λ share. share ≤ whole_pool) shares
 Fits (events.Enter name table seat) = IsLineName name × (IsLineNumber table × IsLineNumber seat)
+Fits (events.Reenter name table seat) = IsLineName name × (IsLineNumber table × IsLineNumber seat)
 Fits (events.Begin table row) = IsLineNumber table
 Fits (events.Act table name act) = IsLineNumber table × (IsLineName name × HasLineAmount act)
 Fits (events.Time table) = IsLineNumber table
@@ -67,6 +70,14 @@ short words few = let joined = joined-room 32 words in omega (arith, joined, few
 -- A number of a line has at most 16 digits.
 number-room : (n : ℕ) → IsLineNumber n → length (decimal n) ≤ 16
 number-room n small = length-decimal-le 16 n (omega arith) (omega (arith, small)) (omega (arith, small))
+
+-- An amount that is left out where it is 0 takes no more than a number and one byte.
+if_any-room : (n : ℕ) → IsLineNumber n → room (words_if_any n) ≤ 17
+if_any-room n small = by_test (n == 0) (number-room n small)
+  where
+    by_test : (none : Bool) → length (decimal n) ≤ 16 → room (cond none [] (decimal n ∷ [])) ≤ 17
+    by_test true few = omega arith
+    by_test false few = omega (arith, few)
 
 -- A name has at most 16 bytes.
 name-room : (name : List ℕ) → IsLineName name → length name ≤ 16
@@ -170,12 +181,15 @@ writable (events.Plan (lines.Late n)) fits =
 writable (events.Plan (lines.Blinds blind)) fits =
     let small = number-room blind.small fits.0 in
     let big = number-room blind.big fits.1.0 in
-    let unit = number-room blind.unit fits.1.1 in
+    let unit = number-room blind.unit fits.1.1.0 in
+    let ante = if_any-room blind.ante fits.1.1.1 in
     record {
       parts = fits;
-      short = short (codes "blinds" ∷ decimal blind.small ∷ decimal blind.big ∷ decimal blind.unit ∷ [])
-          (omega (arith, small, big, unit));
+      short = short (codes "blinds" ∷ decimal blind.small ∷ decimal blind.big ∷ decimal blind.unit
+          ∷ words_if_any blind.ante) (omega (arith, small, big, unit, ante));
     }
+writable (events.Plan (lines.Limit n)) fits =
+    record { parts = fits; short = one_number (codes "limit") n (omega arith) fits }
 writable (events.Plan (lines.Shares shares)) fits =
     let all = each-room decimal (λ share. share ≤ whole_pool) 5 shares share-room fits.2 in
     let most = fits.1 in
@@ -191,6 +205,15 @@ writable (events.Enter name table seat) fits =
     record {
       parts = fits;
       short = short (codes "enter" ∷ name ∷ decimal table ∷ decimal seat ∷ [])
+          (omega (arith, name_room, table_room, seat_room));
+    }
+writable (events.Reenter name table seat) fits =
+    let name_room = name-room name fits.0 in
+    let table_room = number-room table fits.1.0 in
+    let seat_room = number-room seat fits.1.1 in
+    record {
+      parts = fits;
+      short = short (codes "reenter" ∷ name ∷ decimal table ∷ decimal seat ∷ [])
           (omega (arith, name_room, table_room, seat_room));
     }
 writable (events.Begin table row) fits =

@@ -36,6 +36,7 @@ named-own who (requests.Act table name act) own = omega arith
 named-own who (requests.Time table) own = omega arith
 named-own (Player name) (requests.Order ask) own = absurd own
 named-own Floor (requests.Order (asks.Enter name table seat)) own = omega arith
+named-own Floor (requests.Order (asks.Reenter name table seat)) own = omega arith
 named-own Floor (requests.Order (asks.Balance from to)) own = omega arith
 named-own Floor (requests.Order (asks.Break table)) own = omega arith
 named-own Floor (requests.Order asks.Level) own = omega arith

@@ -4,8 +4,8 @@ use Rattle.std.specs.List.{AllByRecursion}
 use Rattle.std.specs.Str.{bytes_eq}
 use Rattle.std.proofs.lemmas.Option.{same_Some}
 use Rattle.card_set.proofs.Steps.{bind_found, map_found}
-use Rattle.line_words.specs.Fields.{act_of, few_of, last_by, next_by}
-use Rattle.line_words.specs.Rows.{Fields, no_field, last, ◌▸◌, an_act, few, Maker, Row, read_at, read_fields, read_words, row_at, value_of}
+use Rattle.line_words.specs.Fields.{act_of, amount_if_any, few_of, last_by, next_by}
+use Rattle.line_words.specs.Rows.{Fields, no_field, last, ◌▸◌, an_act, if_any, few, Maker, Row, read_at, read_fields, read_words, row_at, value_of}
 use Rattle.line_words.specs.Words.{words_of_line}
 use Rattle.session_lines.specs.declared.hello.Speaker.{Speaker}
 use Rattle.session_lines.specs.declared.hello.Speaker.TheVariants.{Floor, Player}
@@ -20,6 +20,7 @@ module _ {A : Type 0} (P : A → Type 0) where
   Makes (last field) make = (value : _) → P (make value)
   Makes (field ▸ fields) make = (value : _) → Makes fields (make value)
   Makes an_act make = (act : _) → P (make act)
+  Makes if_any make = (n : _) → P (make n)
   Makes (few most field) make = (values : _) → P (make values)
 
   abbrev MakesAt : Row A → Type 0
@@ -37,6 +38,8 @@ module _ {A : Type 0} (P : A → Type 0) where
       fields-made fields (make read.0.0) read.0.1 told (makes read.0.0) read.2
   fields-made an_act make words told makes h =
       let read = map_found make (act_of words) told h in subst P read.2 (makes read.0)
+  fields-made if_any make words told makes h =
+      let read = map_found make (amount_if_any words) told h in subst P read.2 (makes read.0)
   fields-made (few most field) make words told makes h =
       let read = map_found make (few_of most (value_of field) words) told h in subst P read.2 (makes read.0)
 
@@ -79,18 +82,21 @@ own-request Floor line request h =
         (
           λ name table seat. tt,
           (
-            λ from to. tt,
+            λ name table seat. tt,
             (
-              λ table. tt,
+              λ from to. tt,
               (
-                tt,
+                λ table. tt,
                 (
-                  λ table. tt,
+                  tt,
                   (
-                    λ on. tt,
+                    λ table. tt,
                     (
-                      tt,
-                      (tt, (tt, tt)),
+                      λ on. tt,
+                      (
+                        tt,
+                        (tt, (tt, tt)),
+                      ),
                     ),
                   ),
                 ),

@@ -272,6 +272,7 @@ orders_of standing said = length said.brought.orders
 asked-good : (tale : Tale) (ask : Ask) → is_named (Some (meanings.Asks (requests.Order ask))) ≡ false
     → is_done (order_reply (ask_answer tale ask)) ≡ true → is_unowed tale (event_done tale ask) ≡ false
 asked-good tale (asks.Enter name table seat) named done = refl
+asked-good tale (asks.Reenter name table seat) named done = refl
 asked-good tale (asks.Balance from to) named done = absurd cc
 asked-good tale (asks.Break table) named done = absurd cc
 asked-good tale asks.Level named done = refl

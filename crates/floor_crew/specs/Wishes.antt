@@ -39,6 +39,7 @@ abbrev pub wish_of : Event → Option Wish
 wish_of (events.Act table name act) = Some (record { who = Player name; what = requests.Act table name act })
 wish_of (events.Time table) = by_floor (requests.Time table)
 wish_of (events.Enter name table seat) = by_floor (requests.Order (asks.Enter name table seat))
+wish_of (events.Reenter name table seat) = by_floor (requests.Order (asks.Reenter name table seat))
 wish_of events.Level = by_floor (requests.Order asks.Level)
 wish_of (events.Race table row) = by_floor (requests.Order (asks.Race table))
 wish_of (events.Hands on) = by_floor (requests.Order (asks.Hands on))

@@ -22,6 +22,8 @@ floor_rows =
     row (codes "time") (last a_number) requests.Time ∷
     row (codes "enter") (a_name ▸ a_number ▸ last a_number)
     (λ name table seat. requests.Order (asks.Enter name table seat)) ∷
+    row (codes "reenter") (a_name ▸ a_number ▸ last a_number)
+    (λ name table seat. requests.Order (asks.Reenter name table seat)) ∷
     row (codes "balance") (a_number ▸ last a_number) (λ from to. requests.Order (asks.Balance from to)) ∷
     row (codes "break") (last a_number) (λ table. requests.Order (asks.Break table)) ∷
     row (codes "level") no_field (requests.Order asks.Level) ∷

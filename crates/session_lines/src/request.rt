@@ -43,6 +43,11 @@ fn read_for_floor(word: &[u8], line: &mut LineWords<'_>) -> Option<Request>
             table: line.field()?,
             seat: line.last_field()?,
         })),
+        _ if is(word, b"reenter") => Some(Request::Order(Ask::Reenter {
+            name: line.field()?,
+            table: line.field()?,
+            seat: line.last_field()?,
+        })),
         _ if is(word, b"balance") => Some(Request::Order(Ask::Balance {
             from: line.field()?,
             to: line.last_field()?,
