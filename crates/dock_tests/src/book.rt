@@ -6,7 +6,9 @@ ghost use Rattle.dock_rules.specs.Journals.{Has, tale_of};
 ghost use Rattle.book_dock.specs.Docks.{book_id};
 
 use super::passes::{both, sent, share};
-use super::script::Step::{self, Enter, EnterAll, Floor, Follow, Hand, NoHand, Sits, Stopped};
+use super::script::Step::{
+    self, Enter, EnterAll, Floor, Follow, Hand, NoHand, Reenter, Sits, Stopped,
+};
 use super::script::{ask_one, followed, settled};
 use AskAnswer::{No, NoOrder, Ok as Done};
 use book_dock::{Ask, AskAnswer, BookDock, BookEnd, BookPass, make_book};
@@ -23,12 +25,12 @@ use std::sync::Wait;
 use std::test::Fail;
 use table_engine::Hand as BegunHand;
 
-/// Makes the plan of so many tables of so many seats: stacks of 1,000, and two levels, of which the second has greater
-/// chips.
+/// Makes the plan of so many tables of so many seats: stacks of 1,000, and two levels, of which the first has an ante
+/// and the second greater chips.
 fn plan_of(alloc: Global, tables: u64, seats: u64) -> Result<Plan, AllocError> {
     let file = format!(in alloc;
         "game = \"holdem\"\ntables = {tables}\nseats = {seats}\nstack = 1000\nbuyin = 100\nlate = 1\n\
-        blinds = [[100, 200, 100], [500, 1000, 500]]\nshares = [700, 300]\n"
+        blinds = [[100, 200, 100, 100], [500, 1000, 500]]\nshares = [700, 300]\n"
     )?;
     match plan_from_toml(alloc, file.as_bytes()) {
         Ok(plan) => Ok(plan),
@@ -212,16 +214,62 @@ fn the_last_player_has_won(rt: HostRuntime) -> Result<(), Fail> {
     follow(&rt, rt.alloc(), 1, 2, &WON)
 }
 
-const FULL: [Step; 4] = [
-    EnterAll,
+const FULL: [Step; 5] = [
+    EnterAll(640),
     Hand(1, 0),
     Sits("p0", None),
     Enter("late", 1, 1, No(Refusal::ListFull)),
+    Reenter("p0", 1, 1, No(Refusal::ListFull)),
 ];
 
 #[test]
 fn no_more_than_640_enter(rt: HostRuntime) -> Result<(), Fail> {
     follow(&rt, rt.alloc(), 64, 10, &FULL)
+}
+
+const FILLED: [Step; 8] = [
+    EnterAll(639),
+    Hand(1, 0),
+    Sits("p0", None),
+    Sits("p64", None),
+    Reenter("p0", 1, 1, Done),
+    Sits("p0", Some(Place { table: 1, seat: 1 })),
+    Enter("late", 1, 2, No(Refusal::ListFull)),
+    Reenter("p64", 1, 2, No(Refusal::ListFull)),
+];
+
+#[test]
+fn re_entries_count_as_entries(rt: HostRuntime) -> Result<(), Fail> {
+    follow(&rt, rt.alloc(), 64, 10, &FILLED)
+}
+
+/// At the first table ann and cat put in all, and cat, who posted the ante, is out.
+const AGAIN: [Step; 20] = [
+    Reenter("cat", 1, 2, No(Refusal::NameUnknown)),
+    Enter("ann", 1, 1, Done),
+    Enter("bob", 2, 1, Done),
+    Enter("cat", 1, 2, Done),
+    Enter("dan", 2, 2, Done),
+    Reenter("cat", 1, 3, No(Refusal::StillIn)),
+    Hand(1, 0),
+    Sits("cat", None),
+    Enter("cat", 1, 2, No(Refusal::NameKnown)),
+    Reenter("cat", 3, 2, No(Refusal::NoTable)),
+    Reenter("cat", 1, 5, No(Refusal::NoSeat)),
+    Reenter("cat", 1, 1, No(Refusal::SeatTaken)),
+    Reenter("cat", 2, 3, No(Refusal::NotFewest)),
+    Reenter("cat", 1, 2, Done),
+    Follow(false, "# reenter cat 1 2\n"),
+    Sits("cat", Some(Place { table: 1, seat: 2 })),
+    Reenter("cat", 1, 2, No(Refusal::SeatTaken)),
+    Floor(Ask::Level, Done),
+    Reenter("cat", 1, 3, No(Refusal::LateClosed)),
+    Floor(Ask::Stop, Done),
+];
+
+#[test]
+fn who_is_out_enters_again(rt: HostRuntime) -> Result<(), Fail> {
+    follow(&rt, rt.alloc(), 2, 4, &AGAIN)
 }
 
 #[test]

@@ -21,7 +21,8 @@ fn player(number: u32, name: Name, seat: u8, stack: u64) -> StartSeat
     }
 }
 
-/// Makes the start of a hand of these players: the button and the small blind are at seat 1, the big one at seat 4.
+/// Makes the start of a hand of these players: the button and the small blind are at seat 1, the big one and the ante at
+/// seat 4.
 fn start_of(seats: Vec<StartSeat>, deck: Deck) -> HandStart
     requires { IsDeck deck }
     ensures seats { result.seats ≡ seats.items }
@@ -29,7 +30,7 @@ fn start_of(seats: Vec<StartSeat>, deck: Deck) -> HandStart
     ensures seat_count { result.seat_count ≡ 6 }
     ensures marks { result.marks ≡ record { button = 1; small = 1; big = 4 } }
     ensures deck { IsDeck result.deck }
-    ensures blind { result.blind ≡ record { small = 100; big = 200; unit = 100 } }
+    ensures blind { result.blind ≡ record { small = 100; big = 200; unit = 100; ante = 100 } }
 {
     HandStart {
         table: 1,
@@ -45,7 +46,9 @@ fn start_of(seats: Vec<StartSeat>, deck: Deck) -> HandStart
             small: 100,
             big: 200,
             unit: 100,
+            ante: 100,
         },
+        cap: 0,
         game: Game::Omaha,
         deck,
     }
@@ -56,7 +59,7 @@ pub fn fresh_hand(alloc: Global) -> Result<Hand, AllocError>
     ensures { IfOk result (λ hand. (hand.acts ≡ []) × (hand.start.table ≡ 1)) }
 {
     let ann = player(0, Name::read(b"ann").unwrap(), 1, 3000);
-    let bob = player(1, Name::read(b"bob").unwrap(), 4, 900);
+    let bob = player(1, Name::read(b"bob").unwrap(), 4, 1000);
     let seats = Vec::from_array(alloc, [ann, bob])?;
     match Hand::new(alloc, start_of(seats, Deck::sorted())) {
         Ok(hand) => Ok(hand),

@@ -20,8 +20,10 @@ use table_engine::{Hand, HandRecord};
 pub enum Step {
     /// A player asks to enter, at a table and in a seat.
     Enter(&'static str, u64, u64, AskAnswer),
-    /// 640 players enter, who fill a hall of 64 tables of ten seats.
-    EnterAll,
+    /// A player asks to enter again, at a table and in a seat.
+    Reenter(&'static str, u64, u64, AskAnswer),
+    /// So many players enter a hall of 64 tables, which 640 fill.
+    EnterAll(u64),
     /// The floor asks.
     Floor(Ask, AskAnswer),
     /// The hand of a table is begun, played and settled: the first players fold, so many, and the others put in all
@@ -73,13 +75,38 @@ fn enter<R: Wait>(
     }
 }
 
-/// Lets 640 players enter: one in the first seat of each table, then one in the second seat of each, and so on.
-fn enter_all<R: Wait>(rt: &R, alloc: Global, dock: &BookDock, pass: BookPass) -> (BookPass, bool)
+/// Lets a player enter again.
+fn reenter<R: Wait>(
+    rt: &R,
+    dock: &BookDock,
+    pass: BookPass,
+    who: &str,
+    place: (u64, u64),
+    wanted: AskAnswer,
+) -> (BookPass, bool)
+    requires { lock_of pass ≡ book_id dock.now }
+    ensures { lock_of result.0 ≡ book_id dock.now }
+{
+    let (table, seat) = place;
+    match Name::read(who.as_bytes()) {
+        Some(name) => ask_one(rt, dock, pass, &Ask::Reenter { name, table, seat }, wanted),
+        None => (pass, false),
+    }
+}
+
+/// Lets so many players enter: one in the first seat of each table, then one in the second seat of each, and so on.
+fn enter_all<R: Wait>(
+    rt: &R,
+    alloc: Global,
+    dock: &BookDock,
+    pass: BookPass,
+    count: u64,
+) -> (BookPass, bool)
     requires { lock_of pass ≡ book_id dock.now }
     ensures { lock_of result.0 ≡ book_id dock.now }
 {
     let mut pass = pass;
-    for number in 0..640u64 {
+    for number in 0..count {
         let Ok(who) = format!(in alloc; "p{number}") else {
             return (pass, false);
         };
@@ -217,7 +244,10 @@ fn take_step<R: Wait>(
 {
     match *step {
         Step::Enter(who, table, seat, wanted) => enter(rt, dock, pass, who, (table, seat), wanted),
-        Step::EnterAll => enter_all(rt, alloc, dock, pass),
+        Step::Reenter(who, table, seat, wanted) => {
+            reenter(rt, dock, pass, who, (table, seat), wanted)
+        }
+        Step::EnterAll(count) => enter_all(rt, alloc, dock, pass, count),
         Step::Floor(asked, wanted) => ask_one(rt, dock, pass, &asked, wanted),
         Step::Hand(table, folds) => play(rt, dock, pass, table, folds),
         Step::NoHand(table, wanted) => refuse_hand(rt, dock, pass, table, wanted),

@@ -123,6 +123,7 @@ const REFUSED: &[Row] = &[
         Asked::Act("bob", Act::Raise(400)),
         Err(Refusal::NothingToRaise),
     ),
+    (Asked::Act("bob", Act::Bet(600)), Err(Refusal::PastPot)),
     (Asked::Act("bob", Act::Bet(200)), Ok(Done::BetTo(200))),
     (Asked::Act("ann", Act::Raise(600)), Ok(Done::RaisedTo(600))),
     (Asked::Act("bob", Act::AllIn), Ok(Done::RaisedTo(700))),

@@ -19,12 +19,13 @@ use table_dock::{TableDock, TablePass, Untold};
 /// What bob is told of a hand that ann folds.
 const BOBS: &str = "1: hand 1 1 1 4
 1: seat 1 ann 3000
-1: seat 4 bob 900
+1: seat 4 bob 1000
 1: post ann 100
 1: post bob 200
+1: ante bob 100
 1: hole 2c2h3c3h
 1: ann fold
-1: win bob 300
+1: win bob 400
 ";
 
 /// Tells the entries from a number on.

@@ -92,6 +92,8 @@ watch 9007199254740991 : watch 9007199254740991
 time 2 : time 2
 enter ann 1 4 : enter ann 1 4
 enter cat 0 77 : enter cat 0 77
+reenter ann 1 4 : reenter ann 1 4
+reenter cat 0 77 : reenter cat 0 77
 balance 1 2 : balance 1 2
 break 3 : break 3
 level : level
@@ -119,6 +121,11 @@ time : -
 enter ann 1 : -
 enter floor 1 1 : -
 enter ann  1 1 : -
+reenter ann 1 : -
+reenter ann 1 1 1 : -
+reenter ann 01 1 : -
+reenter floor 1 1 : -
+reenter : -
 enter ann 1 1\r : -
 balance 1 : -
 level 2 : -
@@ -142,6 +149,7 @@ act 0 raise 0 : act ann 0 5 0
 act 1 bob fold : -
 act 1 ann fold : -
 enter ann 1 1 : -
+reenter ann 1 1 : -
 time 1 : -
 balance 1 2 : -
 break 3 : -
@@ -171,6 +179,7 @@ act 1 fold  : -
 fn told_order(ask: &Ask) -> Telling<'_> {
     match ask {
         Ask::Enter { name, table, seat } => said_of("enter", name, [*table, *seat, 0, 0, 0]),
+        Ask::Reenter { name, table, seat } => said_of("reenter", name, [*table, *seat, 0, 0, 0]),
         Ask::Balance { from, to } => said("balance", [*from, *to, 0, 0, 0]),
         Ask::Break { table } => said("break", [*table, 0, 0, 0, 0]),
         Ask::Level => said("level", [0; 5]),

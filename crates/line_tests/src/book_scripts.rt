@@ -28,6 +28,31 @@ shares 700 300
 go
 ";
 
+/// A plan of one table with an ante, a fixed limit and three prizes.
+const ANTE_AND_LIMIT: &str = "game holdem
+tables 1
+seats 6
+stack 1000
+buyin 100
+late 1
+blinds 100 200 100 200
+shares 500 300 200
+limit 2
+go
+";
+
+/// A plan of one table with three prizes.
+const THREE_PRIZES: &str = "game holdem
+tables 1
+seats 6
+stack 1000
+buyin 100
+late 1
+blinds 100 200 100
+shares 500 300 200
+go
+";
+
 pub const BOOK_SCRIPTS: &[BookScript] = &[
     BookScript {
         name: "entries, hands of folds and a hand that is void at the stop",
@@ -202,6 +227,106 @@ settle 1
 * seat 1 2 cat 1000
 * seat 2 1 bob 800
 * seat 2 2 dan 1200
+* end
+",
+    },
+    BookScript {
+        name: "a re-entry, to the end",
+        plan: THREE_PRIZES,
+        parts: &[
+            THREE,
+            // The board is 3s 4c 4d 4s 5d; bob has 2c As, a straight, and cat Ah 3c, fours full.
+            "\
+begin 1 2cAh2hAs3c3d3h3s4c4d4h4s5c5d5h5s6c6d6h6s7c7d7h7s8c8d8h8s9c9d9h9sTcTdThTsJcJdJhJsQcQdQhQsKcKdKhKsAcAd2d2s
+act 1 ann fold
+act 1 bob allin
+act 1 cat call
+settle 1
+",
+            "enter bob 1 4 : no 6 NameKnown
+reenter dan 1 2 : no 7 NameUnknown
+reenter bob 2 1 : no 8 NoTable
+reenter bob 1 7 : no 9 NoSeat
+reenter bob 1 6 : no 10 SeatTaken
+reenter cat 1 2 : no 45 StillIn
+reenter bob 1 4
+reenter bob 1 4 : no 10 SeatTaken
+",
+            // Button, small and big blind are bob, cat and ann: cat has Ah 3c on the same board, fours full, and ann
+            // 2c As, a straight.
+            "\
+begin 1 Ah2c2h3cAs3d3h3s4c4d4h4s5c5d5h5s6c6d6h6s7c7d7h7s8c8d8h8s9c9d9h9sTcTdThTsJcJdJhJsQcQdQhQsKcKdKhKsAcAd2d2s
+act 1 bob fold
+act 1 cat allin
+act 1 ann call
+settle 1
+",
+            // The board is 3d 3h 3s 4d 4s; cat, who has the button, has 2c 3c and bob Ah 2h: fours of threes.
+            "\
+begin 1 Ah2c2h3cAs3d3h3s4c4d4h4s5c5d5h5s6c6d6h6s7c7d7h7s8c8d8h8s9c9d9h9sTcTdThTsJcJdJhJsQcQdQhQsKcKdKhKsAcAd2d2s
+act 1 cat allin
+act 1 bob call
+settle 1
+",
+            "reenter ann 1 1 : no 43 Over
+reenter cat 1 1 : no 43 Over
+",
+        ],
+        over: true,
+        report: "* report
+* level 1
+* sold 4000
+* removed 0
+* added 0
+* rest 4000
+* play 0
+* seat 1 6 cat 4000
+* out 1 cat 200
+* out 2 bob 120
+* out 3 ann 80
+* end
+",
+    },
+    BookScript {
+        name: "a hand with an ante by fixed limit, and one that is void at the stop",
+        plan: ANTE_AND_LIMIT,
+        parts: &[
+            THREE,
+            // The board is 3s 4c 4d 4s 5d; bob has 2c 2s, cat 2d 3c and ann 2h 3d. cat and ann share 1400, of which bob
+            // paid 400 and the ante is 200.
+            "\
+begin 1 2c2d2h2s3c3d3h3s4c4d4h4s5c5d5h5s6c6d6h6s7c7d7h7s8c8d8h8s9c9d9h9sTcTdThTsJcJdJhJsQcQdQhQsKcKdKhKsAcAdAhAs
+act 1 ann raise 400
+act 1 bob call
+act 1 cat call
+act 1 bob check
+act 1 cat check
+act 1 ann check
+act 1 bob check
+act 1 cat check
+act 1 ann check
+act 1 bob check
+act 1 cat check
+act 1 ann check
+settle 1
+",
+            "\
+begin 1 2c2d2h2s3c3d3h3s4c4d4h4s5c5d5h5s6c6d6h6s7c7d7h7s8c8d8h8s9c9d9h9sTcTdThTsJcJdJhJsQcQdQhQsKcKdKhKsAcAdAhAs
+act 1 bob raise 400
+stop
+",
+        ],
+        over: false,
+        report: "* report
+* level 1
+* sold 3000
+* removed 0
+* added 0
+* rest 3000
+* play 0
+* seat 1 1 ann 1300
+* seat 1 4 bob 600
+* seat 1 6 cat 1100
 * end
 ",
     },

@@ -82,6 +82,7 @@ fn order(book: &mut Book, event: &Event) -> Option<Answer> {
     }
     match event {
         Event::Enter { .. }
+        | Event::Reenter { .. }
         | Event::Balance { .. }
         | Event::Break { .. }
         | Event::Level

@@ -5,7 +5,7 @@ use betting_round::Act;
 use card_set::{Card, Game};
 use floor_events::{read_act, read_item, write_answer, write_event, write_report};
 use floor_text::{List, Name, Refusal, read_number};
-use level_plan::{PlanItem, PlanLine};
+use level_plan::{Blind, PlanItem, PlanLine};
 use seat_book::Place;
 use std::alloc::{AllocError, Global};
 use tournament_events::{Answer, Event, Item, Report, ReportOut, ReportSeat};
@@ -39,15 +39,33 @@ tables\t6
 tables six
 tables 9007199254740992
 blinds 50 100
-blinds 50 100 50 25
 blinds 50 100 050
+blinds 50 100 50 0
+blinds 50 100 50 025
+blinds 50 100 50 25 25
+blinds 50 100 50 -25
+blinds 50 100 50\x20
 shares
 shares 500 x
+limit
+limit 04
+limit four
+limit 4 4
+limit 4\x20
+Limit 4
 enter ann 1
 enter ann 1 2 3
 enter floor 1 2
 enter 1ann 1 2
 enter abcdefghijklmnopq 1 2
+reenter
+reenter ann 1
+reenter ann 1 2 3
+reenter ann 01 2
+reenter ann 1 2\x20
+reenter floor 1 2
+reenter 1ann 1 2
+re-enter ann 1 2
 begin 1
 begin 1 2c
 act 1 ann
@@ -178,9 +196,16 @@ buyin 0 : buyin 0
 buyin 1000 : buyin 1000
 late 3 : late 3
 blinds 50 100 25 : blinds 50 100 25
+blinds 50 100 25 1 : blinds 50 100 25 1
+blinds 0 0 0 9007199254740991 : blinds 0 0 0 9007199254740991
 shares 500 300 200 : shares 3
+limit 0 : limit 0
+limit 4 : limit 4
+limit 10 : limit 10
 go : go
 enter Ann_01 0 64 : enter Ann_01 0 64
+reenter Ann_01 0 64 : reenter Ann_01 0 64
+reenter bob 9007199254740991 0 : reenter bob 9007199254740991 0
 begin 1 2c2d2h2s3c3d3h3s4c4d4h4s5c5d5h5s6c6d6h6s7c7d7h7s8c8d8h8s9c9d9h9sTcTdThTsJcJdJhJsQcQdQhQsKcKdKhKsAcAdAhAs : begin 1 2 0 14 3
 begin 1 As2d2h2s3c3d3h3s4c4d4h4s5c5d5h5s6c6d6h6s7c7d7h7s8c8d8h8s9c9d9h9sTcTdThTsJcJdJhJsQcQdQhQsKcKdKhKsAcAdAhAs : begin 1 14 3 14 3
 act 12 ann fold : act ann 12 0
@@ -256,6 +281,14 @@ pub fn is_told(told: &Telling<'_>, text: &str) -> bool {
     is_same(told.word, word.as_bytes()) && is_same(told.name, name) && told.numbers == numbers
 }
 
+/// Tells a level.
+fn told_level(blind: &Blind) -> Telling<'static> {
+    said(
+        "blinds",
+        [blind.small, blind.big, blind.unit, blind.ante, 0],
+    )
+}
+
 /// Tells a line of a plan.
 fn told_plan(line: &PlanLine) -> Telling<'static> {
     match line {
@@ -267,8 +300,9 @@ fn told_plan(line: &PlanLine) -> Telling<'static> {
         PlanLine::Stack(number) => said("stack", [*number, 0, 0, 0, 0]),
         PlanLine::Buyin(number) => said("buyin", [*number, 0, 0, 0, 0]),
         PlanLine::Late(number) => said("late", [*number, 0, 0, 0, 0]),
-        PlanLine::Blinds(blind) => said("blinds", [blind.small, blind.big, blind.unit, 0, 0]),
+        PlanLine::Blinds(blind) => told_level(blind),
         PlanLine::Shares(shares) => said("shares", [shares.items().len() as u64, 0, 0, 0, 0]),
+        PlanLine::Limit(number) => said("limit", [*number, 0, 0, 0, 0]),
     }
 }
 
@@ -301,6 +335,7 @@ fn told(event: &Event) -> Telling<'_> {
         Event::Plan(line) => told_plan(line),
         Event::Go => said("go", [0; 5]),
         Event::Enter { name, table, seat } => said_of("enter", name, [*table, *seat, 0, 0, 0]),
+        Event::Reenter { name, table, seat } => said_of("reenter", name, [*table, *seat, 0, 0, 0]),
         Event::Begin { table, row } => {
             said("begin", told_row(*table, row.cards[0], row.cards[51]))
         }
@@ -472,14 +507,19 @@ fn shares_are_at_most_64_and_lines_400_bytes(rt: HostRuntime) {
 }
 
 /// Answers, and what is written of them.
-static ANSWERS: [(Answer, &[u8]); 5] = [
+static ANSWERS: [(Answer, &[u8]); 7] = [
     (Answer::Ok, b"ok\n"),
     (Answer::No(Refusal::Syntax), b"no 1 Syntax\n"),
     (Answer::No(Refusal::NotTurn), b"no 21 NotTurn\n"),
     (Answer::No(Refusal::ListFull), b"no 44 ListFull\n"),
+    (Answer::No(Refusal::StillIn), b"no 45 StillIn\n"),
     (
         Answer::PlanWrong(PlanItem::Seats),
         b"no 4 PlanWrong seats\n",
+    ),
+    (
+        Answer::PlanWrong(PlanItem::Limit),
+        b"no 4 PlanWrong limit\n",
     ),
 ];
 

@@ -3,10 +3,12 @@
 use super::plan::is_plan;
 use super::texts::{is_same, text_of};
 use card_set::Game;
+use floor_events::write_event;
 use floor_text::{MemSource, Name};
 use level_plan::{Plan, PlanDraft, PlanFault, PlanItem};
 use plan_files::{WholeEnd, Words, plan_from_toml, plan_lines, read_whole, served_from_toml};
 use std::alloc::{AllocError, Global};
+use tournament_events::Event;
 
 /// The lines of a right plan file, each with its key.
 const LINES: [(&str, &[u8]); 10] = [
@@ -54,6 +56,10 @@ tables : tables = 0x40 -> right
 buyin : buyin = 0 -> right
 late : late = 4 -> right
 late : late = 6 -> right
+blinds : blinds = [[25, 50, 25, 25], [50, 100, 25, 100]] -> right
+blinds : blinds = [[25, 50, 25], [50, 100, 25, 1_000_000_000], [50, 100, 25]] -> right
+late : late = 2|limit = 1 -> right
+late : late = 2|limit = 9 -> right
 shares : shares = [ 1000, ] -> right
 tables : tables = 3|title = \"Friday\"|host.name = 'Ann' -> right
 tables : tables = 3 # of the side room -> right
@@ -98,6 +104,11 @@ blinds : blinds = [25, 50, 25] -> blinds
 blinds : blinds = [[]] -> blinds
 blinds : blinds = [[25, 50]] -> blinds
 blinds : blinds = [[25, 50, 25, 0]] -> blinds
+blinds : blinds = [[25, 50, 25, 30], [50, 100, 25]] -> blinds
+blinds : blinds = [[25, 50, 25], [50, 100, 25, -25]] -> blinds
+blinds : blinds = [[25, 50, 25, 1_000_000_025]] -> blinds
+blinds : blinds = [[25, 50, 25, \"25\"]] -> blinds
+blinds : blinds = [[25, 50, 25, 25, 25]] -> blinds
 blinds : blinds = [[25, 50, \"25\"]] -> blinds
 blinds : blinds = [[25, 50, 25], 100] -> blinds
 blinds : blinds = [[25, -50, 25]] -> blinds
@@ -110,6 +121,19 @@ shares : shares = [500, \"500\"] -> shares
 shares : shares = [500, 501] -> shares
 shares : shares = [-1000] -> shares
 shares : shares = [1001] -> shares
+late : late = 2|limit = 0 -> limit
+late : late = 2|limit = 10 -> limit
+late : late = 2|limit = -4 -> limit
+late : late = 2|limit = \"4\" -> limit
+late : late = 2|limit = 4.0 -> limit
+late : late = 2|limit = [4] -> limit
+late : late = 2|limit.cap = 4 -> limit
+shares : limit = 0|shares = [1001] -> shares
+game : limit = 0|game = \"\" -> game
+late : limit = 0|late = 7 -> limit
+stack : limit = 0|stack = 10010 -> limit
+late : late = 2|limit = 4|limit = 4 -> toml
+late : late = 7|limit = 4 -> late
 late : late = 7 -> late
 stack : stack = 10010 -> stack
 late : late = -> toml
@@ -150,6 +174,8 @@ words : words = { 1ann = \"a1\" } -> words
 words : words = { \"ann b\" = \"a1\" } -> words
 words : words = { abcdefghijklmnopq = \"a1\" } -> words
 stack : stack = 10010 -> stack
+floor_word : limit = 0 -> limit
+words : limit = 4 -> words
 ";
 
 /// Names what is wrong in a file.
@@ -167,6 +193,7 @@ fn named(fault: Option<PlanFault>) -> &'static str {
             PlanItem::Late => "late",
             PlanItem::Blinds => "blinds",
             PlanItem::Shares => "shares",
+            PlanItem::Limit => "limit",
             PlanItem::FloorWord => "floor_word",
             PlanItem::Words => "words",
         },
@@ -357,6 +384,48 @@ fn is_read(alloc: Global) -> Result<bool, AllocError> {
 #[test]
 fn a_right_file_gives_its_plan_and_words_and_its_lines_make_it_again(rt: HostRuntime) {
     assert!(rt; is_read(rt.alloc()).unwrap_or(false));
+}
+
+/// A plan file with an ante at the second level and a fixed limit.
+const ANTE_AND_LIMIT: &str = "limit = 4
+game = \"omaha\"
+tables = 3
+seats = 9
+stack = 10000
+buyin = 200
+late = 2
+blinds = [[25, 50, 25], [50, 100, 25, 100]]
+shares = [500, 300, 200]
+";
+
+/// The lines of its plan.
+const ITS_LINES: &str = "game omaha
+tables 3
+seats 9
+stack 10000
+buyin 200
+late 2
+blinds 25 50 25
+blinds 50 100 25 100
+shares 500 300 200
+limit 4
+";
+
+/// Writes the lines of the plan of a file, a line feed behind each.
+fn lines_written(alloc: Global, file: &[u8]) -> Result<Vec<u8>, PlanFault> {
+    let plan = plan_from_toml(alloc, file)?;
+    let mut text = Vec::new(alloc);
+    for line in plan_lines(alloc, &plan)? {
+        write_event(&Event::Plan(line), &mut text)?;
+        text.push(b'\n')?;
+    }
+    Ok(text)
+}
+
+#[test]
+fn the_limit_is_the_last_line_of_a_plan(rt: HostRuntime) {
+    let written = lines_written(rt.alloc(), ANTE_AND_LIMIT.as_bytes());
+    assert!(rt; written.is_ok_and(|text| is_same(&text, ITS_LINES.as_bytes())));
 }
 
 /// So many bytes, which call fails, how many bytes may be read at the most, and what is read.

@@ -8,6 +8,7 @@
 //! | `plan.rt`, `files.rt` | plans line by line, and plan files |
 //! | `link.rt` | links, doors and halls, in memory and over TCP |
 //! | `refusals.rt`, `faults.rt` | runs over memory that are refused, and runs in which a call fails |
+//! | `replays.rt` | whole runs with antes, fixed limit and re-entries |
 //! | `outside.rt` | a source and a sink of somebody's own |
 //! | `books.rt` | a book by hand beside a tournament, by the scripts of `book_scripts.rt` |
 //!
@@ -39,6 +40,8 @@ mod plan;
 mod plans;
 #[cfg(test)]
 mod refusals;
+#[cfg(test)]
+mod replays;
 #[cfg(test)]
 mod runs;
 #[cfg(test)]

@@ -5,6 +5,17 @@ use floor_text::List;
 use level_plan::{Blind, Plan, PlanDraft, PlanFault, PlanItem, PlanLine};
 use std::alloc::{AllocError, Global};
 
+/// Gives the line of a level.
+fn blinds(numbers: [u64; 4]) -> PlanLine {
+    let [small, big, unit, ante] = numbers;
+    PlanLine::Blinds(Blind {
+        small,
+        big,
+        unit,
+        ante,
+    })
+}
+
 /// Gives the line that sets an item to these numbers. That of the game sets Omaha, and hi-lo where there is a number.
 fn line(alloc: Global, item: PlanItem, numbers: &[u64]) -> Result<PlanLine, AllocError> {
     Ok(match (item, numbers) {
@@ -13,11 +24,9 @@ fn line(alloc: Global, item: PlanItem, numbers: &[u64]) -> Result<PlanLine, Allo
         (PlanItem::Stack, [number]) => PlanLine::Stack(*number),
         (PlanItem::Buyin, [number]) => PlanLine::Buyin(*number),
         (PlanItem::Late, [number]) => PlanLine::Late(*number),
-        (PlanItem::Blinds, [small, big, unit]) => PlanLine::Blinds(Blind {
-            small: *small,
-            big: *big,
-            unit: *unit,
-        }),
+        (PlanItem::Blinds, [small, big, unit]) => blinds([*small, *big, *unit, 0]),
+        (PlanItem::Blinds, [small, big, unit, ante]) => blinds([*small, *big, *unit, *ante]),
+        (PlanItem::Limit, [number]) => PlanLine::Limit(*number),
         (PlanItem::Shares, _) => PlanLine::Shares(List::from_vec(Vec::from_slice(alloc, numbers)?)),
         (_, []) => PlanLine::Game(Game::Omaha),
         _ => PlanLine::Game(Game::Hilo),
@@ -25,7 +34,7 @@ fn line(alloc: Global, item: PlanItem, numbers: &[u64]) -> Result<PlanLine, Allo
 }
 
 /// So many levels of the unit 100 before a line, the line, and whether a draft takes it and then takes it again.
-static LINES: [(u64, PlanItem, &[u64], bool, bool); 54] = [
+static LINES: [(u64, PlanItem, &[u64], bool, bool); 68] = [
     // an item is given once, and numbers have their bounds
     (0, PlanItem::Game, &[8], true, false),
     (0, PlanItem::Tables, &[0], false, false),
@@ -74,6 +83,28 @@ static LINES: [(u64, PlanItem, &[u64], bool, bool); 54] = [
         false,
         false,
     ),
+    // an ante is a multiple of the unit too, and may be greater than the blinds
+    (0, PlanItem::Blinds, &[100, 200, 100, 0], true, true),
+    (0, PlanItem::Blinds, &[100, 200, 100, 100], true, true),
+    (0, PlanItem::Blinds, &[100, 200, 100, 200], true, true),
+    (0, PlanItem::Blinds, &[100, 200, 100, 600], true, true),
+    (0, PlanItem::Blinds, &[100, 200, 100, 50], false, false),
+    (0, PlanItem::Blinds, &[100, 200, 100, 250], false, false),
+    (
+        0,
+        PlanItem::Blinds,
+        &[25, 50, 25, 1_000_000_000],
+        true,
+        true,
+    ),
+    (
+        0,
+        PlanItem::Blinds,
+        &[25, 50, 25, 1_000_000_025],
+        false,
+        false,
+    ),
+    (0, PlanItem::Blinds, &[1, 2, 1, u64::MAX], false, false),
     // a unit is one to six times the last, and there are 40 levels at the most
     (1, PlanItem::Blinds, &[100, 200, 100], true, true),
     (1, PlanItem::Blinds, &[200, 400, 200], true, true),
@@ -96,6 +127,12 @@ static LINES: [(u64, PlanItem, &[u64], bool, bool); 54] = [
     (0, PlanItem::Shares, &[u64::MAX, u64::MAX], false, false),
     (0, PlanItem::Shares, &[15; 64], true, false),
     (0, PlanItem::Shares, &[15; 65], false, false),
+    // a street has 1 to 9 wagers
+    (0, PlanItem::Limit, &[0], false, false),
+    (0, PlanItem::Limit, &[1], true, false),
+    (0, PlanItem::Limit, &[9], true, false),
+    (0, PlanItem::Limit, &[10], false, false),
+    (0, PlanItem::Limit, &[u64::MAX], false, false),
 ];
 
 /// Tells whether a draft takes a line, or not, as a row says.
@@ -121,14 +158,16 @@ fn lines_are_held_to_their_bounds_and_items_are_given_once(rt: HostRuntime) {
     }
 }
 
-/// The lines of a plan but for its stack and its last level to enter at: two levels, of the units 25 and 100.
-static PLAN: [(PlanItem, &[u64]); 7] = [
+/// The lines of a plan but for its stack and its last level to enter at: two levels, of the units 25 and 100, of which
+/// the second has an ante.
+static PLAN: [(PlanItem, &[u64]); 8] = [
+    (PlanItem::Limit, &[4]),
     (PlanItem::Game, &[]),
     (PlanItem::Tables, &[3]),
     (PlanItem::Seats, &[9]),
     (PlanItem::Buyin, &[200]),
     (PlanItem::Blinds, &[25, 50, 25]),
-    (PlanItem::Blinds, &[100, 200, 100]),
+    (PlanItem::Blinds, &[100, 200, 100, 300]),
     (PlanItem::Shares, &[500, 300, 200]),
 ];
 
@@ -163,7 +202,7 @@ fn plan_but(
 }
 
 /// A missing item, the stack and the last level to enter at, and the item that the end of the plan names.
-static ENDS: [(Option<PlanItem>, u64, u64, Option<PlanItem>); 13] = [
+static ENDS: [(Option<PlanItem>, u64, u64, Option<PlanItem>); 14] = [
     (Some(PlanItem::Game), 10_050, 3, Some(PlanItem::Game)),
     (Some(PlanItem::Tables), 10_050, 3, Some(PlanItem::Tables)),
     (Some(PlanItem::Seats), 10_050, 3, Some(PlanItem::Seats)),
@@ -172,6 +211,7 @@ static ENDS: [(Option<PlanItem>, u64, u64, Option<PlanItem>); 13] = [
     (Some(PlanItem::Late), 10_050, 3, Some(PlanItem::Late)),
     (Some(PlanItem::Blinds), 10_050, 3, Some(PlanItem::Blinds)),
     (Some(PlanItem::Shares), 10_050, 3, Some(PlanItem::Shares)),
+    (Some(PlanItem::Limit), 10_050, 1, None),
     (None, 10_050, 1, None),
     (None, 10_050, 2, Some(PlanItem::Stack)),
     (None, 10_100, 2, None),
@@ -205,9 +245,18 @@ pub fn is_plan(plan: &Plan, game: Game, units: &[u64]) -> bool {
         && plan.shares.items() == [500, 300, 200].as_slice()
 }
 
-/// Tells whether the right plan is given back.
+/// Tells whether a plan of two levels has this cap, and no ante at the first and 300 at the second.
+fn has_cap(plan: &Plan, cap: u64) -> bool {
+    let antes = plan.blinds.items().iter().map(|blind| blind.ante);
+    is_plan(plan, Game::Omaha, &[25, 100]) && plan.cap == cap && antes.eq([0, 300].iter().copied())
+}
+
+/// Tells whether the right plan is given back, with the limit and without it.
 fn is_right(alloc: Global) -> Result<bool, PlanFault> {
-    Ok(is_plan(&plan_but(alloc, None, 10_000, 2)?, Game::Omaha, &[25, 100]))
+    Ok(
+        has_cap(&plan_but(alloc, None, 10_000, 2)?, 4)
+            && has_cap(&plan_but(alloc, Some(PlanItem::Limit), 10_000, 2)?, 0),
+    )
 }
 
 #[test]

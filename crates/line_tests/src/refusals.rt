@@ -56,7 +56,7 @@ fn words_that_are_no_command_touch_nothing(rt: HostRuntime) {
 }
 
 /// How a line of the plan begins, the line in its place, and what is told then.
-static LINES: [(&str, &str, &str); 10] = [
+static LINES: [(&str, &str, &str); 12] = [
     ("seats", "seats = = 9", "plan toml\n"),
     ("game", "game = \"stud\"", "plan game\n"),
     ("tables", "tables = 0", "plan tables\n"),
@@ -65,7 +65,9 @@ static LINES: [(&str, &str, &str); 10] = [
     ("buyin", "buyin = -1", "plan buyin\n"),
     ("late", "late = 7", "plan late\n"),
     ("blinds", "blinds = []", "plan blinds\n"),
+    ("blinds", "blinds = [[25, 50, 25, 10]]", "plan blinds\n"),
     ("shares", "shares = { first = 1000 }", "plan shares\n"),
+    ("late", "limit = 0\nlate = 7", "plan limit\n"),
     ("stack", "stack = 10010", "plan stack\n"),
 ];
 

@@ -245,5 +245,5 @@ fn words_are_read(rt: HostRuntime) {
 #[test]
 fn refusals_have_their_numbers_and_names(rt: HostRuntime) {
     refusals_are_told_apart();
-    assert!(rt; Refusal::ListFull.number() == 44 && Refusal::Syntax.name() == "Syntax");
+    assert!(rt; Refusal::StillIn.number() == 45 && Refusal::StillIn.name() == "StillIn");
 }

@@ -323,7 +323,7 @@ fn awards(row: &AwardRow) -> Option<[u64; 10]> {
         && 1 <= button
         && button <= 10
     {
-        Some(award(&pots(&puts), &live, board, game, 100, button, 10))
+        Some(award(&pots(&puts, 0), &live, board, game, 100, button, 10))
     } else {
         None
     }

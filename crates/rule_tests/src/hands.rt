@@ -1,6 +1,6 @@
 //! Hands, act by act.
 
-use crate::dealt::{Dealt, deal, deck_of};
+use crate::dealt::{Dealt, Stakes, deal, deck_of};
 use crate::rows::are_right_in;
 use betting_round::{Act, Done};
 use card_set::{Deck, Game};
@@ -358,6 +358,296 @@ static HANDS: [HandScript; 16] = [
     },
 ];
 
+/// An ante of 200 at a unit of 100.
+const ANTE: Stakes = Stakes {
+    unit: 100,
+    ante: 200,
+    cap: 0,
+};
+
+/// Hands with an ante, which cat posts after her big blind. The board is 3s 4c 4d 4s 5d; cat has 2d 3c and ann 2h 3d,
+/// who tie, and bob has 2c 2s, which is less.
+static WITH_ANTE: [HandScript; 6] = [
+    // everyone folds: cat wins 500
+    HandScript {
+        dealt: Dealt::Staked(ANTE, 1000, 1000, 1000),
+        game: Game::Holdem,
+        deck: SORTED,
+        acts: &[
+            (b"ann", Some(Act::Fold), Ok(Done::Folded)),
+            (b"bob", Some(Act::Fold), Ok(Done::Folded)),
+        ],
+        is_over: true,
+        is_won_by_folds: true,
+        stacks: &[1000, 900, 1100],
+    },
+    // everyone calls: 800 are split, and the ante is no part of what has to be met
+    HandScript {
+        dealt: Dealt::Staked(ANTE, 1000, 1000, 1000),
+        game: Game::Holdem,
+        deck: SORTED,
+        acts: &[
+            (b"ann", Some(Act::Call), Ok(Done::Called(200))),
+            (b"bob", Some(Act::Call), Ok(Done::Called(100))),
+            (b"cat", Some(Act::Check), Ok(Done::Checked)),
+            (b"bob", Some(Act::Check), Ok(Done::Checked)),
+            (b"cat", Some(Act::Bet(700)), Err(Refusal::PastStack)),
+            (b"cat", Some(Act::Check), Ok(Done::Checked)),
+            (b"ann", Some(Act::Check), Ok(Done::Checked)),
+            (b"bob", Some(Act::Check), Ok(Done::Checked)),
+            (b"cat", Some(Act::Check), Ok(Done::Checked)),
+            (b"ann", Some(Act::Check), Ok(Done::Checked)),
+            (b"bob", Some(Act::Check), Ok(Done::Checked)),
+            (b"cat", Some(Act::Check), Ok(Done::Checked)),
+            (b"ann", Some(Act::Check), Ok(Done::Checked)),
+        ],
+        is_over: true,
+        is_won_by_folds: false,
+        stacks: &[1200, 800, 1000],
+    },
+    // 300 are a blind of 200 and an ante of 100: of the 700 of all cat has 400, for she is the first after the button
+    HandScript {
+        dealt: Dealt::Staked(ANTE, 1000, 1000, 300),
+        game: Game::Holdem,
+        deck: SORTED,
+        acts: &[
+            (b"ann", Some(Act::Raise(600)), Ok(Done::RaisedTo(600))),
+            (b"bob", Some(Act::Call), Ok(Done::Called(500))),
+            (b"cat", Some(Act::Check), Err(Refusal::NotTurn)),
+            (b"bob", Some(Act::Check), Ok(Done::Checked)),
+            (b"ann", Some(Act::Check), Ok(Done::Checked)),
+            (b"bob", Some(Act::Check), Ok(Done::Checked)),
+            (b"ann", Some(Act::Check), Ok(Done::Checked)),
+            (b"bob", Some(Act::Check), Ok(Done::Checked)),
+            (b"ann", Some(Act::Check), Ok(Done::Checked)),
+        ],
+        is_over: true,
+        is_won_by_folds: false,
+        stacks: &[1500, 400, 400],
+    },
+    // 200 are the blind alone: of the 600 of all cat has 300
+    HandScript {
+        dealt: Dealt::Staked(ANTE, 1000, 1000, 200),
+        game: Game::Holdem,
+        deck: SORTED,
+        acts: &[
+            (b"ann", Some(Act::Raise(600)), Ok(Done::RaisedTo(600))),
+            (b"bob", Some(Act::Call), Ok(Done::Called(500))),
+            (b"bob", Some(Act::Bet(400)), Ok(Done::BetTo(400))),
+            (b"ann", Some(Act::AllIn), Ok(Done::Called(400))),
+        ],
+        is_over: true,
+        is_won_by_folds: false,
+        stacks: &[1900, 0, 300],
+    },
+    // who is all-in by the ante is not due: the hand is over once bob has called
+    HandScript {
+        dealt: Dealt::Staked(ANTE, 1000, 1000, 300),
+        game: Game::Holdem,
+        deck: SORTED,
+        acts: &[
+            (b"ann", Some(Act::Fold), Ok(Done::Folded)),
+            (b"bob", Some(Act::Call), Ok(Done::Called(100))),
+            (b"bob", Some(Act::Check), Err(Refusal::HandOver)),
+        ],
+        is_over: true,
+        is_won_by_folds: false,
+        stacks: &[1000, 800, 500],
+    },
+    // the pot bounds a raise without the ante, and a bet on the flop with it
+    HandScript {
+        dealt: Dealt::Staked(ANTE, 5000, 5000, 5000),
+        game: Game::Omaha,
+        deck: SORTED,
+        acts: &[
+            (b"ann", Some(Act::Raise(800)), Err(Refusal::PastPot)),
+            (b"ann", Some(Act::Raise(700)), Ok(Done::RaisedTo(700))),
+            (b"bob", Some(Act::Fold), Ok(Done::Folded)),
+            (b"cat", Some(Act::Call), Ok(Done::Called(500))),
+            (b"cat", Some(Act::Bet(1800)), Err(Refusal::PastPot)),
+            (b"cat", Some(Act::Bet(1700)), Ok(Done::BetTo(1700))),
+        ],
+        is_over: false,
+        is_won_by_folds: false,
+        stacks: &[],
+    },
+];
+
+/// Four wagers a street at a unit of 100.
+pub const FOUR_WAGERS: Stakes = Stakes {
+    unit: 100,
+    ante: 0,
+    cap: 4,
+};
+
+/// Four wagers a street at a unit of 10.
+const SMALL_UNIT: Stakes = Stakes {
+    unit: 10,
+    ante: 0,
+    cap: 4,
+};
+
+/// One wager a street at a unit of 100, and an ante.
+const ONE_WAGER: Stakes = Stakes {
+    unit: 100,
+    ante: 100,
+    cap: 1,
+};
+
+/// Hands by fixed limit.
+static BY_FIXED_LIMIT: [HandScript; 7] = [
+    // the big blind is a wager: three raises before the flop, and bets twice as great from the turn on
+    HandScript {
+        dealt: Dealt::Staked(FOUR_WAGERS, 5000, 5000, 5000),
+        game: Game::Holdem,
+        deck: SORTED,
+        acts: &[
+            (b"ann", Some(Act::Raise(300)), Err(Refusal::TooSmall)),
+            (b"ann", Some(Act::Raise(500)), Err(Refusal::PastPot)),
+            (b"ann", Some(Act::AllIn), Err(Refusal::PastPot)),
+            (b"ann", Some(Act::Raise(400)), Ok(Done::RaisedTo(400))),
+            (b"bob", Some(Act::Raise(600)), Ok(Done::RaisedTo(600))),
+            (b"cat", Some(Act::Raise(800)), Ok(Done::RaisedTo(800))),
+            (b"ann", Some(Act::Raise(1000)), Err(Refusal::PastPot)),
+            (b"ann", Some(Act::AllIn), Err(Refusal::PastPot)),
+            (b"ann", Some(Act::Call), Ok(Done::Called(400))),
+            (b"bob", Some(Act::Call), Ok(Done::Called(200))),
+            // On the flop.
+            (b"bob", Some(Act::Bet(400)), Err(Refusal::PastPot)),
+            (b"bob", Some(Act::Check), Ok(Done::Checked)),
+            (b"cat", Some(Act::Check), Ok(Done::Checked)),
+            (b"ann", Some(Act::Check), Ok(Done::Checked)),
+            // On the turn.
+            (b"bob", Some(Act::Bet(200)), Err(Refusal::TooSmall)),
+            (b"bob", Some(Act::Bet(500)), Err(Refusal::PastPot)),
+            (b"bob", Some(Act::Bet(400)), Ok(Done::BetTo(400))),
+            (b"cat", Some(Act::Raise(800)), Ok(Done::RaisedTo(800))),
+            (b"ann", Some(Act::Raise(1200)), Ok(Done::RaisedTo(1200))),
+            (b"bob", Some(Act::Raise(1600)), Ok(Done::RaisedTo(1600))),
+            (b"cat", Some(Act::Raise(2000)), Err(Refusal::PastPot)),
+        ],
+        is_over: false,
+        is_won_by_folds: false,
+        stacks: &[],
+    },
+    // an all-in by less than half of a bet does not reopen
+    HandScript {
+        dealt: Dealt::Staked(SMALL_UNIT, 5000, 5000, 490),
+        game: Game::Holdem,
+        deck: SORTED,
+        acts: &[
+            (b"ann", Some(Act::Call), Ok(Done::Called(200))),
+            (b"bob", Some(Act::Call), Ok(Done::Called(100))),
+            (b"cat", Some(Act::Check), Ok(Done::Checked)),
+            (b"bob", Some(Act::Bet(200)), Ok(Done::BetTo(200))),
+            (b"cat", Some(Act::AllIn), Ok(Done::RaisedTo(290))),
+            (b"ann", Some(Act::Call), Ok(Done::Called(290))),
+            (b"bob", Some(Act::Raise(490)), Err(Refusal::NotReopened)),
+            (b"bob", Some(Act::Call), Ok(Done::Called(90))),
+        ],
+        is_over: false,
+        is_won_by_folds: false,
+        stacks: &[],
+    },
+    // one by half of a bet does
+    HandScript {
+        dealt: Dealt::Staked(SMALL_UNIT, 5000, 5000, 500),
+        game: Game::Holdem,
+        deck: SORTED,
+        acts: &[
+            (b"ann", Some(Act::Call), Ok(Done::Called(200))),
+            (b"bob", Some(Act::Call), Ok(Done::Called(100))),
+            (b"cat", Some(Act::Check), Ok(Done::Checked)),
+            (b"bob", Some(Act::Bet(200)), Ok(Done::BetTo(200))),
+            (b"cat", Some(Act::AllIn), Ok(Done::RaisedTo(300))),
+            (b"ann", Some(Act::Call), Ok(Done::Called(300))),
+            (b"bob", Some(Act::Raise(490)), Err(Refusal::TooSmall)),
+            (b"bob", Some(Act::Raise(500)), Ok(Done::RaisedTo(500))),
+        ],
+        is_over: false,
+        is_won_by_folds: false,
+        stacks: &[],
+    },
+    // an all-in by less than half of a bet is no wager
+    HandScript {
+        dealt: Dealt::Staked(SMALL_UNIT, 5000, 690, 5000),
+        game: Game::Holdem,
+        deck: SORTED,
+        acts: &[
+            (b"ann", Some(Act::Raise(400)), Ok(Done::RaisedTo(400))),
+            (b"bob", Some(Act::Raise(600)), Ok(Done::RaisedTo(600))),
+            (b"cat", Some(Act::Call), Ok(Done::Called(400))),
+            (b"ann", Some(Act::Call), Ok(Done::Called(200))),
+            (b"bob", Some(Act::AllIn), Ok(Done::BetTo(90))),
+            (b"cat", Some(Act::Raise(290)), Ok(Done::RaisedTo(290))),
+            (b"ann", Some(Act::Raise(490)), Ok(Done::RaisedTo(490))),
+            (b"cat", Some(Act::Raise(690)), Ok(Done::RaisedTo(690))),
+            (b"ann", Some(Act::Raise(890)), Ok(Done::RaisedTo(890))),
+            (b"cat", Some(Act::Raise(1090)), Err(Refusal::PastPot)),
+        ],
+        is_over: false,
+        is_won_by_folds: false,
+        stacks: &[],
+    },
+    // one by half of a bet is a wager
+    HandScript {
+        dealt: Dealt::Staked(SMALL_UNIT, 5000, 700, 5000),
+        game: Game::Holdem,
+        deck: SORTED,
+        acts: &[
+            (b"ann", Some(Act::Raise(400)), Ok(Done::RaisedTo(400))),
+            (b"bob", Some(Act::Raise(600)), Ok(Done::RaisedTo(600))),
+            (b"cat", Some(Act::Call), Ok(Done::Called(400))),
+            (b"ann", Some(Act::Call), Ok(Done::Called(200))),
+            (b"bob", Some(Act::AllIn), Ok(Done::BetTo(100))),
+            (b"cat", Some(Act::Raise(300)), Ok(Done::RaisedTo(300))),
+            (b"ann", Some(Act::Raise(500)), Ok(Done::RaisedTo(500))),
+            (b"cat", Some(Act::Raise(700)), Ok(Done::RaisedTo(700))),
+            (b"ann", Some(Act::Raise(900)), Err(Refusal::PastPot)),
+        ],
+        is_over: false,
+        is_won_by_folds: false,
+        stacks: &[],
+    },
+    // with one wager nobody raises before the flop, and the ante is none
+    HandScript {
+        dealt: Dealt::Staked(ONE_WAGER, 5000, 5000, 5000),
+        game: Game::Hilo,
+        deck: SORTED,
+        acts: &[
+            (b"ann", Some(Act::Raise(400)), Err(Refusal::PastPot)),
+            (b"ann", Some(Act::AllIn), Err(Refusal::PastPot)),
+            (b"ann", Some(Act::Call), Ok(Done::Called(200))),
+            (b"bob", Some(Act::Call), Ok(Done::Called(100))),
+            (b"cat", Some(Act::Raise(400)), Err(Refusal::PastPot)),
+            (b"cat", Some(Act::Check), Ok(Done::Checked)),
+            (b"bob", Some(Act::Bet(200)), Ok(Done::BetTo(200))),
+            (b"cat", Some(Act::Raise(400)), Err(Refusal::PastPot)),
+            (b"cat", Some(Act::Call), Ok(Done::Called(200))),
+        ],
+        is_over: false,
+        is_won_by_folds: false,
+        stacks: &[],
+    },
+    // a big blind that was posted short is a wager too
+    HandScript {
+        dealt: Dealt::Staked(FOUR_WAGERS, 5000, 5000, 100),
+        game: Game::Omaha,
+        deck: SORTED,
+        acts: &[
+            (b"ann", Some(Act::Raise(500)), Err(Refusal::PastPot)),
+            (b"ann", Some(Act::Raise(400)), Ok(Done::RaisedTo(400))),
+            (b"bob", Some(Act::Raise(600)), Ok(Done::RaisedTo(600))),
+            (b"ann", Some(Act::Raise(800)), Ok(Done::RaisedTo(800))),
+            (b"bob", Some(Act::Raise(1000)), Err(Refusal::PastPot)),
+            (b"bob", Some(Act::Call), Ok(Done::Called(200))),
+        ],
+        is_over: false,
+        is_won_by_folds: false,
+        stacks: &[],
+    },
+];
+
 /// Acts for a player, or calls time, and gives what is answered.
 fn answer(hand: &mut Hand, name: Name, act: Option<Act>) -> Result<Done, ActFault> {
     match act {
@@ -411,6 +701,16 @@ fn goes_so(alloc: Global, script: &HandScript) -> bool {
 #[test]
 fn hands_go_so(rt: HostRuntime) {
     are_right_in(&rt, rt.alloc(), &HANDS, goes_so);
+}
+
+#[test]
+fn hands_with_an_ante_go_so(rt: HostRuntime) {
+    are_right_in(&rt, rt.alloc(), &WITH_ANTE, goes_so);
+}
+
+#[test]
+fn hands_by_fixed_limit_go_so(rt: HostRuntime) {
+    are_right_in(&rt, rt.alloc(), &BY_FIXED_LIMIT, goes_so);
 }
 
 /// Tells whether the start of a hand is copied with so many players.

@@ -77,14 +77,70 @@ static ROWS: [(PutRow, PotRow); 5] = [
     ),
 ];
 
+/// Tells whether the pots of puts and of dead chips are these.
+fn are_cut_with(puts: PutRow, dead: u32, wanted: &[(u64, &[u8])]) -> bool {
+    let puts = puts_of(puts);
+    is_contested(&puts) && are_pots(&pots(&puts, u64::from(dead)), wanted)
+}
+
 fn are_cut(row: &(PutRow, PotRow)) -> bool {
-    let puts = puts_of(row.0);
-    is_contested(&puts) && are_pots(&pots(&puts), row.1)
+    are_cut_with(row.0, 0, row.1)
 }
 
 #[test]
 fn pots_of_puts(rt: HostRuntime) {
     are_right(&rt, &ROWS, are_cut);
+}
+
+/// Puts, dead chips, and the pots.
+type DeadRow = (PutRow, u32, PotRow);
+
+static DEAD: [DeadRow; 6] = [
+    // an ante of 200, and everyone folds to the big blind
+    (
+        &[(0, false), (100, false), (200, true)],
+        200,
+        &[(500, &[3])],
+    ),
+    // everyone calls
+    (
+        &[(200, true), (200, true), (200, true)],
+        200,
+        &[(800, &[1, 2, 3])],
+    ),
+    // a big blind who has 100 left for the ante is in the pot that it goes to
+    (
+        &[(600, true), (600, true), (200, true)],
+        100,
+        &[(700, &[1, 2, 3]), (800, &[1, 2])],
+    ),
+    // one who has nothing left posts none
+    (
+        &[(600, true), (600, true), (200, true)],
+        0,
+        &[(600, &[1, 2, 3]), (800, &[1, 2])],
+    ),
+    // the lowest height of a live payer has what was paid by those who folded, and the dead chips
+    (
+        &[(50, false), (100, true), (300, true), (400, false)],
+        25,
+        &[(375, &[2, 3]), (500, &[3])],
+    ),
+    // ten players with a billion each, and an ante of a billion
+    (
+        &[(1_000_000_000, true); 10],
+        1_000_000_000,
+        &[(11_000_000_000, &[1, 2, 3, 4, 5, 6, 7, 8, 9, 10])],
+    ),
+];
+
+fn are_cut_with_dead(row: &DeadRow) -> bool {
+    are_cut_with(row.0, row.1, row.2)
+}
+
+#[test]
+fn dead_chips_are_in_the_main_pot(rt: HostRuntime) {
+    are_right(&rt, &DEAD, are_cut_with_dead);
 }
 
 /// Tells whether the pots are right while chips come in and a player folds.
@@ -103,7 +159,9 @@ fn is_tallied() -> bool {
     );
     tally.fold(4);
     let three = are_pots(&tally.pots(), &[(400, &[1, 2, 3]), (500, &[2, 3])]);
-    one && two && four && three
+    tally.add_dead(50);
+    let dead = are_pots(&tally.pots(), &[(450, &[1, 2, 3]), (500, &[2, 3])]);
+    one && two && four && three && dead
 }
 
 #[test]

@@ -4,7 +4,8 @@
 //! |---|---|
 //! | `cards`, `values`, `walks`, `lows` | cards and decks, and the best hands of card_set, hand_rank and low_rank |
 //! | `layers`, `awards`, `deal` | pots, awards and the order of the deal |
-//! | `blinds`, `street`, `races`, `places` | the marks, a street, the chip race, and places and prizes |
+//! | `blinds`, `street`, `limits` | the marks, a street, and fixed limit |
+//! | `races`, `places` | the chip race, and places and prizes |
 //! | `seats`, `entries`, `balance`, `breaks`, `rounds` | seats, entries, balances, breaks and rounds of hand-for-hand |
 //! | `hands`, `director`, `views` | whole hands, orders and simulated acts, and what a player is told |
 //! | `rows`, `seat_sets`, `puts`, `seating`, `dealt` | rows that are walked, and what the tests begin with |
@@ -32,6 +33,8 @@ mod entries;
 mod hands;
 #[cfg(test)]
 mod layers;
+#[cfg(test)]
+mod limits;
 #[cfg(test)]
 mod lows;
 #[cfg(test)]

@@ -25,7 +25,7 @@ fn put_at(row: PutRow, index: usize) -> Put
 
 /// Gives what the players have put in.
 pub fn puts_of(row: PutRow) -> [Put; 10]
-    ensures { total_put result < 2 ^ 53 }
+    ensures { total_put result < 2 ^ 52 }
 {
     [
         put_at(row, 0),

@@ -25,6 +25,10 @@ const LEVELS: &[Deed<'static>] = &[
 = ok
 > enter ann 2 1
 = no 6 NameKnown
+> reenter ann 2 1
+= no 45 StillIn
+> reenter bob 2 1
+= no 7 NameUnknown
 > enter bob 1 1
 = no 10 SeatTaken
 > enter bob 1 2
@@ -38,6 +42,8 @@ const LEVELS: &[Deed<'static>] = &[
 # level
 = ok
 > enter cat 1 2
+= no 12 LateClosed
+> reenter ann 1 2
 = no 12 LateClosed
 > level
 = no 17 RaceDue
@@ -65,6 +71,8 @@ const LEVELS: &[Deed<'static>] = &[
 # stop
 = ok
 > enter cat 1 2
+= no 5 Stopped
+> reenter ann 1 2
 = no 5 Stopped
 > balance 1 2
 = no 5 Stopped

@@ -6,7 +6,7 @@ use Rattle.dock_tests.proofs.hand.fresh_hand.Goals as goal
 
 abbrev both : List StartSeat
 both = record { seat = 1; player = 0; name = codes "ann"; stack = 3000 }
-    ∷ record { seat = 4; player = 1; name = codes "bob"; stack = 900 } ∷ []
+    ∷ record { seat = 4; player = 1; name = codes "bob"; stack = 1000 } ∷ []
 
 pub new-requires : goal.new-requires
 new-requires c =

@@ -34,12 +34,12 @@ new-requires c =
       numbers = rw seats;
       entries = rw seats;
       names = rw seats;
-      stacks = rw (seats, start.blind, c.requires.first, c.requires.second, c.requires.third);
+      stacks = rw (seats, c.requires.first, c.requires.second, c.requires.third);
       chips = rw seats (omega arith);
       marks = rw (start.table, start.marks)
           (record { button = (lit≤ tt, lit≤ tt); small = (lit≤ tt, lit≤ tt); big = (lit≤ tt, lit≤ tt) });
       big = rw (seats, start.marks);
       small = rw start.marks (λ same. cc);
-      blinds = rw start.blind;
+      blinds = c.requires.blind;
       deck = start.deck;
     }
