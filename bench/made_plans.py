@@ -16,12 +16,12 @@ import sys
 from collections import Counter
 
 import runs
-from rules.plan import PLAN_ITEMS
+from rules.plan import ALL_ITEMS
 from rules.plan_file import WrongItem, lines_of_file
 from rules.plan_maker import NO_UTF_8, PlanMaker, item_ways, no_utf_8, statement_ways, wrong_ways
 from rules.simulate import Simulation
 
-ORDER = ("toml", *PLAN_ITEMS)
+ORDER = ("toml", *ALL_ITEMS)
 
 
 def right_plans(seed, count):

@@ -81,17 +81,18 @@ class Views:
         print(f"{counts['lists']} lists, {counts['read']} lines, {counts['begun']} hands begun, {counts['over']} of "
               f"them played to their end")
         print(f"{counts['views']} views, {told.total()} lines told:", ", ".join(f"{told[word]} {word}" for word in (
-            "hand", "hole", "show", *STREETS, "win", "stack", "#")))
+            "hand", "ante", "hole", "show", *STREETS, "win", "stack", "reenter", "#")))
         print(f"{counts['pairs']} pairs of lists with other decks: {counts['decks']} decks, {counts['hands']} of them "
               f"with other cards of a player, {counts['boards']} with another board")
 
 
 def told_words(lines):
-    """How often each kind of line is told, by its first word; `#` is for all that the floor tells but stacks."""
+    """How often each kind of line is told, by its first word; `#` is for all that the floor tells but stacks and
+    re-entries."""
     words = Counter()
     for line in lines:
         front, word, *_ = line.split()
-        words[word if front != "#" or word == "stack" else "#"] += 1
+        words[word if front != "#" or word in ("stack", "reenter") else "#"] += 1
     return words
 
 

@@ -82,11 +82,11 @@ def best_low(hole, board):
     return min(lows, default=None)
 
 
-def pots_of(put, live):
+def pots_of(put, live, ante=0):
     """The pots, as pairs of an amount and the eligible seats, cut at each height that somebody put in.
 
     A height of one chip is paid by all who put in so much, and the live ones among them are eligible for it. Heights
-    with the same eligible seats form one pot, and a height without any joins the pot below.
+    with the same eligible seats form one pot, and a height without any joins the pot below. The ante is in the first.
     """
     pots = []
     below = 0
@@ -99,7 +99,8 @@ def pots_of(put, live):
         else:
             pots.append((amount, eligible))
         below = height
-    return pots
+    (amount, eligible), *others = pots
+    return [(amount + ante, eligible), *others]
 
 
 def shares_of(amount, unit, winners):
@@ -129,10 +130,10 @@ def award_of_pot(game, amount, unit, eligible, hole, board):
     return award
 
 
-def awards_of(game, put, live, unit, button, seats, hole, board):
+def awards_of(game, put, ante, live, unit, button, seats, hole, board):
     """What each seat is awarded of all pots at a showdown."""
     awards = Counter()
-    for amount, eligible in pots_of(put, live):
+    for amount, eligible in pots_of(put, live, ante):
         in_order = [seat for seat in seats_clockwise(button, seats) if seat in eligible]
         awards.update(award_of_pot(game, amount, unit, in_order, hole, board))
     return awards

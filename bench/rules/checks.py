@@ -1,5 +1,5 @@
 """The checks of the events: what each number says, and their order for each event."""
-from rules.plan import PLAN_ITEMS, wrong_item
+from rules.plan import ALL_ITEMS, wrong_item
 
 MOST_ENTRIES = 640
 
@@ -10,7 +10,7 @@ NAMES = {
     22: "HandOver", 23: "NotOver", 24: "CheckFacing", 25: "NothingToCall", 26: "BetFacing", 27: "NothingToRaise",
     28: "TooSmall", 29: "PastStack", 30: "PastPot", 31: "NotReopened", 32: "NotUnit", 33: "NotFullest",
     34: "NotShortest", 35: "EvenEnough", 36: "NotNextToBreak", 37: "NoRoom", 38: "DrawWrong", 39: "LastLevel",
-    40: "RoundOpen", 41: "SwitchWrong", 42: "NoRace", 43: "Over", 44: "ListFull",
+    40: "RoundOpen", 41: "SwitchWrong", 42: "NoRace", 43: "Over", 44: "ListFull", 45: "StillIn",
 }
 
 
@@ -18,10 +18,16 @@ def is_closed_table(tournament, event):
     """8: which tables an event may name."""
     if event.word in ("act", "time", "settle"):
         return not tournament.is_table(event.args[0])
-    if event.word == "enter":
+    if event.word in ("enter", "reenter"):
         return event.args[1] not in tournament.counts_to_enter()
     named = event.args[:2] if event.word == "balance" else event.args[:1]
     return not all(tournament.is_open(table) for table in named)
+
+
+def is_name_unknown(tournament, event):
+    """7: the name is not in the entry list."""
+    name = event.args[1] if event.word == "act" else event.args[0]
+    return name not in tournament.entries
 
 
 def is_not_fewest(tournament, event):
@@ -105,7 +111,7 @@ CONDITIONS = {
     4: lambda t, e: wrong_item(t, e) is not None,
     5: lambda t, e: t.stopped,
     6: lambda t, e: e.args[0] in t.entries,
-    7: lambda t, e: e.args[1] not in t.entries,
+    7: is_name_unknown,
     8: is_closed_table,
     9: lambda t, e: not 1 <= e.args[2] <= t.plan["seats"],
     10: lambda t, e: e.args[1:] in t.seats,
@@ -133,15 +139,17 @@ CONDITIONS = {
     41: is_switch_wrong,
     42: lambda t, e: first_table(t, e).pending is None,
     43: lambda t, e: t.is_over(),
-    44: lambda t, e: len(t.entries) == MOST_ENTRIES,
+    44: lambda t, e: t.times_entered() == MOST_ENTRIES,
+    45: lambda t, e: t.place_of(e.args[0]) is not None,
 }
 
 BETTING = [24, 25, 26, 27, 28, 29, 30, 31, 32]
 CONDITIONS |= {number: is_refused_with(number) for number in BETTING}
 
 # The checks of each event, in the order in which they are made.
-CHECKS = {word: [3, 4] for word in PLAN_ITEMS + ("go",)} | {
+CHECKS = {word: [3, 4] for word in ALL_ITEMS + ("go",)} | {
     "enter": [2, 5, 6, 8, 9, 10, 11, 12, 43, 44],
+    "reenter": [2, 5, 7, 8, 9, 10, 11, 12, 43, 44, 45],
     "begin": [2, 5, 8, 13, 15, 16, 17, 18, 19],
     "act": [2, 5, 7, 8, 14, 20, 21, 22, *BETTING],
     "time": [2, 5, 8, 14, 22],

@@ -1,18 +1,21 @@
 """Made lists with more players than a list of single events comes to: full tables, and halls of many tables."""
+from rules.lines import blinds_line
 
 MOST_LINES = 1200
 
 
 def crowd(maker):
-    """640 players enter at 64 tables, some go out, and others want their seats."""
+    """640 players or some fewer enter at 64 tables, some go out, and they and others want their seats."""
     short_plan(maker, 64)
-    for number in range(640):
+    for number in range(640 - maker.rng.choice([0, 2, 4])):
         maker.put(f"enter p{number} {number % 64 + 1} {number // 64 + 1}")
     maker.put("enter q 1 1")
     for table in range(1, 11):
         maker.put(f"begin {table} {maker.a_deck()}")
         for line in 8 * [f"time {table}"] + [f"settle {table}", f"enter q {table} 2", f"enter q {table} 3"]:
             maker.put(line)
+        for player in ("p1", "p64", "p128", *(player for player, _, _ in maker.book.busts[-2:])):
+            maker.put(f"reenter {player} {table} {maker.rng.choice([1, 2, 3])}")
     maker.put("stop")
 
 
@@ -24,13 +27,14 @@ def short_plan(maker, tables):
 
 
 def crowd_at_one_table(maker):
-    """The first to act folds and others mostly call, and newcomers take the seats of those who are out."""
+    """The first to act folds and others mostly call, and newcomers take the seats of those who are out, or these come
+    back."""
     short_plan(maker, 1)
-    book = maker.book
-    while len(book.entries) < 640:
-        free = [seat for seat in range(1, 11) if (1, seat) not in book.seats]
-        for seat in free:
-            maker.put(f"enter p{len(book.entries)} 1 {seat}")
+    book, returns = maker.book, maker.rng.choice([0, 20, 80])
+    while book.times_entered() < 640:
+        for seat in range(1, 11):
+            if (1, seat) not in book.seats:
+                maker.put(f"{who_comes(maker, returns)} 1 {seat}")
         maker.put(f"begin 1 {maker.a_deck()}")
         hand, is_first = maker.hand_at(1), True
         while (due := hand.due()) is not None:
@@ -41,6 +45,15 @@ def crowd_at_one_table(maker):
         maker.put("settle 1")
     for seat in range(1, 11):
         maker.put(f"enter p{len(book.entries)} 1 {seat}")
+        maker.put(f"reenter {maker.a_player()} 1 {seat}")
+
+
+def who_comes(maker, returns):
+    """Somebody who is out, or a newcomer."""
+    book = maker.book
+    if book.busts and maker.odds(returns):
+        return f"reenter {maker.rng.choice(book.busts)[0]}"
+    return f"enter p{len(book.entries)}"
 
 
 def hall(maker):
@@ -54,6 +67,7 @@ def hall(maker):
         maker.pick((30, lambda: whole_hand(maker, some_table(maker, few))),
                    (18 if maker.is_uneven() else 3, lambda: maker.put(maker.balance())),
                    (6, lambda: maker.put(maker.break_table())), (6, lambda: maker.put(maker.enter())),
+                   (maker.how_often_back(), lambda: maker.put(maker.reenter())),
                    (12, lambda: maker.put(maker.natural())), (1, lambda: next_level(maker)),
                    (25 if book.has_race() else 0.5, lambda: maker.put(maker.race())),
                    (2 if len(book.open_tables()) < 9 else 0.2, lambda: a_round(maker)),
@@ -67,11 +81,11 @@ def hall_plan(maker):
     rng = maker.rng
     blinds = maker.levels(rng.choice([5, 25, 100]))
     late = rng.randint(1, len(blinds))
-    stack = blinds[late - 1][2] * rng.choice([1, 2, 3, 5, 10, 20, 40])
+    stack = blinds[late - 1].unit * rng.choice([1, 2, 3, 5, 10, 20, 40])
     buy_in = rng.choice([0, 1, 10, 1000000000])
     for line in [f"game {rng.choice(['holdem', 'omaha', 'hilo'])}", f"tables {rng.choice([3, 5, 8, 16, 33, 64, 64])}",
                  f"seats {rng.randint(2, 10)}", f"stack {stack}", f"buyin {buy_in}", f"late {late}",
-                 *(f"blinds {small} {big} {unit}" for small, big, unit in blinds), maker.shares(), "go"]:
+                 *map(blinds_line, blinds), maker.shares(), *maker.caps(), "go"]:
         maker.put(line)
 
 
@@ -137,7 +151,8 @@ def quick_act(maker, table, hand):
     due = hand.due()
     faces = hand.put[due] < hand.level
     most = "allin"
-    if hand.is_past_pot(due, hand.put[due] + hand.behind(due)) and maker.odds(95):
-        most = f"{'raise' if hand.level else 'bet'} {hand.pot_bound(due)}"
+    if hand.is_past_bound(due, hand.put[due] + hand.behind(due)) and maker.odds(95):
+        bound = hand.bound(due)
+        most = "call" if bound == hand.level else f"{'raise' if hand.level else 'bet'} {bound}"
     act = maker.pick((35, "fold" if faces else "check"), (25, "call" if faces else "check"), (30, most), (10, None))
     return f"act {table} {hand.names[due]} {act}" if act else f"time {table}"

@@ -1,5 +1,6 @@
 """Marks and one hand by the rules: the deal, the blinds, who is due, the acts, and the stacks after the hand."""
 from dataclasses import dataclass
+from typing import NamedTuple
 
 from rules.cards import awards_of, seats_clockwise
 
@@ -54,6 +55,19 @@ def first_marks(seats, occupied):
     return Marks(button, second, first_clockwise(second, seats, occupied))
 
 
+class Blinds(NamedTuple):
+    """The small and the big blind of a level, its unit, and the ante that the big blind posts."""
+
+    small: int
+    big: int
+    unit: int
+    ante: int = 0
+
+    def numbers(self):
+        """The numbers as they are written: the ante where there is one."""
+        return tuple(self if self.ante else self[:3])
+
+
 @dataclass(frozen=True)
 class Act:
     """What a player does; a bet and a raise have an amount, and a raise is to it."""
@@ -65,18 +79,20 @@ class Act:
 class Hand:
     """A hand in play. Seats are known by their numbers; `stacks` are those that the players began the hand with."""
 
-    def __init__(self, game, seats, marks, blinds, names, stacks, deck=None):
-        self.game, self.seats, self.marks = game, seats, marks
-        self.small_blind, self.big_blind, self.unit = blinds
+    def __init__(self, game, seats, marks, blinds, names, stacks, deck=None, cap=0):
+        self.game, self.seats, self.marks, self.cap = game, seats, marks, cap
+        self.big_blind, self.unit = blinds.big, blinds.unit
         self.names, self.stacks, self.deck = dict(names), dict(stacks), deck
         self.live = set(stacks)
         self.before = dict.fromkeys(stacks, 0)
         self.put = dict.fromkeys(stacks, 0)
-        self.lacking = 0
-        self.post(marks.small, self.small_blind)
-        self.post(marks.big, self.big_blind)
+        self.lacking = self.ante = 0
+        self.post(marks.small, blinds.small)
+        self.post(marks.big, blinds.big)
+        self.ante = min(self.behind(marks.big), blinds.ante)
         self.street = 0
         self.level = self.full_raise = self.big_blind
+        self.wagers = 1
         self.acted = set()
         self.search_after = marks.big
         self.begin_streets()
@@ -91,9 +107,11 @@ class Hand:
         return self.before[seat] + self.put[seat]
 
     def behind(self, seat):
-        return self.stacks[seat] - self.put_in_hand(seat)
+        ante = self.ante if seat == self.marks.big else 0
+        return self.stacks[seat] - self.put_in_hand(seat) - ante
 
     def all_put_in(self):
+        """All that the players have put in, but for the ante."""
         return sum(self.put_in_hand(seat) for seat in self.stacks)
 
     def can_act(self):
@@ -124,7 +142,8 @@ class Hand:
                 self.before[seat] += self.put[seat]
                 self.put[seat] = 0
             self.street += 1
-            self.level, self.full_raise = 0, self.big_blind
+            self.level, self.full_raise = 0, self.bet_of_street()
+            self.wagers = 0
             self.acted = set()
             self.search_after = self.marks.button
 
@@ -135,20 +154,33 @@ class Hand:
     def seat_of(self, name):
         return next((seat for seat in self.names if self.names[seat] == name), None)
 
+    def bet_of_street(self):
+        """The least bet: with fixed limit it is twice the big blind on the turn and the river."""
+        return self.big_blind * (2 if self.cap and self.street >= 2 else 1)
+
+    def bound(self, seat):
+        """What a bet or raise is at most to. With fixed limit it is one bet above the level, and the level where there
+        are as many wagers as the cap; else hold'em has no bound, and Omaha and hi-lo have that of the pot."""
+        if self.cap:
+            return self.level + (self.bet_of_street() if self.wagers < self.cap else 0)
+        return None if self.game == "holdem" else self.pot_bound(seat)
+
     def pot_bound(self, seat):
-        """In Omaha and hi-lo a bet or raise is at most to this; hold'em has no bound."""
-        if self.game == "holdem":
-            return None
-        pot = self.all_put_in() + (self.lacking if self.street == 0 else 0)
+        """Before the flop short blinds count in full, and the ante does not count."""
+        pot = self.all_put_in() + (self.lacking if self.street == 0 else self.ante)
         return self.level + pot + (self.level - self.put[seat])
 
-    def is_past_pot(self, seat, amount):
-        bound = self.pot_bound(seat)
+    def is_past_bound(self, seat, amount):
+        bound = self.bound(seat)
         return bound is not None and amount > bound
 
     def may_not_reopen(self, seat):
-        """He has acted on the street, and the level is above what he put in by less than a full raise."""
-        return seat in self.acted and self.level - self.put[seat] < self.full_raise
+        """He has acted on the street, and the level is above what he put in by less than a full raise, with fixed limit
+        by less than half a bet."""
+        if seat not in self.acted:
+            return False
+        faces = self.level - self.put[seat]
+        return 2 * faces < self.bet_of_street() if self.cap else faces < self.full_raise
 
     def refusal(self, seat, act):
         """The lowest number of a refusal of an act by the player who is due, or none."""
@@ -163,14 +195,14 @@ class Hand:
             return [(25, put == level)]
         if act.kind == "bet":
             return [(26, level > 0), (28, amount < full and amount != most), (29, amount > most),
-                    (30, self.is_past_pot(seat, amount)), (32, amount % self.unit != 0)]
+                    (30, self.is_past_bound(seat, amount)), (32, amount % self.unit != 0)]
         if act.kind == "raise":
             all_in_above = amount == most and amount > level
             return [(27, level == 0), (28, amount < level + full and not all_in_above), (29, amount > most),
-                    (30, self.is_past_pot(seat, amount)), (31, self.may_not_reopen(seat)),
+                    (30, self.is_past_bound(seat, amount)), (31, self.may_not_reopen(seat)),
                     (32, amount % self.unit != 0)]
         if act.kind == "allin" and most > level:
-            return [(30, self.is_past_pot(seat, most)), (31, self.may_not_reopen(seat))]
+            return [(30, self.is_past_bound(seat, most)), (31, self.may_not_reopen(seat))]
         return []
 
     def act(self, seat, act):
@@ -187,7 +219,9 @@ class Hand:
         self.begin_streets()
 
     def raise_to(self, seat, level):
-        """A bet or raise puts in up to the new level; the full raise grows where the level rose by as much or more."""
+        """A bet or raise puts in up to the new level; the full raise grows where the level rose by as much or more. It
+        is a wager where the level rose by half a bet or more."""
+        self.wagers += 2 * (level - self.level) >= self.bet_of_street()
         self.full_raise = max(self.full_raise, level - self.level)
         self.level = self.put[seat] = level
 
@@ -230,9 +264,9 @@ class Hand:
         """Where one player is live he gets everything, and else all live hands are shown."""
         put = {seat: self.put_in_hand(seat) for seat in sorted(self.stacks)}
         if not self.needs_showdown():
-            return {next(iter(self.live)): self.all_put_in()}
-        return awards_of(self.game, put, self.live, self.unit, self.marks.button, self.seats, self.hole_cards(),
-                         self.board())
+            return {next(iter(self.live)): self.all_put_in() + self.ante}
+        return awards_of(self.game, put, self.ante, self.live, self.unit, self.marks.button, self.seats,
+                         self.hole_cards(), self.board())
 
     def stacks_after(self):
         awards = self.awards()

@@ -3,7 +3,7 @@ import re
 from dataclasses import dataclass
 
 from rules.cards import cards_of
-from rules.hand import Act
+from rules.hand import Act, Blinds
 
 GREATEST_NUMBER = 9_007_199_254_740_991
 LONGEST_LINE = 400
@@ -73,6 +73,13 @@ def act_of(words):
     return Act(one_of("bet", "raise")(kind), number(amount))
 
 
+def blinds_of(words):
+    """The small and the big blind, the unit, and the ante of a level that has one."""
+    if not 3 <= len(words) <= 4 or words[3:] == ["0"]:
+        raise ValueError
+    return Blinds(*map(number, words))
+
+
 def event_of_words(words):
     """The event of a line's words; ValueError outside of the grammar."""
     word, rest = words[0], words[1:]
@@ -80,6 +87,8 @@ def event_of_words(words):
         if not 1 <= len(rest) <= 64:
             raise ValueError
         return Event(word, tuple(number(each) for each in rest))
+    if word == "blinds":
+        return Event(word, blinds_of(rest))
     if word == "act":
         table, player, *act = rest
         return Event(word, (number(table), name(player), act_of(act)))
@@ -92,10 +101,10 @@ def event_of_words(words):
 # The first word of a line, and how its fields are read.
 GRAMMAR = {
     "game": [one_of("holdem", "omaha", "hilo")], "tables": [number], "seats": [number], "stack": [number],
-    "buyin": [number], "late": [number], "blinds": [number, number, number], "go": [],
-    "enter": [name, number, number], "begin": [number, row], "settle": [number], "time": [number],
-    "balance": [number, number], "break": [number, list_of(place), list_of(name)], "level": [], "race": [number, row],
-    "hands": [one_of("on", "off")], "round": [], "stop": [],
+    "buyin": [number], "late": [number], "limit": [number], "go": [],
+    "enter": [name, number, number], "reenter": [name, number, number], "begin": [number, row], "settle": [number],
+    "time": [number], "balance": [number, number], "break": [number, list_of(place), list_of(name)], "level": [],
+    "race": [number, row], "hands": [one_of("on", "off")], "round": [], "stop": [],
 }
 
 
@@ -115,6 +124,10 @@ def lines_of(text):
     """The bytes cut at line feeds; what is behind the last one is a line where it has a byte."""
     lines = text.split(b"\n")
     return lines if lines[-1] else lines[:-1]
+
+
+def blinds_line(level):
+    return " ".join(map(str, ("blinds", *level.numbers())))
 
 
 def break_line(table, places, names):

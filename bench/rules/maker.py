@@ -3,7 +3,8 @@ import random
 
 from rules.cards import SORTED_DECK, text_of
 from rules.crowds import crowd, crowd_at_one_table, hall
-from rules.lines import break_line, event_of_line
+from rules.hand import Blinds
+from rules.lines import blinds_line, break_line, event_of_line
 from rules.step import apply
 from rules.tournament import Tournament
 
@@ -22,7 +23,8 @@ class Maker:
         self.lines = []
         self.answers = []
         self.entered = 0
-        self.is_wild = self.odds(40)
+        self.is_wild, self.has_antes, self.has_cap = self.odds(40), self.odds(60), self.odds(45)
+        self.returns = self.rng.choice([1, 8, 25])
 
     def put(self, line):
         event = event_of_line(line.encode("latin-1"))
@@ -47,13 +49,14 @@ class Maker:
         rng = self.rng
         unit = rng.choice([1, 5, 10, 25, 50, 100])
         blinds = self.levels(unit)
-        stack = blinds[-1][2] * rng.choice([1, 2, 3, 5, 8, 20, 20, 50, 50, 100])
+        stack = blinds[-1].unit * rng.choice([1, 2, 3, 5, 8, 20, 20, 50, 50, 100])
+        if self.has_cap and self.odds(60):
+            stack = blinds[-1].unit * rng.choice([7, 11, 15, 25])
         game = rng.choice(["holdem", "omaha", "hilo"])
         tables = rng.choice([1, 1, 2, 2, 3, 4, 6])
         items = [f"game {game}", f"tables {tables}", f"seats {rng.randint(2, 10)}", f"stack {stack}",
                  f"buyin {rng.choice([0, 1, 100, 999, 1000000000])}", f"late {rng.randint(1, len(blinds))}",
-                 *(f"blinds {small} {big} {unit}" for small, big, unit in blinds),
-                 self.shares()]
+                 *map(blinds_line, blinds), self.shares(), *self.caps()]
         if self.odds(25):
             rng.shuffle(items)
         for item in items:
@@ -75,27 +78,43 @@ class Maker:
             shares.pop()
         return "shares " + " ".join(map(str, shares))
 
+    def caps(self):
+        """The line of a cap, if the bets are limited."""
+        return [f"limit {self.rng.choice([1, 2, 3, 4, 4, 5, 9])}"] if self.has_cap else []
+
     def levels(self, unit):
-        """Blinds level by level, each unit that of the level before times 1 to 6."""
+        """Blinds level by level, each unit that of the level before times 1 to 6; where there are antes, most levels
+        have one."""
         levels = []
         for _ in range(self.rng.choice([1, 1, 2, 3, 5])):
             small = unit * self.rng.choice([1, 1, 2, 5])
-            levels.append((small, small * self.rng.choice([1, 2, 2, 2, 3]), unit))
+            big = small * self.rng.choice([1, 2, 2, 2, 3])
+            ante = self.rng.choice([0, unit, small, big, 2 * big, 3 * big, 20 * unit]) if self.has_antes else 0
+            levels.append(Blinds(small, big, unit, ante))
             unit *= self.rng.choice([1, 1, 2, 4, 5, 6])
         return levels
 
     def wrong_plan_line(self):
         rng = self.rng
         large = rng.choice([0, 65, 11, 41, 1000000000, 1000000001, 9007199254740991])
+        if self.odds(15):
+            return self.level_with_any_ante()
         return rng.choice([
             f"game {rng.choice(['omaha', 'hilo', 'holdem', 'stud'])}",
             f"tables {rng.choice([0, 2, 64, 65, large])}", f"seats {rng.choice([0, 1, 11, large])}",
             f"stack {rng.choice([0, 7, 1000000001, large])}", f"buyin {rng.choice([1000000001, large])}",
-            f"late {rng.choice([0, 41, 5, large])}", "go",
+            f"late {rng.choice([0, 41, 5, large])}", "go", f"limit {rng.choice([0, 1, 4, 9, 10, large])}",
             "blinds " + " ".join(str(rng.choice(choices)) for choices in
-                                 ([0, 100, 150, 300], [200, 250, 50, large], [0, 100, 1, 700])),
+                                 ([0, 100, 150, 300], [200, 250, 50, large], [0, 100, 1, 700],
+                                  [0, 1, 50, 100, 200, large])[:rng.choice([3, 4])]),
             "shares " + " ".join(str(rng.choice([0, 1, 500, 501, 1000, 1001]))
                                  for _ in range(rng.choice([1, 2, 3, 64])))])
+
+    def level_with_any_ante(self):
+        """A level that is right but for its ante, if that is wrong."""
+        unit = self.book.blinds[-1].unit if self.book.blinds else self.rng.choice([1, 5, 25])
+        ante = self.rng.choice([1, unit + 1, unit // 2 + 1, 2 * unit, 1000000000, 1000000000 + unit])
+        return f"blinds {unit} {2 * unit} {unit} {ante}"
 
     # -- notes, and what is wrong as a line --
 
@@ -115,6 +134,8 @@ class Maker:
             "", " ", " *", " * a note", "stop *", "stop ", " stop", "go go", "stop\r", "Stop", "begin 1", "act 1 ann",
             "act 1 ann fold fold", "act 1 ann bet", "act 1 ann raise 0400", "enter floor 1 1", "enter Floor 1 1",
             "enter 1ann 1 1", "enter abcdefghijklmnop 1 1", "enter abcdefghijklmnopq 1 1", "enter ann 01 1",
+            "reenter ann 1", "reenter floor 1 1", "reenter ann 1 1 1", "re-enter ann 1 1", "limit", "limit 04",
+            "limit 4 4", "blinds 1 2", "blinds 1 2 1 0", "blinds 1 2 1 01", "blinds 1 2 1 1 1",
             "settle 9007199254740991", "settle 9007199254740992", "shares", "shares" + " 1" * 65, "hands out",
             "break 1 1.1,1.1 ann", "break 1 65.1 ann", "break 1 1.11 ann", "break 1 1.0 ann",
             "stop" + " " * 396, "é", "\xff", "begin 1 " + text_of(SORTED_DECK)[:-1] + "x",
@@ -140,8 +161,8 @@ class Maker:
             cards[self.rng.randrange(52)] = self.rng.choice(CARDS)
         return "".join(cards)
 
-    def enter(self):
-        """Mostly somebody new, at a table with few players, in an empty seat."""
+    def a_place(self):
+        """A table and a seat there: mostly an empty seat at a table with few players."""
         book, rng = self.book, self.rng
         table = self.a_table()
         counts = book.counts_to_enter()
@@ -153,9 +174,22 @@ class Maker:
                               or [seat])
         if self.odds(3):
             seat = rng.choice([0, 11, 9007199254740991])
+        return f"{table} {seat}"
+
+    def enter(self):
+        """Mostly somebody new."""
         self.entered += 1
-        new = next((player for player in PLAYERS if player not in book.entries), f"p{self.entered}")
-        return f"enter {new if not self.odds(7) else self.a_player()} {table} {seat}"
+        new = next((player for player in PLAYERS if player not in self.book.entries), f"p{self.entered}")
+        return f"enter {new if not self.odds(7) else self.a_player()} {self.a_place()}"
+
+    def how_often_back(self):
+        """How often a re-entry is tried: more where somebody may come back."""
+        return self.returns if self.book.busts and not self.book.is_over() else 1
+
+    def reenter(self):
+        """Mostly somebody who is out."""
+        out = [player for player, _, _ in self.book.busts]
+        return f"reenter {self.rng.choice(out) if out and not self.odds(10) else self.a_player()} {self.a_place()}"
 
     def begin(self):
         return f"begin {self.a_table()} {self.a_row()}"
@@ -180,6 +214,8 @@ class Maker:
         kind = self.pick((30, "check"), (34, "call"), (9, "fold"), (4, "allin"), (9, "bet"), (14, "raise"))
         if self.is_wild:
             kind = self.pick((20, "check"), (45, "call"), (5, "fold"), (22, "allin"), (4, "bet"), (4, "raise"))
+        if hand and hand.cap and self.odds(50):
+            kind = self.pick((5, "call"), (2, "allin"), (5, "raise"))
         if hand and seat and self.odds(65):
             kind = self.fitting(kind, hand, seat)
         return f"{kind} {self.amount(hand, seat)}" if kind in ("bet", "raise") else kind
@@ -202,7 +238,9 @@ class Maker:
         if hand is None or seat is None:
             return self.rng.choice([0, 100, 200, 400, 1000])
         least, most, unit = hand.level + hand.full_raise, hand.put[seat] + hand.behind(seat), hand.unit
-        pot = hand.pot_bound(seat)
+        if hand.cap and self.odds(50):
+            return least
+        pot = hand.bound(seat)
         other = self.rng.choice(sorted(hand.live))
         short_of_all = max(least, hand.put[other] + hand.behind(other) - self.rng.randint(1, 4) * unit)
         near = self.rng.choice([least, least, least, short_of_all, short_of_all, most, hand.level, pot or least,
@@ -286,7 +324,8 @@ class Maker:
         few = len(book.seats) < min(len(book.tables) * book.plan.get("seats", 6), 2 + rng.randrange(12))
         several = 1 if len(book.tables) > 1 else 0.1
         word = self.pick(
-            (30 if few else 3, self.enter), (14 if len(playing) < len(book.tables) and not few else 2, self.begin),
+            (30 if few else 3, self.enter), (self.how_often_back(), self.reenter),
+            (14 if len(playing) < len(book.tables) and not few else 2, self.begin),
             (60 if len(playing) > len(ended) else 3, self.act), (40 if ended else 1.5, self.settle),
             (4 if playing else 0.5, lambda: f"time {rng.choice(playing or [self.a_table()])}"),
             ((12 if self.is_uneven() else 2) * several, self.balance), (4 * several, self.break_table),
@@ -297,7 +336,7 @@ class Maker:
         return word()
 
     def make(self):
-        special = self.pick((0.5, crowd), (0.1, crowd_at_one_table), (6, hall), (93.4, None))
+        special = self.pick((1, crowd), (0.1, crowd_at_one_table), (6, hall), (92.9, None))
         if special:
             special(self)
             return self.text()

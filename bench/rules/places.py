@@ -8,9 +8,10 @@ def place_in(tournament, bust):
     return 1 + len(tournament.seats) + len(ahead)
 
 
-def prizes_of(entries, buy_in, shares):
-    """The prize of each place, up to the number of entries and of shares; what is left goes to the first, too."""
-    pool = entries * buy_in
+def prizes_of(entries, reentries, buy_in, shares):
+    """The prize of each place, up to the number of entries and of shares; what is left goes to the first, too. Entries
+    and re-entries pay."""
+    pool = (entries + reentries) * buy_in
     prizes = [pool * share // 1000 for share in shares[:entries]]
     prizes[0] += pool - sum(prizes)
     return prizes + [0] * (entries - len(prizes))
@@ -23,7 +24,8 @@ def standings_of(tournament):
         places[next(iter(tournament.seats.values()))] = 1
     if not places:
         return []
-    prizes = prizes_of(len(tournament.entries), tournament.plan["buyin"], tournament.plan["shares"])
+    plan = tournament.plan
+    prizes = prizes_of(len(tournament.entries), tournament.reentries, plan["buyin"], plan["shares"])
     standings = []
     for rank in sorted(set(places.values())):
         tied = [player for player in tournament.entries if places.get(player) == rank]

@@ -1,9 +1,11 @@
 """What is wrong with a line of the plan, and with the plan at its end."""
 
 PLAN_ITEMS = ("game", "tables", "seats", "stack", "buyin", "late", "blinds", "shares")
+# The cap of fixed limit may be missing, and comes behind them.
+ALL_ITEMS = PLAN_ITEMS + ("limit",)
 GREATEST_AMOUNT = 1_000_000_000
 BOUNDS = {"tables": (1, 64), "seats": (2, 10), "stack": (1, GREATEST_AMOUNT), "buyin": (0, GREATEST_AMOUNT),
-          "late": (1, 40)}
+          "late": (1, 40), "limit": (1, 9)}
 
 
 def wrong_item(tournament, event):
@@ -21,8 +23,7 @@ def wrong_at_go(tournament):
             return item
     if plan["late"] > len(blinds):
         return "late"
-    _, _, unit = blinds[plan["late"] - 1]
-    return "stack" if plan["stack"] % unit else None
+    return "stack" if plan["stack"] % blinds[plan["late"] - 1].unit else None
 
 
 def is_wrong_line(tournament, event):
@@ -39,11 +40,13 @@ def is_wrong_line(tournament, event):
 
 
 def are_wrong_blinds(before, blinds):
-    """Blinds are multiples of the unit, which is that of the level before times one of the numbers 1 to 6."""
-    small, big, unit = blinds
-    if unit < 1 or not 1 <= small <= big <= GREATEST_AMOUNT or small % unit or big % unit:
+    """Blinds and ante are multiples of the unit, which is that of the level before times one of the numbers 1 to 6."""
+    small, big, unit, ante = blinds
+    if unit < 1 or not 1 <= small <= big <= GREATEST_AMOUNT or ante > GREATEST_AMOUNT:
         return True
-    return bool(before) and unit not in [before[-1][2] * times for times in range(1, 7)]
+    if small % unit or big % unit or ante % unit:
+        return True
+    return bool(before) and unit not in [before[-1].unit * times for times in range(1, 7)]
 
 
 def are_wrong_shares(shares):

@@ -6,8 +6,9 @@ is too great for one. So what is compared with the program has to be what both r
 import re
 import tomllib
 
-from rules.lines import Event, name
-from rules.plan import PLAN_ITEMS, is_wrong_line, wrong_at_go
+from rules.hand import Blinds
+from rules.lines import Event, blinds_line, name
+from rules.plan import ALL_ITEMS, PLAN_ITEMS, is_wrong_line, wrong_at_go
 from rules.tournament import Tournament
 
 GAMES = ("holdem", "omaha", "hilo")
@@ -40,24 +41,29 @@ def are_numbers(value):
     return isinstance(value, list) and all(map(is_number, value))
 
 
+def are_level_numbers(level):
+    """Three numbers of a level, or four, where the fourth is an ante."""
+    return are_numbers(level) and (len(level) == 3 or (len(level) == 4 and level[3] >= 1))
+
+
 def is_of_kind(item, value):
     if item == "game":
         return value in GAMES
     if item == "blinds":
-        return isinstance(value, list) and all(are_numbers(level) and len(level) == 3 for level in value)
+        return isinstance(value, list) and all(map(are_level_numbers, value))
     return are_numbers(value) if item == "shares" else is_number(value)
 
 
 def lines_of_item(item, value):
     """The plan's lines that an item comes to: one for each level of blinds."""
     if item == "blinds":
-        return [Event(item, tuple(level)) for level in value]
+        return [Event(item, Blinds(*level)) for level in value]
     return [Event(item, tuple(value) if item == "shares" else (value,))]
 
 
 def give_item(plan, item, value):
-    """Gives a plan an item, unless it is missing, an empty list, of another kind or not lawful."""
-    if value in (None, []) or not is_of_kind(item, value) or (item == "shares" and len(value) > MOST_SHARES):
+    """Gives a plan an item, unless it is missing, of another kind or not lawful."""
+    if value is None or not is_of_kind(item, value) or (item == "shares" and len(value) > MOST_SHARES):
         raise WrongItem(item)
     for line in lines_of_item(item, value):
         if is_wrong_line(plan, line):
@@ -66,10 +72,13 @@ def give_item(plan, item, value):
 
 
 def plan_in(file):
-    """A tournament that was given each item of the file, in their order, and may `go`."""
+    """A tournament that was given each item of the file, in their order, and may `go`. An empty list counts as
+    missing."""
     plan = Tournament()
-    for item in PLAN_ITEMS:
-        give_item(plan, item, file.get(item))
+    given = {item: value for item, value in file.items() if value != []}
+    for item in ALL_ITEMS:
+        if item in PLAN_ITEMS or item in given:
+            give_item(plan, item, given.get(item))
     wrong = wrong_at_go(plan)
     if wrong:
         raise WrongItem(wrong)
@@ -79,8 +88,11 @@ def plan_in(file):
 def plan_lines(plan):
     """The lines of a plan, in the order of its items."""
     lines = []
-    for item in PLAN_ITEMS:
-        for values in plan.blinds if item == "blinds" else [plan.plan[item]]:
+    for item in ALL_ITEMS:
+        if item == "blinds":
+            lines += map(blinds_line, plan.blinds)
+        elif item in plan.plan:
+            values = plan.plan[item]
             values = values if isinstance(values, tuple) else (values,)
             lines.append(" ".join(map(str, (item, *values))))
     return lines

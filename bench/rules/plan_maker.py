@@ -4,7 +4,8 @@ All keep to what TOML 1.0 and 1.1 read alike or both refuse, and to whole number
 """
 import random
 
-from rules.plan import PLAN_ITEMS
+from rules.hand import Blinds
+from rules.plan import ALL_ITEMS
 
 # Values that are wrong for an item, whatever the rest says.
 KINDS = ('"1"', "1.0", "true", "nan", "2026-05-27", "19:30:00", "[]", "[[]]", "{}", "{ most = 1 }", "[1.5]")
@@ -17,7 +18,10 @@ WRONG_VALUES = {
     "buyin": ("[5]", *AMOUNTS),
     "late": ("0", "41", "[1]", *AMOUNTS),
     "blinds": (
-        "1", "[1, 2, 1]", "[[1, 2]]", "[[1, 2, 1, 1]]", "[[1, 2, 1], []]", "[[1, 2, 1], 3]", "[[[1, 2, 1]]]",
+        "1", "[1, 2, 1]", "[[1, 2]]", "[[1, 2, 1, 0]]", "[[1, 2, 1, -1]]", "[[1, 2, 1, 1, 1]]", "[[2, 4, 2, 3]]",
+        "[[1, 2, 1, 1000000001]]", "[[1, 2, 1, 1.0]]", '[[1, 2, 1, "1"]]', "[[1, 2, 1, true]]", "[[1, 2, 1, [1]]]",
+        "[[1, 2, 1, 1], [1, 2, 1, 0]]", "[[1, 2, 1], [4, 8, 2, 1]]", "[[1, 2, 1, 9223372036854775807]]",
+        "[[1, 2, 1], []]", "[[1, 2, 1], 3]", "[[[1, 2, 1]]]",
         '[["1", 2, 1]]', "[[1.0, 2, 1]]", "[[1, 2, true]]", "[{ small = 1, big = 2, unit = 1 }]", "[[0, 2, 1]]",
         "[[1, 2, 0]]", "[[2, 1, 1]]", "[[-1, 2, 1]]", "[[1, 2, -1]]", "[[1, 1000000001, 1]]", "[[2, 5, 2]]",
         "[[3, 6, 2]]", "[[5, 10, 5], [6, 12, 6]]", "[[5, 10, 5], [7, 14, 7]]", "[[5, 10, 5], [5, 10, 1]]",
@@ -26,6 +30,7 @@ WRONG_VALUES = {
     "shares": (
         "1000", "[0]", "[1001]", "[-1]", "[500, 501]", "[500, 300, 201]", "[500, 0]", "[500, -1]", '["500"]', "[500.0]",
         "[[500]]", "[500, true]", f"[{', '.join(65 * ['1'])}]", "[9223372036854775807]"),
+    "limit": ("0", "10", "[4]", '"4"', *AMOUNTS),
 }
 
 # Statements that make a file no TOML.
@@ -60,7 +65,7 @@ class PlanMaker:
         self.keeps_order = False
         self.levels = self.some_levels()
         self.late = self.rng.randint(1, len(self.levels))
-        self.unit = self.levels[self.late - 1][2]
+        self.unit = self.levels[self.late - 1].unit
         self.statements = {item: self.statement(item, value) for item, value in self.values().items()}
 
     # -- a right plan --
@@ -70,23 +75,27 @@ class PlanMaker:
         unit = rng.choice([1, 2, 5, 25, 100])
         for _ in range(rng.choice([1, 1, 2, 3])):
             small = unit * rng.choice([1, 1, 2])
-            levels.append((small, small * rng.choice([1, 2, 2]), unit))
+            levels.append(Blinds(small, small * rng.choice([1, 2, 2]), unit, unit * rng.choice([0, 0, 1, 2, 3])))
             unit *= rng.choice([1, 2, 3, 4, 5, 6])
         return levels
 
     def values(self):
-        """A plan of few players with few chips, so that its tournament ends soon."""
+        """A plan of few players with few chips, so that its tournament ends soon; some have a cap, and some an empty
+        list in its place, which counts as missing."""
         rng = self.rng
         shares = sorted((rng.randint(1, 400) for _ in range(rng.randint(1, 5))), reverse=True)
         while sum(shares) > 1000:
             shares.pop()
+        cap = {"limit": self.number(rng.randint(1, 9))} if rng.random() < 0.4 else {}
+        if rng.random() < 0.1:
+            cap = {"limit": "[]"}
         return {
             "game": self.text(rng.choice(["holdem", "omaha", "hilo"])),
             "tables": self.number(rng.choice([1, 1, 1, 2, 3])), "seats": self.number(rng.choice([2, 2, 3])),
             "stack": self.number(self.unit * rng.choice([1, 2, 3, 5])),
             "buyin": self.number(rng.choice([0, 1, 20, 999])), "late": self.number(self.late),
-            "blinds": self.list_of(self.list_of(map(self.number, level)) for level in self.levels),
-            "shares": self.list_of(map(self.number, shares))}
+            "blinds": self.list_of(self.list_of(map(self.number, level.numbers())) for level in self.levels),
+            "shares": self.list_of(map(self.number, shares)), **cap}
 
     # -- how it is spelled --
 
@@ -131,7 +140,7 @@ class PlanMaker:
         self.statements[item] = text
 
     def miss(self, item):
-        del self.statements[item]
+        self.statements.pop(item, None)
 
     def value(self, item, text):
         self.give(item, self.statement(item, text))
@@ -173,22 +182,26 @@ class PlanMaker:
 
 
 def ways_of_item(item):
-    """All ways in which an item alone is made wrong, each as what is done to a maker."""
+    """All ways in which an item alone is made wrong, each as what is done to a maker. The cap alone may be missing."""
     kinds = KINDS + ("1",) if item == "game" else KINDS if item in ("blinds", "shares") else KINDS + ("[1]",)
     texts = dict.fromkeys((*kinds, *WRONG_VALUES[item]))
+    hows = [PlanMaker.dotted, PlanMaker.table, PlanMaker.tables]
+    if item == "limit":
+        del texts["[]"]
+    else:
+        hows += [PlanMaker.miss, PlanMaker.under]
     ways = [lambda maker, text=text: maker.value(item, text) for text in texts]
-    return ways + [lambda maker, how=how: how(maker, item) for how in
-                   (PlanMaker.miss, PlanMaker.dotted, PlanMaker.table, PlanMaker.tables, PlanMaker.under)]
+    return ways + [lambda maker, how=how: how(maker, item) for how in hows]
 
 
 def item_ways():
     """Each way to make the value of an item wrong or to leave it out, with the item."""
-    return [(item, way) for item in PLAN_ITEMS for way in ways_of_item(item)]
+    return [(item, way) for item in ALL_ITEMS for way in ways_of_item(item)]
 
 
 def statement_ways():
     """Each way to give a file a statement that makes it no TOML."""
-    ways = [lambda maker, item=item: maker.twice(item) for item in PLAN_ITEMS]
+    ways = [lambda maker, item=item: maker.twice(item) for item in ALL_ITEMS]
     return [("toml", way) for way in ways + [lambda maker, text=text: maker.no_toml(text) for text in NO_TOML]]
 
 

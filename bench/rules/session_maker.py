@@ -25,18 +25,19 @@ class SessionMaker(Maker):
         self.live = {}
 
     def plan_file(self):
-        """A plan file whose stacks are small, with the words of some players."""
+        """A plan file whose stacks are small, with the words of some players; some have antes, and some a cap."""
         rng = self.rng
         blinds = self.levels(rng.choice([1, 5, 25, 100]))
         late = rng.randint(1, len(blinds))
-        stack = blinds[late - 1][2] * rng.choice([1, 2, 3, 5, 8, 20, 20, 50, 100])
+        stack = blinds[late - 1].unit * rng.choice([1, 2, 3, 5, 8, 20, 20, 50, 100])
         words = "".join(f'{player} = "{player[0]}{rng.randrange(10)}"\n' for player in PLAYERS if not self.odds(15))
         self.floor_word = rng.choice(["f", "tower7", "x" * 32])
-        shares = ", ".join(self.shares().split()[1:])
+        levels, shares = [list(level.numbers()) for level in blinds], ", ".join(self.shares().split()[1:])
+        cap = "".join(line.replace(" ", " = ") + "\n" for line in self.caps())
         game, tables = rng.choice(["holdem", "holdem", "omaha", "hilo"]), rng.choice([1, 1, 2, 2, 3, 4])
         return (f'game = "{game}"\ntables = {tables}\nseats = {rng.choice([2, 2, 3, 4, 6, 9, 10])}\nstack = {stack}\n'
-                f"buyin = {rng.choice([0, 10, 100])}\nlate = {late}\nblinds = {[list(level) for level in blinds]}\n"
-                f'shares = [{shares}]\nfloor_word = "{self.floor_word}"\n[words]\n{words}').encode()
+                f"buyin = {rng.choice([0, 10, 100])}\nlate = {late}\nblinds = {levels}\n"
+                f'shares = [{shares}]\n{cap}floor_word = "{self.floor_word}"\n[words]\n{words}').encode()
 
     def crowd_file(self):
         """The plan file of as many seats as players may enter, whose blinds are all that they have."""
@@ -116,7 +117,8 @@ class SessionMaker(Maker):
             b"hello ", "hällo".encode(), "act 1 ch\u00e9ck".encode(), b"hello floor", b"hello floor f f", b"hello  ann a1",
             b"act 1", b"act 1 ", b"act 1 fold ", b"act  1 fold", b"act 01 fold", b"act 1 bet", b"act 1 bet 0400",
             b"act 1 raise -1", b"act 1 fold 1", b"watch", b"watch 1 1", b"watch 01", b"time", b"next 1", b"stop 1",
-            b"enter ann 1", b"enter floor 1 1", b"enter 1ann 1 1", b"break 1 1.1 ann", b"hands out", b"begin 1",
+            b"enter ann 1", b"enter floor 1 1", b"reenter ann 1", b"reenter floor 1 1", b"enter 1ann 1 1",
+            b"break 1 1.1 ann", b"hands out", b"begin 1",
             b"settle 1", b"act 1 ann fold", b"go", b"level 2", b"race 1 " + b"2c" * 52,
             bytes(rng.choices(NO_LINE_FEED, k=rng.randrange(40))),
             bytes(rng.choices(NO_LINE_FEED, k=rng.choice(LENGTHS))), b"x" * rng.choice(LENGTHS),
@@ -161,7 +163,8 @@ class SessionMaker(Maker):
         late = self.players_due() - here
         idle = 12 if book.hand_for_hand else 1
         return self.pick(
-            (40 if room else 4, self.enter), (6, lambda: "next"), (25 if late else 2, self.time),
+            (40 if room else 4, self.enter), (2 * self.how_often_back(), self.reenter), (6, lambda: "next"),
+            (25 if late else 2, self.time),
             (10 if self.is_uneven() else 2, self.balance), (3, lambda: f"break {self.any_number()}"),
             (3, lambda: "level"), (25 if racing else 1, lambda: f"race {self.one_of(racing)}"), (2, lambda: "hands on"), (idle, lambda: "hands off"), (idle, lambda: "round"), (0.4, lambda: "stop"),
         )().encode()
@@ -274,7 +277,8 @@ class SessionMaker(Maker):
         while self.hand_at(1) and not self.hand_at(1).is_over():
             self.say(desk, b"time 1")
         self.do("work", 1)
-        self.say(desk, *(f"enter ann 1 {seat}".encode() for seat in range(1, 11)), b"quit")
+        self.say(desk, *(f"{word} 1 {seat}".encode() for seat in range(1, 11) for word in ("enter ann", "reenter p64")))
+        self.say(desk, b"quit")
 
     def make(self):
         if self.is_crowd:

@@ -13,7 +13,7 @@ IDLE, END = object(), object()
 
 PLAYER_LINES = {"watch": [number]}
 FLOOR_LINES = {
-    "watch": [number], "enter": [name, number, number], "time": [number], "balance": [number, number],
+    "watch": [number], "enter": [name, number, number], "reenter": [name, number, number], "time": [number], "balance": [number, number],
     "break": [number], "level": [], "race": [number], "hands": [one_of("on", "off")], "round": [], "stop": [],
     "next": [],
 }

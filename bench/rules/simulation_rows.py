@@ -11,7 +11,7 @@ from rules.rows import EXAMPLES, same, seated
 from rules.simulate import Simulation
 from rules.step import replayed
 
-DRAWN_ORDERS = EXAMPLES.parent / "crates" / "break_draw" / "src" / "tests.rt"
+DRAWN_ORDERS = EXAMPLES.parent / "crates" / "rule_tests" / "src" / "breaks.rt"
 KINDS = {"Deck": 0, "Seats": 1, "Names": 2, "Act": 3}
 
 FILE = """game = "holdem"
@@ -40,17 +40,17 @@ def pcg_words(state, stream):
 
 def try_draws():
     """The words of a key of zero bytes, an order of the tests of `rand`, and the orders that `rand` itself gave, which
-    the tests of break_draw hold."""
+    the tests of draws hold."""
     words = words_from(bytes(32))
     same("words", [next(words) for _ in range(3)], [0xade0b876, 0x903df1a0, 0xe56a5d40])
     same("thirteen", shuffled(range(13), pcg_words(414, 11634580027462260723)),
          [5, 11, 0, 8, 7, 12, 6, 4, 9, 3, 1, 2, 10])
-    orders = re.findall(r"Seed::(\w+)\((\d+)\),\s*DrawKind::(\w+),\s*(\d+),\s*&\[([\d, ]+)\]",
+    orders = re.findall(r"Seed::(\w+)\((\d+)\),\s*DrawKind::(\w+),\s*(\d+),\s*&\[([\d,\s]+)\]",
                         DRAWN_ORDERS.read_text(encoding="utf-8"))
     same("how many orders", len(orders), 60)
     for seed, number, kind, k, order in orders:
         seed = bytes(32 * [int(number)]) if seed == "Equal" else seed_of(int(number))
-        order = [int(item) for item in order.split(",")]
+        order = [int(item) for item in re.findall(r"\d+", order)]
         same(f"{kind} {k}", shuffled(sorted(order), words_of(seed, KINDS[kind], int(k))), order)
     same("a deck", sorted(deck_of(seed_of(7), 5)), SORTED_DECK)
     same("16 bytes of the seed", deck_of(bytes(16) + 16 * b"x", 5), deck_of(bytes(32), 5))
@@ -86,12 +86,21 @@ def try_plan_files():
     names("stack", ("= 10000", "= [10000]"), ("= 10000", "= -25"), ("= 10000", "= 10010"), ("= 10000", "= 0"))
     names("buyin", ("= 200", "= 1000000001"), ("= 200", '= "200"'))
     names("late", ("late = 2", "late = 41"), ("late = 2", "late = 7"))
-    names("blinds", ("[[25, 50, 25]", "[[25, 50]"), ("[[25, 50, 25]", "[[25, 50, 25, 25]"), ("[[25, 50, 25]", "[25"),
+    names("blinds", ("[[25, 50, 25]", "[[25, 50]"), ("[[25, 50, 25]", "[[25, 50, 25, 0]"), ("[[25, 50, 25]", "[25"),
+          *(("[[25, 50, 25]", f"[[25, 50, 25, {wrong}]") for wrong in
+            ("-25", "7", "25.0", "25, 25", "[25]", "1000000025")),
           ("[[25, 50, 25]", "[[25, 50, 7]"), ("[[25, 50, 25]", "[[50, 50, 50]"), ("blinds = ", "blinds = [] #"),
           ("blinds = [", "blinds = [" + 35 * "[25, 50, 25],"), ("50, 100, 25", '50, "100", 25'))
     names("shares", *(("[500, 300, 200]", wrong) for wrong in (
         "[]", str(65 * [1]), "[500, 501]", "[500, -1]", "[500, 300, 201]", '["500"]', "500")))
+    same("an ante", outcome(lines_of_file, FILE.replace("100, 25]", "100, 25, 75]"))[6:8],
+         ["blinds 25 50 25", "blinds 50 100 25 75"])
+    same("a cap", outcome(lines_of_file, "limit = 4\n" + FILE), LINES + ["limit 4"])
+    same("an empty list is no cap", outcome(lines_of_file, "limit = []\n" + FILE), LINES)
     too_late = FILE.replace("late = 2", "late = 7")
+    for wrong in ("0", "10", "-1", '"4"', "4.0", "true", "[4]", "{}", "9223372036854775807"):
+        for file, item in ((FILE, "limit"), (too_late, "limit"), (FILE.replace(", 200]", ", 0]"), "shares")):
+            same(f"the cap {wrong}", outcome(lines_of_file, f"limit = {wrong}\n{file}"), item)
     same("the first wrong item", outcome(lines_of_file, too_late.replace("= 9", "= 1")), "seats")
     same("late and stack", outcome(lines_of_file, too_late.replace("10000", "10010", 1)), "late")
     same("shares before late", outcome(lines_of_file, too_late.replace(", 200]", ", 0]")), "shares")

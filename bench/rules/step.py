@@ -1,12 +1,12 @@
 """The step: an event is answered by the first check that holds, and carried out where none does."""
 from rules.checks import NAMES, refusal
 from rules.lines import event_of_line, lines_of
-from rules.plan import PLAN_ITEMS, wrong_item
+from rules.plan import ALL_ITEMS, wrong_item
 from rules.tournament import Tournament
 
 EFFECTS = {
-    "go": Tournament.go, "enter": Tournament.enter, "begin": Tournament.begin, "act": Tournament.act,
-    "time": Tournament.time, "settle": Tournament.settle, "balance": Tournament.balance,
+    "go": Tournament.go, "enter": Tournament.enter, "reenter": Tournament.reenter, "begin": Tournament.begin,
+    "act": Tournament.act, "time": Tournament.time, "settle": Tournament.settle, "balance": Tournament.balance,
     "break": Tournament.break_table, "level": Tournament.next_level, "race": Tournament.race,
     "hands": Tournament.hands, "round": Tournament.end_round, "stop": Tournament.stop,
 }
@@ -20,7 +20,7 @@ def apply(tournament, event):
     if number:
         item = f" {wrong_item(tournament, event)}" if number == 4 else ""
         return f"no {number} {NAMES[number]}{item}"
-    if event.word in PLAN_ITEMS:
+    if event.word in ALL_ITEMS:
         tournament.give(event.word, event.args)
     else:
         EFFECTS[event.word](tournament, *event.args)

@@ -23,6 +23,7 @@ class Tournament:
         self.blinds = []
         self.level = 0
         self.entries = []
+        self.reentries = 0
         self.seats = {}
         self.stacks = {}
         self.tables = {}
@@ -32,6 +33,7 @@ class Tournament:
         self.group = 0
         self.removed = self.added = 0
         self.hands_begun = self.showdowns = self.entries_after_a_bust = 0
+        self.antes = self.short_antes = self.missed_antes = 0
         self.stopped = False
 
     # -- what is read off the lists --
@@ -123,27 +125,46 @@ class Tournament:
 
     def go(self):
         self.level = 1
-        self.tables = {table: Table(unit=self.blinds[0][2]) for table in range(1, self.plan["tables"] + 1)}
+        self.tables = {table: Table(unit=self.blinds[0].unit) for table in range(1, self.plan["tables"] + 1)}
 
     def enter(self, player, table, seat):
         self.entries.append(player)
-        self.seats[table, seat] = player
-        self.stacks[player] = self.plan["stack"]
+        self.sit_down(player, table, seat)
         self.entries_after_a_bust += bool(self.busts)
 
+    def reenter(self, player, table, seat):
+        """A player who is out is so no more; the place in the entry list stays."""
+        self.busts = [bust for bust in self.busts if bust[0] != player]
+        self.reentries += 1
+        self.sit_down(player, table, seat)
+
+    def sit_down(self, player, table, seat):
+        """The plan's stack is sold to the player."""
+        self.seats[table, seat] = player
+        self.stacks[player] = self.plan["stack"]
+
     def begin(self, table, deck):
-        """The hand has the next marks, who sits there and does not wait, and the current level's blinds and unit."""
+        """The hand has the next marks, who sits there and does not wait, the current level's blinds, ante and unit, and
+        the cap of fixed limit."""
         at, players = self.tables[table], self.players_at(table)
         self.hands_begun += 1
         at.marks = next_marks(at.marks, self.plan["seats"], list(players))
         at.dealt = {seat: player for seat, player in players.items() if seat not in at.marks.waiting}
         stacks = {seat: self.stacks[player] for seat, player in at.dealt.items()}
         at.hand = Hand(self.plan["game"], self.plan["seats"], at.marks, self.blinds[self.level - 1], at.dealt, stacks,
-                       deck)
+                       deck, self.plan.get("limit", 0))
+        self.count_ante(at.hand.ante)
         for player in at.dealt.values():
             self.stacks[player] = 0
         if self.hand_for_hand:
             self.round.add(table)
+
+    def count_ante(self, posted):
+        """Whether the big blind posted the level's ante, less of it or none."""
+        ante = self.blinds[self.level - 1].ante
+        self.antes += posted == ante > 0
+        self.short_antes += 0 < posted < ante
+        self.missed_antes += posted == 0 < ante
 
     def act(self, table, player, act):
         hand = self.tables[table].hand
@@ -187,7 +208,7 @@ class Tournament:
     def next_level(self):
         """The next level is current at once; where its unit is greater, open tables race to it, others take it."""
         self.level += 1
-        unit = self.blinds[self.level - 1][2]
+        unit = self.blinds[self.level - 1].unit
         for number_, table in self.tables.items():
             if not self.is_open(number_):
                 table.unit, table.pending = unit, None
@@ -236,8 +257,12 @@ class Tournament:
     def in_play(self):
         return sum(sum(self.tables[table].hand.stacks.values()) for table in self.playing_tables())
 
+    def times_entered(self):
+        """The entries and the re-entries together."""
+        return len(self.entries) + self.reentries
+
     def sold(self):
-        return len(self.entries) * self.plan.get("stack", 0)
+        return self.times_entered() * self.plan.get("stack", 0)
 
     def rest(self):
         return sum(self.stacks[player] for player in self.seats.values())

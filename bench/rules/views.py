@@ -101,6 +101,8 @@ class View:
         for seat in (hand.marks.small, hand.marks.big):
             if seat in hand.stacks:
                 self.table(table, f"post {hand.names[seat]} {hand.put_in_hand(seat)}")
+        if hand.ante:
+            self.table(table, f"ante {hand.names[hand.marks.big]} {hand.ante}")
         for seat, cards in hand.hole_cards().items():
             self.table(table, f"hole {text_of(cards)}", own=hand.names[seat])
         self.follow(table, hand, 0)
